@@ -1,61 +1,43 @@
 //! The program over its words and streams.
 
-use crate::listening::{Listener, announce, clear_paths, listen_all};
-use crate::starting::{Loops, Start};
+use crate::alarms::Alarms;
+use crate::house::House;
+use crate::http::listen_for_metrics;
+use crate::listening::{announce, clear_paths, listen_all};
+use crate::starting::Told;
 use crate::stopping::read_orders;
 use crate::words::{Asked, take_words};
-use audit_model::{Config, Instant};
-use cache_loop::Rules;
 use cache_run::{Watched, send};
-use cache_shared::{Seat, Seating, SharedService};
-use cache_spaces::Service;
-use cached_config::{ConfigReport, Hosted, HostedNamespace, Hosting, check_hosted, read_hosted};
-use cached_server::{Fault, Lines, Machine, Outlet, Scribe, Shown, Site};
+use cached_config::{
+    ConfigReport, Hosted, HostedNamespace, Hosting, check_hosted, read_hosted,
+};
+use cached_server::{Fault, Lines, Machine, Outlet, Scribe, Shown};
 use crossbeam_channel::{Receiver, Sender, unbounded};
-use mio::Waker;
-use rand_core::SeedableRng;
-use rand_xoshiro::Xoshiro256PlusPlus;
 use std::alloc::Global;
 use std::convert::AsStr;
 use std::io::{ErrorKind, Input, Write};
-use std::marker::Brand;
+use std::net::TcpListener;
 use std::rt::Files;
 use std::sync::Arc;
-use std::sync::ledger::Blank;
 use std::thread::JoinHandle;
-use std::{fs, io, thread, time};
-
-/// As many loops may share a namespace.
-const SEATS: u64 = 1 << 32;
-
-/// After it was told to stop, the server waits so many seconds for replies to be taken.
-const PATIENCE: u64 = 10;
-
-/// A loop that accepts alone accepts so many connections in one wake-up.
-const ACCEPTS: usize = 64;
+use std::{fs, thread, time};
 
 const USAGE: &[u8] = b"usage: bivrangd --config FILE | --check FILE | --version | --help\n";
 
 const VERSION: &[u8] = b"bivrangd 0.1.0\n";
 
-/// What the program is told by its threads.
-#[derive(Clone, Copy, Debug, PartialEq, Eq, Drop)]
-pub enum Told {
-    /// To stop.
-    Stop,
-    /// A loop has ended, and whether it could not go on.
-    Ended(bool),
-}
+/// What the program is told by its threads, and how they tell it.
+pub type Orders = (Sender<Told, Global>, Receiver<Told, Global>);
 
 /// The text of a fault.
-fn text_of(fault: Fault) -> &'static [u8] {
+fn text_of(fault: Fault) -> &'static str {
     match fault {
-        Fault::Read => b"bivrangd: read failed\n",
-        Fault::Write => b"bivrangd: write failed\n",
-        Fault::OutOfMemory => b"bivrangd: out of memory\n",
-        Fault::UsedUp => b"bivrangd: used up\n",
-        Fault::BadConfiguration => b"bivrangd: bad configuration\n",
-        Fault::CannotListen => b"bivrangd: cannot listen\n",
+        Fault::Read => "read failed",
+        Fault::Write => "write failed",
+        Fault::OutOfMemory => "out of memory",
+        Fault::UsedUp => "used up",
+        Fault::BadConfiguration => "bad configuration",
+        Fault::CannotListen => "cannot listen",
     }
 }
 
@@ -72,62 +54,75 @@ pub fn bivrangd<S: AsStr, O: Write, E: Write, W: Shown, V: Shown, R>(
 where
     R: Machine + Input + Files + AllocGlobal,
 {
-    let done = match take_words(alloc, words) {
-        Ok(Asked::Config(path)) => serve_file(rt, alloc, path, shown),
-        Ok(Asked::Check(path)) => return check_file(&rt, alloc, path, writer),
-        Ok(Asked::Version) => send(VERSION, writer).map_err(|_| Fault::Write),
-        Ok(Asked::Help) => send(USAGE, writer).map_err(|_| Fault::Write),
-        Err(ErrorKind::OutOfMemory) => Err(Fault::OutOfMemory),
+    match take_words(alloc, words) {
+        Ok(asked) => {
+            let mut alarms = Alarms::new(rt, alloc, errors);
+            let done = obey(rt, alloc, asked, writer, &mut alarms, shown);
+            status_of(done, &mut alarms)
+        }
+        Err(ErrorKind::OutOfMemory) => {
+            status_of(Err(Fault::OutOfMemory), &mut Alarms::new(rt, alloc, errors))
+        }
         Err(_) => {
             let _ = send(USAGE, errors);
-            return 2;
+            2
         }
-    };
+    }
+}
+
+/// Says what went wrong, and returns the status.
+fn status_of<E: Write, R: Machine>(
+    done: Result<(), Fault>,
+    alarms: &mut Alarms<'_, R, E>,
+) -> u8 {
     match done {
         Ok(()) => 0,
         Err(fault) => {
-            let _ = send(text_of(fault), errors);
+            alarms.say(text_of(fault));
             1
         }
     }
 }
 
-/// Says what is wrong with a configuration file. Returns the status: 0 if it is good.
+/// Does what the words ask for.
+fn obey<O: Write, E: Write, W: Shown, V: Shown, R: Machine + Input + Files + AllocGlobal>(
+    rt: R,
+    alloc: Global,
+    asked: Asked<'_>,
+    writer: &mut Watched<O>,
+    alarms: &mut Alarms<'_, R, E>,
+    shown: (W, V),
+) -> Result<(), Fault> {
+    match asked {
+        Asked::Config(path) => serve_file(rt, alloc, path, shown, alarms),
+        Asked::Check(path) => check_file(&rt, alloc, path, writer),
+        Asked::Version => send(VERSION, writer).map_err(|_| Fault::Write),
+        Asked::Help => send(USAGE, writer).map_err(|_| Fault::Write),
+    }
+}
+
+/// Writes the faults of a configuration file, a line each, and its warnings. It is an error if there are faults.
 fn check_file<O: Write, R: Files + AllocGlobal>(
     rt: &R,
     alloc: Global,
     path: &str,
     writer: &mut Watched<O>,
-) -> u8 {
-    match tell_faults(rt, alloc, path, writer) {
-        Ok(true) => 0,
-        _ => 1,
-    }
-}
-
-/// Writes the faults of a configuration file, a line each. Returns whether there are none.
-fn tell_faults<O: Write, R: Files + AllocGlobal>(
-    rt: &R,
-    alloc: Global,
-    path: &str,
-    writer: &mut Watched<O>,
-) -> Result<bool, Fault> {
+) -> Result<(), Fault> {
     let text = read_text(rt, path)?;
     let ConfigReport { faults, warnings } = check_hosted(alloc, text.as_str())?;
     for fault in &faults {
         let line = format!(in alloc; "{path}:{}: {}\n", fault.line, fault.what)?;
         send(line.as_bytes(), writer).map_err(|_| Fault::Write)?;
     }
-    if !faults.is_empty() {
-        return Ok(false);
-    }
     for warning in &warnings {
         let line = format!(in alloc; "{path}:{}: warning: {}\n", warning.line, warning.what)?;
         send(line.as_bytes(), writer).map_err(|_| Fault::Write)?;
     }
-    let line = format!(in alloc; "{path}: ok\n")?;
-    send(line.as_bytes(), writer).map_err(|_| Fault::Write)?;
-    Ok(true)
+    if faults.is_empty() {
+        Ok(())
+    } else {
+        Err(Fault::BadConfiguration)
+    }
 }
 
 /// The text of a file. One that cannot be read, or is not text, is a bad configuration.
@@ -139,11 +134,12 @@ fn read_text<R: Files + AllocGlobal>(rt: &R, path: &str) -> Result<String, Fault
 }
 
 /// Serves what the configuration file at a path says, until a line on standard input says `stop`.
-fn serve_file<W: Shown, V: Shown, R: Machine + Input + Files + AllocGlobal>(
+fn serve_file<E: Write, W: Shown, V: Shown, R: Machine + Input + Files + AllocGlobal>(
     rt: R,
     alloc: Global,
     path: &str,
     shown: (W, V),
+    alarms: &mut Alarms<'_, R, E>,
 ) -> Result<(), Fault> {
     let text = read_text(&rt, path)?;
     let (orders, told) = unbounded(alloc)?;
@@ -151,158 +147,101 @@ fn serve_file<W: Shown, V: Shown, R: Machine + Input + Files + AllocGlobal>(
     let reader = thread::spawn(&rt, move || read_orders(&rt, alloc, &reading));
     // It may wait for a line when the program ends.
     let _reader = reader.map_err(|_| Fault::OutOfMemory)?;
-    serve_text(rt, alloc, text.as_str(), shown, (orders, told), None)
+    serve_text(rt, alloc, text.as_str(), shown, alarms, (orders, told))
 }
 
-/// Serves what the text of a configuration file says, until it is told to stop, or each loop has served as many connections as the limit
-/// says.
-pub fn serve_text<W: Shown, V: Shown, R: Machine + Files>(
+/// Serves what the text of a configuration file says, until it is told to stop.
+pub fn serve_text<E: Write, W: Shown, V: Shown, R: Machine + Files>(
     rt: R,
     alloc: Global,
     text: &str,
     shown: (W, V),
-    orders: (Sender<Told, Global>, Receiver<Told, Global>),
-    limit: Option<u64>,
+    alarms: &mut Alarms<'_, R, E>,
+    orders: Orders,
 ) -> Result<(), Fault> {
-    let begun = time::Instant::now(&rt).map_err(|_| Fault::CannotListen)?;
-    let Hosted { spaces, hostings } = read_hosted(alloc, text)?;
-    let listeners = listen_all(&rt, alloc, &spaces, &hostings)?;
-    let (shown, alarms) = shown;
-    let mut lines = Lines::new(alloc, shown)?;
-    for (space, hosting) in spaces.iter().zip(&hostings) {
-        let line = announce(alloc, space, hosting)?;
-        lines.send(line.as_slice()).map_err(|_| Fault::Write)?;
-    }
-    let scribe = Scribe::new(alloc, lines, alarms)?;
-    let outlet = Outlet::new(alloc)?;
+    let Hosted {
+        spaces,
+        hostings,
+        metrics,
+    } = read_hosted(alloc, text)?;
+    let listeners = listen_all(&rt, alloc, &spaces, &hostings, alarms)?;
+    let metrics = listen_for(&rt, metrics, alarms)?;
+    let (shown, troubles) = shown;
+    let lines = announce_all(alloc, &spaces, &hostings, shown)?;
+    let scribe = Scribe::new(alloc, lines, troubles)?;
     let (sender, told) = orders;
-    let house = House {
-        rt,
-        alloc,
-        begun,
-        outlet: Arc::try_clone(&outlet)?,
-        ending: sender,
-        limit,
-    };
-    let writing = Arc::try_clone(&outlet)?;
-    let writer = thread::spawn(&rt, move || scribe.write_all(&rt, &writing));
-    let writer = writer.map_err(|_| Fault::OutOfMemory)?;
-    let served = house.serve::<Brand>(spaces, &hostings, listeners, &told);
+    let house = House::new(rt, alloc, sender)?;
+    let writer = Writing::start(rt, alloc, scribe, &house.outlet)?;
+    let served = house.serve(spaces, &hostings, listeners, metrics, &told, alarms);
     clear_paths(&rt, &hostings);
-    outlet.end(&rt);
-    if served.is_ok() {
-        writer.join(&rt);
-    }
+    house.outlet.end(&rt);
+    writer.end(&rt);
     served
 }
 
-/// What all namespaces are served with.
-#[derive(Drop)]
-struct House<R> {
-    rt: R,
+/// A listener for the metrics, if there is a port for them. What is wrong is said.
+fn listen_for<E: Write, R: Machine>(
+    rt: &R,
+    port: Option<u16>,
+    alarms: &mut Alarms<'_, R, E>,
+) -> Result<Option<(u16, TcpListener)>, Fault> {
+    let Some(port) = port else {
+        return Ok(None);
+    };
+    match listen_for_metrics(rt, port) {
+        Ok(listener) => Ok(Some((port, listener))),
+        Err(error) => {
+            alarms.say(format_args!("metrics {port}: cannot listen: {error}"));
+            Err(Fault::CannotListen)
+        }
+    }
+}
+
+/// Writes where the namespaces are served, and returns the writer.
+fn announce_all<W: Shown>(
     alloc: Global,
-    begun: time::Instant,
-    outlet: Arc<Outlet>,
-    ending: Sender<Told, Global>,
-    limit: Option<u64>,
+    spaces: &[HostedNamespace],
+    hostings: &[Hosting],
+    shown: W,
+) -> Result<Lines<W>, Fault> {
+    let mut lines = Lines::new(alloc, shown)?;
+    for (space, hosting) in spaces.iter().zip(hostings) {
+        let line = announce(alloc, space, hosting)?;
+        lines.send(line.as_slice()).map_err(|_| Fault::Write)?;
+    }
+    Ok(lines)
 }
 
-/// The service of a namespace, made at moment 0, with a generator of its own that no stranger can foresee.
-fn make_service<R: Machine>(rt: &R, alloc: Global, config: Config) -> Result<Service, Fault> {
-    let mut seed = [0; 32];
-    rt.fill_bytes(&mut seed).map_err(|_| Fault::CannotListen)?;
-    let generator = Xoshiro256PlusPlus::from_seed(seed);
-    match Service::new(alloc, &[config], generator, Instant { nanos: 0 }) {
-        Ok(service) => Ok(service),
-        Err(_) => Err(Fault::OutOfMemory),
-    }
+/// The thread that writes notices.
+#[derive(Drop)]
+struct Writing {
+    thread: JoinHandle<()>,
+    ended: Receiver<(), Global>,
 }
 
-impl<R: Machine> House<R> {
-    /// Serves all namespaces, until all loops have ended.
-    fn serve<L: Seating + Send + Sync + 'static>(
-        &self,
-        spaces: Vec<HostedNamespace>,
-        hostings: &[Hosting],
-        listeners: Vec<Listener>,
-        told: &Receiver<Told, Global>,
-    ) -> Result<(), Fault> {
-        let mut all = Loops {
-            threads: Vec::new(self.alloc),
-            stoppers: Vec::new(self.alloc),
+impl Writing {
+    /// Starts to write what an outlet takes in.
+    fn start<W: Shown, V: Shown, R: Machine>(
+        rt: R,
+        alloc: Global,
+        scribe: Scribe<W, V>,
+        outlet: &Arc<Outlet>,
+    ) -> Result<Writing, Fault> {
+        let outlet = Arc::try_clone(outlet)?;
+        let (ending, ended) = unbounded(alloc)?;
+        let writing = move || {
+            scribe.write_all(&rt, &outlet);
+            let _ = ending.send(&rt, ());
         };
-        let hosted = spaces.into_iter().zip(hostings);
-        for ((space, hosting), listener) in hosted.zip(listeners) {
-            let loops = self.start::<L>(space, &hosting, &listener)?;
-            all.add(loops)?;
-        }
-        self.wait(told, &all.stoppers)?;
-        for thread in all.threads {
-            let _seat = thread.join(&self.rt);
-        }
-        Ok(())
+        let thread = thread::spawn(&rt, writing).map_err(|_| Fault::OutOfMemory)?;
+        Ok(Writing { thread, ended })
     }
 
-    /// Starts the loops of a namespace.
-    fn start<L: Seating + Send + Sync + 'static>(
-        &self,
-        space: HostedNamespace,
-        hosting: &Hosting,
-        listener: &Listener,
-    ) -> Result<Loops<L>, Fault> {
-        let service = make_service(&self.rt, self.alloc, space.config)?;
-        let blank = Blank::new(SEATS);
-        let Ok(shared) = SharedService::<L, Service>::new(self.alloc, service, blank, SEATS) else {
-            return Err(Fault::OutOfMemory);
-        };
-        let space = Arc::new(self.alloc, space).map_err(|_| Fault::OutOfMemory)?;
-        let start = Start {
-            rt: self.rt,
-            alloc: self.alloc,
-            shared,
-            site: Site {
-                rt: self.rt,
-                start: self.begun,
-                space,
-                outlet: Arc::try_clone(&self.outlet)?,
-            },
-            ending: Sender::clone(&self.ending)?,
-        };
-        let rules = Rules {
-            accepts: if hosting.loops == 1 { ACCEPTS } else { 1 },
-            connections: hosting.connections,
-            idle: hosting.idle,
-            limit: self.limit,
-        };
-        start.start(listener, hosting.loops as usize, rules)
-    }
-
-    /// Waits until all loops have ended. When it is told to stop, it tells them; when it is told again, or after some seconds, they end at
-    /// once.
-    fn wait(&self, told: &Receiver<Told, Global>, stoppers: &[Waker]) -> Result<(), Fault> {
-        let mut running: usize = stoppers.len();
-        let mut is_stopping = false;
-        for _told in self.rt.forever() {
-            if running == 0 {
-                return Ok(());
-            }
-            let said = if is_stopping {
-                told.recv_timeout(&self.rt, time::Duration::from_secs(PATIENCE))
-                    .unwrap_or(Told::Stop)
-            } else {
-                told.recv(&self.rt).unwrap_or(Told::Stop)
-            };
-            match said {
-                Told::Ended(true) => return Err(Fault::CannotListen),
-                Told::Ended(false) => running = running.saturating_sub(1),
-                Told::Stop => {
-                    is_stopping = true;
-                    for stopper in stoppers {
-                        let _ = stopper.wake();
-                    }
-                }
-            }
+    /// Waits until all is written, a second at most: nobody may read it.
+    fn end<R: Machine>(self, rt: &R) {
+        let patience = time::Duration::from_secs(1);
+        if self.ended.recv_timeout(rt, patience).is_ok() {
+            self.thread.join(rt);
         }
-        unreachable!()
     }
 }

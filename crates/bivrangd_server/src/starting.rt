@@ -1,43 +1,44 @@
 //! The threads of a namespace.
+ghost use Rattle.std.specs.Prelude.{◌≡◌, false};
 
-use crate::daemon::Told;
+use crate::heralds::Herald;
 use crate::listening::Listener;
+use crate::sources::Source;
 use cache_link::Tools;
-use cache_loop::{Counting, Crew, LOADED, Rules, STOP, serve_all};
+use cache_loop::{Counting, Crew, Doorway, LOADED, Rules, STOP, serve_all};
 use cache_serve::{Devices, Sitting};
 use cache_shared::{Seat, Seating, SharedService};
 use cache_spaces::Service;
+use cached_config::Notices;
 use cached_server::{Fault, ListLoader, Machine, Site, StartClock};
 use crossbeam_channel::Sender;
 use mio::{Poll, Waker};
 use std::alloc::Global;
+use std::io;
 use std::sync::Arc;
-use std::sync::atomic::AtomicU64;
 use std::thread;
 use std::thread::JoinHandle;
 
 /// The namespace: it is the only one of its service.
 const NAMESPACE: u64 = 0;
 
-/// The threads of a namespace, and the wakers by which they are stopped.
-#[derive(Drop)]
-pub struct Loops<L: Seating> {
-    pub threads: Vec<JoinHandle<Seat<L>>>,
-    pub stoppers: Vec<Waker>,
+/// What the program is told by its threads.
+#[derive(Clone, Copy, Debug, PartialEq, Eq, Drop)]
+pub enum Told {
+    /// To stop.
+    Stop,
+    /// A loop has ended.
+    Ended,
+    /// A loop of the namespace with this number cannot go on.
+    Failed(usize),
 }
 
-impl<L: Seating> Loops<L> {
-    /// Adds the threads of another namespace.
-    pub fn add(&mut self, others: Loops<L>) -> Result<(), Fault> {
-        let Loops { threads, stoppers } = others;
-        for thread in threads {
-            self.threads.push(thread).map_err(|_| Fault::OutOfMemory)?;
-        }
-        for stopper in stoppers {
-            self.stoppers.push(stopper).map_err(|_| Fault::OutOfMemory)?;
-        }
-        Ok(())
-    }
+/// The threads of all namespaces, the wakers by which they are stopped, and where their numbers are.
+#[derive(Drop)]
+pub struct Loops {
+    pub threads: Vec<JoinHandle<()>>,
+    pub stoppers: Vec<Waker>,
+    pub sources: Vec<Source>,
 }
 
 /// What the loops of a namespace are started with.
@@ -47,6 +48,8 @@ pub struct Start<L: Seating, R: Machine> {
     pub alloc: Global,
     pub shared: SharedService<L, Service>,
     pub site: Site<R>,
+    pub notices: Notices,
+    pub rules: Rules,
     pub ending: Sender<Told, Global>,
 }
 
@@ -55,50 +58,51 @@ fn make_polls<R: Machine>(
     rt: &R,
     alloc: Global,
     loops: usize,
-) -> Result<(Vec<Poll>, Vec<Arc<Waker>>), Fault> {
+) -> io::Result<(Vec<Poll>, Vec<Waker>)> {
     let mut polls = Vec::with_capacity(alloc, loops)?;
     let mut wakers = Vec::with_capacity(alloc, loops)?;
     for _loop in 0..loops {
-        let poll = Poll::new(rt).map_err(|_| Fault::CannotListen)?;
-        let waker = Waker::new(poll.registry(), LOADED).map_err(|_| Fault::CannotListen)?;
-        let waker = Arc::new(alloc, waker).map_err(|_| Fault::OutOfMemory)?;
-        polls.push(poll).map_err(|_| Fault::OutOfMemory)?;
-        wakers.push(waker).map_err(|_| Fault::OutOfMemory)?;
+        let poll = Poll::new(rt)?;
+        wakers.push(Waker::new(poll.registry(), LOADED)?)?;
+        polls.push(poll)?;
     }
     Ok((polls, wakers))
 }
 
 impl<L: Seating + Send + Sync + 'static, R: Machine> Start<L, R> {
-    /// Starts some loops over a namespace, each with a seat.
+    /// Starts some loops over a namespace, each with a seat. They and their numbers are added to the others.
     pub fn start(
         &self,
         listener: &Listener,
         loops: usize,
-        rules: Rules,
-    ) -> Result<Loops<L>, Fault> {
-        let (polls, wakers) = make_polls(&self.rt, self.alloc, loops)?;
-        let open = Arc::new(self.alloc, AtomicU64::new(0)).map_err(|_| Fault::OutOfMemory)?;
-        let crew = Crew {
-            alloc: self.alloc,
-            namespace: NAMESPACE,
-            rules,
-            open,
-            wakers,
-        };
-        let crew = Arc::new(self.alloc, crew).map_err(|_| Fault::OutOfMemory)?;
-        let mut started = Loops {
-            threads: Vec::with_capacity(self.alloc, loops)?,
-            stoppers: Vec::with_capacity(self.alloc, loops)?,
-        };
+        source: Source,
+        all: &mut Loops,
+    ) -> Result<(), Fault> {
+        let made = make_polls(&self.rt, self.alloc, loops);
+        let (polls, wakers) = made.map_err(|_| Fault::CannotListen)?;
+        let wakers = Arc::new(self.alloc, wakers).map_err(|_| Fault::OutOfMemory)?;
+        let mut source = source;
+        let number = all.sources.len();
         for poll in polls {
             let stopper = Waker::new(poll.registry(), STOP).map_err(|_| Fault::CannotListen)?;
-            let thread = self.start_one(listener, poll, Arc::try_clone(&crew)?)?;
-            let kept = started.stoppers.push(stopper);
-            kept.map_err(|_| Fault::OutOfMemory)?;
-            let kept = started.threads.push(thread);
-            kept.map_err(|_| Fault::OutOfMemory)?;
+            let crew = self.crew(&mut source, &wakers)?;
+            let thread = self.start_one(listener, poll, crew, &source, number)?;
+            all.stoppers.push(stopper).map_err(|_| Fault::OutOfMemory)?;
+            all.threads.push(thread).map_err(|_| Fault::OutOfMemory)?;
         }
-        Ok(started)
+        all.sources.push(source).map_err(|_| Fault::OutOfMemory)
+    }
+
+    /// What a loop shares with the others.
+    fn crew(&self, source: &mut Source, wakers: &Arc<Vec<Waker>>) -> Result<Crew, Fault> {
+        Ok(Crew {
+            alloc: self.alloc,
+            namespace: NAMESPACE,
+            rules: self.rules,
+            open: Arc::try_clone(&source.open)?,
+            wakers: Arc::try_clone(wakers)?,
+            counts: source.add_loop(self.alloc)?,
+        })
     }
 
     /// Starts a loop.
@@ -106,54 +110,55 @@ impl<L: Seating + Send + Sync + 'static, R: Machine> Start<L, R> {
         &self,
         listener: &Listener,
         poll: Poll,
-        crew: Arc<Crew>,
-    ) -> Result<JoinHandle<Seat<L>>, Fault> {
+        crew: Crew,
+        source: &Source,
+        number: usize,
+    ) -> Result<JoinHandle<()>, Fault> {
         let (rt, alloc) = (self.rt, self.alloc);
-        let Some(devices) = self.site.make(alloc) else {
+        let Some((clock, loader, site)) = self.site.make(alloc) else {
             return Err(Fault::OutOfMemory);
+        };
+        let herald = Herald {
+            site,
+            alloc,
+            notices: self.notices,
+            departures: Arc::try_clone(&source.departures)?,
         };
         let seat = self.shared.seat(&rt).map_err(|_| Fault::UsedUp)?;
         let shared = SharedService::clone(&self.shared)?;
-        let doorway = listener.doorway()?;
+        let doorway = listener.doorway().map_err(|_| Fault::CannotListen)?;
         let ending = Sender::clone(&self.ending)?;
         let looping = move || {
-            let mut seat = seat;
-            let failed = serve_seat(
-                &rt,
-                alloc,
-                &shared,
-                &mut seat,
-                devices,
-                poll,
-                (doorway, &crew),
-            );
-            let _ = ending.send(&rt, Told::Ended(failed));
-            seat
+            let devices = (clock, loader, herald);
+            let served = serve_seat(&rt, &shared, seat, devices, poll, doorway, &crew);
+            let told = if served.is_ok() {
+                Told::Ended
+            } else {
+                Told::Failed(number)
+            };
+            let _ = ending.send(&rt, told);
         };
         thread::spawn(&rt, looping).map_err(|_| Fault::OutOfMemory)
     }
 }
 
-/// Serves connections with a seat, until the loop ends. Returns whether it could not go on.
+/// Serves connections with a seat, until the loop ends.
 fn serve_seat<L: Seating, R: Machine>(
     rt: &R,
-    alloc: Global,
     shared: &SharedService<L, Service>,
-    seat: &mut Seat<L>,
-    devices: (StartClock<R>, ListLoader, Site<R>),
+    seat: Seat<L>,
+    devices: (StartClock<R>, ListLoader, Herald<R>),
     poll: Poll,
-    place: (cache_loop::Doorway, &Crew),
-) -> bool {
-    let (clock, loader, mut teller) = devices;
-    let (doorway, crew) = place;
-    let mut poll = poll;
+    doorway: Doorway,
+    crew: &Crew,
+) -> io::Result<()> {
+    let (clock, loader, mut herald) = devices;
+    let (mut poll, mut seat) = (poll, seat);
     let counted = Counting {
         inner: loader,
         asked: 0,
     };
-    let mut tools = Tools::new(alloc, clock, counted);
-    let Ok(mut sitting) = Sitting::new(rt, alloc, shared, &mut teller, false) else {
-        return true;
-    };
-    serve_all(rt, &mut sitting, seat, &mut tools, &mut poll, doorway, crew).is_err()
+    let mut tools = Tools::new(crew.alloc, clock, counted);
+    let mut sitting = Sitting::new(rt, crew.alloc, shared, &mut herald, false)?;
+    serve_all(rt, &mut sitting, &mut seat, &mut tools, &mut poll, doorway, crew)
 }

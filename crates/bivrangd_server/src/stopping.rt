@@ -1,6 +1,6 @@
 //! Stopping by a line on standard input.
 
-use crate::daemon::Told;
+use crate::starting::Told;
 use crossbeam_channel::Sender;
 use std::alloc::Global;
 use std::io::Input;

@@ -4,7 +4,8 @@ use mio::event::Source;
 use mio::net::{TcpListener, TcpStream, UnixListener, UnixStream};
 use mio::{Interest, Registry, Token};
 use std::io;
-use std::io::Write;
+use std::io::{Read, Write};
+use std::net::Shutdown;
 
 /// Where connections come in.
 #[derive(Drop)]
@@ -59,12 +60,22 @@ impl Stream {
         }
     }
 
-    /// Writes a text, as much as is taken at once.
-    pub fn tell(&mut self, text: &[u8]) {
-        let _ = match self {
-            Stream::Tcp(stream) => stream.write(text),
-            Stream::Unix(stream) => stream.write(text),
-        };
+    /// Writes a text, as much as is taken at once, and says that nothing more will come. What has come in is read, so that closing the socket
+    /// does not take the text back.
+    pub fn turn_away(&mut self, text: &[u8]) {
+        let mut buffer = [0u8; 512];
+        match self {
+            Stream::Tcp(stream) => {
+                let _ = stream.write(text);
+                let _ = stream.shutdown(Shutdown::Write);
+                let _ = stream.read(&mut buffer);
+            }
+            Stream::Unix(stream) => {
+                let _ = stream.write(text);
+                let _ = stream.shutdown(Shutdown::Write);
+                let _ = stream.read(&mut buffer);
+            }
+        }
     }
 
     /// Has a registry report in addition when there is room to write, also if there is some by now.

@@ -3,6 +3,7 @@ ghost use Rattle.std.specs.Prelude.{◌≡◌, false};
 ghost use Rattle.audit_model.specs.declared.input.Conn.{Conn};
 
 use crate::counting::Counting;
+use crate::counts::{Counts, Stopwatch};
 use crate::doorway::{Doorway, Stream};
 use crate::looping::{Crew, LISTENER, LOADED, STOP};
 use crate::served::Served;
@@ -13,9 +14,9 @@ use mio::{Events, Registry, Token};
 use slab::Slab;
 use std::alloc::Global;
 use std::io::ErrorKind;
-use std::mem;
 use std::sync::atomic::Ordering;
 use std::time::Duration;
+use std::{mem, time};
 
 /// After an accept that failed for lack of something, the next one comes after so many milliseconds.
 const PAUSE: u64 = 10;
@@ -46,17 +47,25 @@ pub struct Hall {
     // where connections come in; none if nobody is accepted any more
     doorway: Option<Doorway>,
     door: Door,
-    // so many connections are still to be accepted
-    left: u64,
     // whether loads were settled for which some may wait
     is_loaded: bool,
     // how often it was asked to stop
     stops: u64,
+    watch: Stopwatch,
+    counts: Counts,
+}
+
+/// What a wake-up of a loop works with.
+#[derive(Drop)]
+pub struct Round<'a, R> {
+    pub rt: &'a R,
+    pub registry: &'a Registry,
+    pub crew: &'a Crew,
 }
 
 impl Hall {
-    /// Nobody is connected. `left` connections are to be accepted.
-    pub fn new(alloc: Global, doorway: Doorway, left: u64) -> Hall {
+    /// Nobody is connected.
+    pub fn new(alloc: Global, doorway: Doorway) -> Hall {
         Hall {
             served: Slab::new(alloc),
             queue: Vec::new(alloc),
@@ -64,10 +73,16 @@ impl Hall {
             spare: Vec::new(alloc),
             doorway: Some(doorway),
             door: Door::Idle,
-            left,
             is_loaded: false,
             stops: 0,
+            watch: Stopwatch::new(),
+            counts: Counts::new(),
         }
+    }
+
+    /// What was counted.
+    pub fn counts(&self) -> Counts {
+        self.counts
     }
 
     /// How long to wait for events; without end if there is nothing else to do.
@@ -149,19 +164,18 @@ impl Hall {
     }
 
     /// Accepts connections, until nobody waits or many were accepted.
-    pub fn accept_all<H: Host>(
+    pub fn accept_all<H: Host, R>(
         &mut self,
-        registry: &Registry,
         host: &mut H,
         place: &mut H::Place,
-        crew: &Crew,
+        round: &Round<'_, R>,
     ) {
-        for _accept in 0..crew.rules.accepts {
+        for _accept in 0..round.crew.rules.accepts {
             if self.door == Door::Idle {
                 return;
             }
             if let Some(stream) = self.accept() {
-                let _ = self.admit(registry, host, place, crew, stream);
+                let _ = self.admit(host, place, round, stream);
             }
         }
     }
@@ -175,44 +189,50 @@ impl Hall {
         match doorway.accept() {
             Ok(stream) => {
                 self.door = Door::Open;
-                self.left = self.left.saturating_sub(1);
-                if self.left == 0 {
-                    self.doorway = None;
-                }
+                self.counts.accepted = self.counts.accepted.saturating_add(1);
                 Some(stream)
             }
             Err(error) => {
-                self.door = match error.kind() {
-                    ErrorKind::WouldBlock => Door::Idle,
-                    ErrorKind::ConnectionAborted
-                    | ErrorKind::ConnectionReset
-                    | ErrorKind::HostUnreachable
-                    | ErrorKind::NetworkDown
-                    | ErrorKind::NetworkUnreachable
-                    | ErrorKind::Interrupted => Door::Open,
-                    _ => Door::Starved,
-                };
+                self.note_failure(error.kind());
                 None
             }
         }
     }
 
+    /// Notes that accepting failed.
+    fn note_failure(&mut self, kind: ErrorKind) {
+        self.door = match kind {
+            ErrorKind::WouldBlock => Door::Idle,
+            ErrorKind::ConnectionAborted
+            | ErrorKind::ConnectionReset
+            | ErrorKind::HostUnreachable
+            | ErrorKind::NetworkDown
+            | ErrorKind::NetworkUnreachable
+            | ErrorKind::Interrupted => Door::Open,
+            _ => Door::Starved,
+        };
+        if self.door == Door::Starved {
+            self.counts.starved = self.counts.starved.saturating_add(1);
+        }
+    }
+
     /// Begins to serve a connection. `None`, and it is closed, if there is no place for it, or what it needs is not available.
-    fn admit<H: Host>(
+    fn admit<H: Host, R>(
         &mut self,
-        registry: &Registry,
         host: &mut H,
         place: &mut H::Place,
-        crew: &Crew,
+        round: &Round<'_, R>,
         stream: Stream,
     ) -> Option<()> {
+        let crew = round.crew;
         if crew.open.fetch_add(1, Ordering::SeqCst) >= crew.rules.connections {
             crew.open.fetch_sub(1, Ordering::SeqCst);
+            self.counts.refused = self.counts.refused.saturating_add(1);
             let mut stream = stream;
-            stream.tell(TOO_MANY);
+            stream.turn_away(TOO_MANY);
             return None;
         }
-        let admitted = self.seat(registry, host, place, crew, stream);
+        let admitted = self.seat(host, place, round, stream);
         if admitted.is_none() {
             crew.open.fetch_sub(1, Ordering::SeqCst);
         }
@@ -220,12 +240,11 @@ impl Hall {
     }
 
     /// Makes room for a connection, and opens it.
-    fn seat<H: Host>(
+    fn seat<H: Host, R>(
         &mut self,
-        registry: &Registry,
         host: &mut H,
         place: &mut H::Place,
-        crew: &Crew,
+        round: &Round<'_, R>,
         stream: Stream,
     ) -> Option<()> {
         let room = self.served.len().saturating_add(1);
@@ -235,33 +254,33 @@ impl Hall {
         self.spare.reserve(room).ok()?;
         let mut stream = stream;
         let key = self.served.vacant_key();
-        stream.register(registry, Token(key)).ok()?;
-        let link = Link::open(host, place, crew.alloc, crew.namespace).ok()?;
+        stream.register(round.registry, Token(key)).ok()?;
+        let link = Link::open(host, place, round.crew.alloc, round.crew.namespace).ok()?;
         let _ = self.served.insert(Served::new(stream, link));
         Some(())
     }
 
     /// Gives each queued connection a turn, and then each that has more to do since its last one.
-    pub fn take_turns<H: Host, K: Clock, D: Loader>(
+    pub fn take_turns<H: Host, K: Clock, D: Loader, R: time::Clock>(
         &mut self,
-        registry: &Registry,
         host: &mut H,
         place: &mut H::Place,
         tools: &mut Tools<K, Counting<D>>,
-        crew: &Crew,
+        round: &Round<'_, R>,
     )
         requires shared { H.LENT ≡ false }
         requires known { (conn : Conn) → (place : H.Place) → H.knows conn place }
     {
+        let _since_the_wake = self.watch.lap(round.rt);
         for index in 0..self.queue.len() {
             if let Some(key) = self.queue.get(index).copied() {
-                self.take_turn(registry, host, place, tools, crew, key);
+                self.take_turn(host, place, tools, round, key);
             }
         }
         self.queue.clear();
         for index in 0..self.again.len() {
             if let Some(key) = self.again.get(index).copied() {
-                self.take_turn(registry, host, place, tools, crew, key);
+                self.take_turn(host, place, tools, round, key);
             }
         }
         self.again.clear();
@@ -269,39 +288,54 @@ impl Hall {
     }
 
     /// Gives a connection a turn.
-    fn take_turn<H: Host, K: Clock, D: Loader>(
+    fn take_turn<H: Host, K: Clock, D: Loader, R: time::Clock>(
         &mut self,
-        registry: &Registry,
         host: &mut H,
         place: &mut H::Place,
         tools: &mut Tools<K, Counting<D>>,
-        crew: &Crew,
+        round: &Round<'_, R>,
         key: usize,
     )
         requires shared { H.LENT ≡ false }
         requires known { (conn : Conn) → (place : H.Place) → H.knows conn place }
     {
-        let Some(served) = self.served.get_mut(key) else {
+        let Hall { served, counts, .. } = self;
+        let Some(served) = served.get_mut(key) else {
             return;
         };
-        let next = served.turn(host, place, tools);
+        match served.turn(host, place, tools, counts) {
+            Ok(Next::Over) => self.end(host, place, tools, round.crew, key, Ok(())),
+            Ok(next) => self.note_next(round.registry, key, next),
+            Err(error) => self.end(host, place, tools, round.crew, key, Err(error)),
+        }
+        self.counts.loads = self
+            .counts
+            .loads
+            .saturating_add(round.crew.tell_loads(&mut tools.loader));
+        let nanos = self.watch.lap(round.rt);
+        self.counts.count_turn(nanos);
+    }
+
+    /// Notes what a connection waits for.
+    fn note_next(&mut self, registry: &Registry, key: usize, next: Next) {
+        let Hall { served, spare, .. } = self;
+        let Some(served) = served.get_mut(key) else {
+            return;
+        };
         match next {
-            Ok(Next::Input) => {}
-            Ok(Next::Turn) => {
+            Next::Input | Next::Over => {}
+            Next::Turn => {
                 served.is_queued = true;
-                let _ = self.spare.push(key);
+                let _ = spare.push(key);
             }
-            Ok(Next::Load) => served.is_waiting = true,
-            Ok(Next::Room) => {
+            Next::Load => served.is_waiting = true,
+            Next::Room => {
                 if !served.tells_room {
                     served.tells_room = true;
                     let _ = served.stream.watch_room(registry, Token(key));
                 }
             }
-            Ok(Next::Over) => self.end(host, place, tools, crew, key, Ok(())),
-            Err(error) => self.end(host, place, tools, crew, key, Err(error)),
         }
-        crew.tell_loads(&mut tools.loader);
     }
 
     /// Closes a connection.
@@ -337,14 +371,20 @@ impl Hall {
         requires known { (conn : Conn) → (place : H.Place) → H.knows conn place }
     {
         for key in 0..self.served.capacity() {
-            let Some(served) = self.served.get_mut(key) else {
-                continue;
-            };
-            served.quiet = served.quiet.saturating_add(1);
-            if served.quiet > idle && !served.is_waiting && !served.is_queued {
+            if self.is_too_quiet(key, idle) {
+                self.counts.idle = self.counts.idle.saturating_add(1);
                 self.end(host, place, tools, crew, key, Ok(()));
             }
         }
+    }
+
+    /// Counts a second of a connection. Returns whether its socket has reported nothing for more seconds than it may.
+    fn is_too_quiet(&mut self, key: usize, idle: u64) -> bool {
+        let Some(served) = self.served.get_mut(key) else {
+            return false;
+        };
+        served.quiet = served.quiet.saturating_add(1);
+        served.quiet > idle && !served.is_waiting && !served.is_queued
     }
 
     /// Closes all connections.

@@ -2,11 +2,13 @@
 #![tactic(auto)]
 
 mod counting;
+mod counts;
 mod doorway;
 mod hall;
 mod looping;
 mod served;
 
 pub use counting::Counting;
+pub use counts::{Counts, TURN_BOUNDS};
 pub use doorway::{Doorway, Stream};
 pub use looping::{Crew, LOADED, Rules, STOP, serve_all};

@@ -2,10 +2,11 @@
 ghost use Rattle.std.specs.Prelude.{◌≡◌, false};
 ghost use Rattle.audit_model.specs.declared.input.Conn.{Conn};
 
+use crate::counts::{Counts, Metered};
 use crate::doorway::Stream;
 use cache_link::{Link, Next, Patient, Tools};
 use cache_run::{Clock, Host, Loader, RunError};
-use mio::net::{TcpStream, UnixStream};
+use std::io::{Read, Write};
 
 /// A connection, its socket, and what the loop notes of it.
 #[derive(Drop)]
@@ -41,6 +42,7 @@ impl Served {
         host: &mut H,
         place: &mut H::Place,
         tools: &mut Tools<K, D>,
+        counts: &mut Counts,
     ) -> Result<Next, RunError>
         requires shared { H.LENT ≡ false }
         requires known { (conn : Conn) → (place : H.Place) → H.knows conn place }
@@ -49,40 +51,32 @@ impl Served {
         self.is_waiting = false;
         let Served { stream, link, .. } = self;
         match stream {
-            Stream::Tcp(stream) => turn_over_network(link, stream, host, place, tools),
-            Stream::Unix(stream) => turn_over_path(link, stream, host, place, tools),
+            Stream::Tcp(stream) => {
+                let (input, output) = (&*stream, &*stream);
+                turn_over(link, input, output, host, place, tools, counts)
+            }
+            Stream::Unix(stream) => {
+                let (input, output) = (&*stream, &*stream);
+                turn_over(link, input, output, host, place, tools, counts)
+            }
         }
     }
 }
 
-/// Gives a connection of the network a turn.
-fn turn_over_network<H: Host, K: Clock, D: Loader>(
+/// Gives a connection a turn over its socket.
+fn turn_over<I: Read + Drop, O: Write + Drop, H: Host, K: Clock, D: Loader>(
     link: &mut Link,
-    stream: &TcpStream,
+    input: I,
+    output: O,
     host: &mut H,
     place: &mut H::Place,
     tools: &mut Tools<K, D>,
+    counts: &mut Counts,
 ) -> Result<Next, RunError>
     requires shared { H.LENT ≡ false }
     requires known { (conn : Conn) → (place : H.Place) → H.knows conn place }
 {
-    let mut reader = Patient::new(stream);
-    let mut writer = Patient::new(stream);
-    link.turn(host, place, &mut reader, &mut writer, tools)
-}
-
-/// Gives a connection of a path a turn.
-fn turn_over_path<H: Host, K: Clock, D: Loader>(
-    link: &mut Link,
-    stream: &UnixStream,
-    host: &mut H,
-    place: &mut H::Place,
-    tools: &mut Tools<K, D>,
-) -> Result<Next, RunError>
-    requires shared { H.LENT ≡ false }
-    requires known { (conn : Conn) → (place : H.Place) → H.knows conn place }
-{
-    let mut reader = Patient::new(stream);
-    let mut writer = Patient::new(stream);
+    let mut reader = Patient::new(Metered::new(input, &mut counts.read));
+    let mut writer = Patient::new(Metered::new(output, &mut counts.written));
     link.turn(host, place, &mut reader, &mut writer, tools)
 }

@@ -31,9 +31,24 @@ pub fn connect<R: Machine>(rt: &R, port: u16) -> Option<TcpStream> {
     None
 }
 
-/// Sends a text.
-pub fn sends(stream: &mut TcpStream, text: &[u8]) -> bool {
-    stream.write_all(text).is_ok()
+/// Sends a text so many times.
+pub fn sends_times(stream: &mut TcpStream, text: &[u8], times: u32) -> bool {
+    for _time in 0..times {
+        if stream.write_all(text).is_err() {
+            return false;
+        }
+    }
+    true
+}
+
+/// Sends a text byte by byte.
+pub fn drips(stream: &mut TcpStream, text: &[u8]) -> bool {
+    for byte in text {
+        if stream.write_all(&[*byte]).is_err() {
+            return false;
+        }
+    }
+    true
 }
 
 /// Says that nothing more is sent.
@@ -42,35 +57,15 @@ pub fn ends(stream: &TcpStream) -> bool {
 }
 
 /// Whether exactly these bytes are read next.
-pub fn reads(stream: &mut TcpStream, wanted: &[u8]) -> bool {
-    let mut rest = wanted;
-    let mut buffer = [0u8; 4096];
-    for _read in 0..wanted.len() {
-        if rest.is_empty() {
-            break;
-        }
-        let room = rest.len().min(buffer.len());
-        match stream.read(&mut buffer[..room]) {
-            Ok(0) | Err(_) => return false,
-            Ok(count) => {
-                if buffer[..count] != rest[..count] {
-                    return false;
-                }
-                rest = &rest[count..];
-            }
+fn reads(stream: &mut TcpStream, wanted: &[u8]) -> bool {
+    let mut buffer = [0u8; 64];
+    for part in wanted.chunks(buffer.len()) {
+        let found = &mut buffer[..part.len()];
+        if stream.read_exact(found).is_err() || *found != *part {
+            return false;
         }
     }
-    rest.is_empty()
-}
-
-/// Whether the text is answered so.
-pub fn asks(stream: &mut TcpStream, text: &[u8], wanted: &[u8]) -> bool {
-    sends(stream, text) && reads(stream, wanted)
-}
-
-/// Whether nothing more is read, and that is the end.
-pub fn is_at_end(stream: &mut TcpStream) -> bool {
-    matches!(stream.read(&mut [0u8; 1]), Ok(0))
+    true
 }
 
 /// Whether this many times these bytes are read next.
@@ -81,4 +76,28 @@ pub fn reads_times(stream: &mut TcpStream, wanted: &[u8], times: u32) -> bool {
         }
     }
     true
+}
+
+/// Whether so many lines are read next. More than that may be read.
+pub fn reads_lines(stream: &mut TcpStream, count: u32) -> bool {
+    let mut buffer = [0u8; 4096];
+    let mut ends = 0usize;
+    for _read in 0..u32::MAX {
+        if ends >= count as usize {
+            return true;
+        }
+        match stream.read(&mut buffer) {
+            Ok(0) | Err(_) => return false,
+            Ok(count) => {
+                let found = buffer[..count].iter().filter(|byte| **byte == b'\n');
+                ends = ends.saturating_add(found.count());
+            }
+        }
+    }
+    false
+}
+
+/// Whether nothing more is read, and that is the end.
+pub fn is_at_end(stream: &mut TcpStream) -> bool {
+    matches!(stream.read(&mut [0u8; 1]), Ok(0))
 }

@@ -1,133 +1,96 @@
 //! What clients do.
-use crate::clients::{asks, connect, ends, is_at_end, reads, reads_times, sends};
+use crate::clients::{connect, drips, ends, is_at_end, reads_lines, reads_times, sends_times};
+use bivrangd_server::Told;
 use cached_server::Machine;
-use std::alloc::{AllocError, Global};
+use crossbeam_channel::Sender;
+use std::alloc::Global;
+use std::net::TcpStream;
+use std::thread;
+use std::time::Duration;
 
-/// A scene with clients.
-#[derive(Clone, Copy, Debug, PartialEq, Eq, Drop)]
-pub enum Scene {
-    /// A client sends byte by byte.
-    Bytes,
-    /// A client sends many lines, says that it sends no more, and reads all replies.
-    HalfClosed,
-    /// A client reads nothing, another one is answered, and then the first one reads all.
-    SlowReader,
-    /// A client asks for all keys again and again, and another one is answered.
-    KeysBesideGet,
-    /// Many clients load one key.
-    Loads,
-    /// More bytes than are read at once stand behind a `LOAD`.
-    BehindLoad,
-    /// A client quits.
-    Quit,
-    /// A line that is too long closes its connection.
-    TooLong,
+/// A step of a scene. Clients are numbered in the order in which they connect.
+#[derive(Clone, Copy, Drop)]
+pub enum Step {
+    /// Another client connects.
+    Connect,
+    /// A client sends a text so many times.
+    Send(usize, &'static [u8], u32),
+    /// A client sends a text byte by byte.
+    Drip(usize, &'static [u8]),
+    /// A client says that it sends nothing more.
+    End(usize),
+    /// A client reads just this, so many times.
+    Read(usize, &'static [u8], u32),
+    /// A client reads so many lines, of whatever text.
+    Lines(usize, u32),
+    /// A client reads nothing more, since the server has ended its side.
+    AtEnd(usize),
+    /// A client goes.
+    Leave(usize),
+    /// So many milliseconds pass.
+    Pause(u64),
+    /// The server is told to stop.
+    Stop,
 }
 
-/// A text, this many times.
-fn repeat(alloc: Global, text: &[u8], times: usize) -> Result<Vec<u8>, AllocError> {
-    let mut all = Vec::new(alloc);
-    for _time in 0..times {
-        all.extend_from_slice(text)?;
+/// The clients of a scene, and how the server is told to stop.
+#[derive(Drop)]
+pub struct Players {
+    pub port: u16,
+    pub streams: Vec<Option<TcpStream>>,
+    pub orders: Sender<Told, Global>,
+}
+
+impl Players {
+    /// The client with this number, if it has connected and not gone.
+    fn client(&mut self, number: usize) -> Option<&mut TcpStream> {
+        self.streams.get_mut(number)?.as_mut()
     }
-    Ok(all)
-}
 
-/// Whether a scene comes out as it should.
-pub fn comes_out<R: Machine>(rt: &R, alloc: Global, port: u16, scene: Scene) -> bool {
-    let played = match scene {
-        Scene::Bytes => bytes(rt, port),
-        Scene::HalfClosed => half_closed(rt, alloc, port),
-        Scene::SlowReader => slow_reader(rt, alloc, port),
-        Scene::KeysBesideGet => keys_beside_get(rt, alloc, port),
-        Scene::Loads => loads(rt, alloc, port),
-        Scene::BehindLoad => behind_load(rt, alloc, port),
-        Scene::Quit => quit(rt, port),
-        Scene::TooLong => too_long(rt, alloc, port),
-    };
-    played.unwrap_or(false)
-}
+    /// Another client connects.
+    fn connect<R: Machine>(&mut self, rt: &R) -> Option<bool> {
+        let stream = connect(rt, self.port)?;
+        self.streams.push(Some(stream)).ok()?;
+        Some(true)
+    }
 
-fn bytes<R: Machine>(rt: &R, port: u16) -> Option<bool> {
-    let mut client = connect(rt, port)?;
-    let text = b"SET a - 1\nGET a\n";
-    for byte in text {
-        if !sends(&mut client, &[*byte]) {
-            return Some(false);
+    /// A client goes.
+    fn leave(&mut self, number: usize) -> Option<bool> {
+        let stream = self.streams.get_mut(number)?;
+        *stream = None;
+        Some(true)
+    }
+
+    /// Plays a step. Whether it comes out as it says.
+    fn play<R: Machine>(&mut self, rt: &R, step: Step) -> Option<bool> {
+        match step {
+            Step::Connect => self.connect(rt),
+            Step::Send(number, text, times) => {
+                Some(sends_times(self.client(number)?, text, times))
+            }
+            Step::Drip(number, text) => Some(drips(self.client(number)?, text)),
+            Step::End(number) => Some(ends(self.client(number)?)),
+            Step::Read(number, text, times) => {
+                Some(reads_times(self.client(number)?, text, times))
+            }
+            Step::Lines(number, count) => Some(reads_lines(self.client(number)?, count)),
+            Step::AtEnd(number) => Some(is_at_end(self.client(number)?)),
+            Step::Leave(number) => self.leave(number),
+            Step::Pause(millis) => {
+                thread::sleep(rt, Duration::from_millis(millis));
+                Some(true)
+            }
+            Step::Stop => Some(self.orders.send(rt, Told::Stop).is_ok()),
         }
     }
-    Some(reads(&mut client, b"OK\nVAL 1\n"))
-}
 
-fn half_closed<R: Machine>(rt: &R, alloc: Global, port: u16) -> Option<bool> {
-    let mut client = connect(rt, port)?;
-    let text = repeat(alloc, b"GET z\n", 20_000).ok()?;
-    let sent = sends(&mut client, text.as_slice()) && ends(&client);
-    Some(sent && reads_times(&mut client, b"NONE\n", 20_000) && is_at_end(&mut client))
-}
-
-fn slow_reader<R: Machine>(rt: &R, alloc: Global, port: u16) -> Option<bool> {
-    let mut slow = connect(rt, port)?;
-    let mut other = connect(rt, port)?;
-    let value = repeat(alloc, b"v", 8000).ok()?;
-    let mut text = Vec::from_slice(alloc, b"SET long - ").ok()?;
-    text.extend_from_slice(value.as_slice()).ok()?;
-    text.extend_from_slice(b"\n").ok()?;
-    let mut reply = Vec::from_slice(alloc, b"VAL ").ok()?;
-    reply.extend_from_slice(value.as_slice()).ok()?;
-    reply.extend_from_slice(b"\n").ok()?;
-    let many = repeat(alloc, b"GET long\n", 3000).ok()?;
-    Some(
-        asks(&mut slow, text.as_slice(), b"OK\n")
-            && sends(&mut slow, many.as_slice())
-            && asks(&mut other, b"GET z\n", b"NONE\n")
-            && reads_times(&mut slow, reply.as_slice(), 3000),
-    )
-}
-
-fn keys_beside_get<R: Machine>(rt: &R, alloc: Global, port: u16) -> Option<bool> {
-    let mut greedy = connect(rt, port)?;
-    let mut other = connect(rt, port)?;
-    let many = repeat(alloc, b"KEYS\n", 1000).ok()?;
-    Some(
-        asks(&mut greedy, b"SET a - 1\n", b"OK\n")
-            && sends(&mut greedy, many.as_slice())
-            && asks(&mut other, b"GET a\n", b"VAL 1\n")
-            && reads_times(&mut greedy, b"KEYS 1\na\n", 1000),
-    )
-}
-
-fn loads<R: Machine>(rt: &R, alloc: Global, port: u16) -> Option<bool> {
-    let mut clients = Vec::new(alloc);
-    for _client in 0..40 {
-        let mut client = connect(rt, port)?;
-        if !sends(&mut client, b"LOAD k\n") {
-            return Some(false);
+    /// Plays all steps, as long as they come out as they say. Whether all did.
+    pub fn play_all<R: Machine>(&mut self, rt: &R, steps: &[Step]) -> bool {
+        for step in steps {
+            if self.play(rt, *step) != Some(true) {
+                return false;
+            }
         }
-        clients.push(client).ok()?;
+        true
     }
-    Some(clients.iter_mut().all(|client| reads(client, b"VAL v\n")))
-}
-
-fn behind_load<R: Machine>(rt: &R, alloc: Global, port: u16) -> Option<bool> {
-    let mut client = connect(rt, port)?;
-    let mut text = Vec::from_slice(alloc, b"LOAD k\n").ok()?;
-    let rest = repeat(alloc, b"GET z\n", 3000).ok()?;
-    text.extend_from_slice(rest.as_slice()).ok()?;
-    Some(
-        asks(&mut client, text.as_slice(), b"VAL v\n") && reads_times(&mut client, b"NONE\n", 3000),
-    )
-}
-
-fn quit<R: Machine>(rt: &R, port: u16) -> Option<bool> {
-    let mut client = connect(rt, port)?;
-    Some(asks(&mut client, b"GET z\nQUIT\nGET z\n", b"NONE\nOK\n"))
-}
-
-fn too_long<R: Machine>(rt: &R, alloc: Global, port: u16) -> Option<bool> {
-    let mut client = connect(rt, port)?;
-    let text = repeat(alloc, b"k", 9000).ok()?;
-    let _ = sends(&mut client, text.as_slice());
-    let mut other = connect(rt, port)?;
-    Some(asks(&mut other, b"GET z\n", b"NONE\n"))
 }

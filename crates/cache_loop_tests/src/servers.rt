@@ -1,10 +1,11 @@
 //! Servers with clients.
 use crate::clients::free_port;
-use crate::scenes::{Scene, comes_out};
-use bivrangd_server::{Told, serve_text};
+use crate::scenes::{Players, Step};
+use bivrangd_server::{Alarms, Orders, Told, serve_text};
+use cache_run::Watched;
 use cached_server::Machine;
 use crossbeam_channel::{Sender, unbounded};
-use std::alloc::Global;
+use std::alloc::{AllocError, Global};
 use std::net::{Net, TcpListener, TcpStream};
 use std::random::RandomSource;
 use std::rt::Files;
@@ -13,32 +14,56 @@ use std::thread;
 use std::thread::Threads;
 use std::time::Clock;
 
-/// Whether a scene comes out as it should with a server on a port, and the server ends well when it is told to stop.
-fn is_served<R: Machine + Files>(rt: R, alloc: Global, port: u16, scene: Scene) -> Option<bool> {
-    let text = format!(in alloc;
-        "[[namespace]]\nname = \"m\"\nport = {port}\n[namespace.loads]\nk = \"v\"\n"
-    ).ok()?;
+/// What the namespace's table says beside its name, its port and its loads, and what clients do.
+#[derive(Clone, Copy)]
+struct Scene {
+    keys: &'static str,
+    steps: &'static [Step],
+}
+
+/// Serves a text, and tells nobody. Whether it ends well.
+fn serve<R: Machine + Files>(rt: R, alloc: Global, text: &str, orders: Orders) -> bool {
+    let mut errors = Watched::new(Vec::new(alloc));
+    let mut alarms = Alarms::new(rt, alloc, &mut errors);
+    let shown = (Vec::new(alloc), Vec::new(alloc));
+    serve_text(rt, alloc, text, shown, &mut alarms, orders).is_ok()
+}
+
+/// The configuration of a namespace at a port.
+fn config_of(alloc: Global, port: u16, keys: &str) -> Result<String, AllocError> {
+    format!(in alloc;
+        "[[namespace]]\nname = \"m\"\nport = {port}\n{keys}\n[namespace.loads]\nk = \"v\"\n")
+}
+
+/// Whether a scene comes out as it says with a server on a port, and the server ends well when it is told to stop.
+fn comes_out<R: Machine + Files>(rt: R, alloc: Global, port: u16, scene: Scene) -> Option<bool> {
+    let text = config_of(alloc, port, scene.keys).ok()?;
     let (orders, told) = unbounded(alloc).ok()?;
-    let stopping = Sender::clone(&orders).ok()?;
-    let serving = move || {
-        let shown = (Vec::new(alloc), Vec::new(alloc));
-        serve_text(rt, alloc, text.as_str(), shown, (orders, told), None).is_ok()
+    let mut players = Players {
+        port,
+        streams: Vec::new(alloc),
+        orders: Sender::clone(&orders).ok()?,
     };
+    let serving = move || serve(rt, alloc, text.as_str(), (orders, told));
     let server = thread::spawn(&rt, serving).ok()?;
-    let good = comes_out(&rt, alloc, port, scene);
-    let told = stopping.send(&rt, Told::Stop).is_ok();
-    Some(server.join(&rt) && good && told)
+    let good = players.play_all(&rt, scene.steps);
+    let stopped = players.orders.send(&rt, Told::Stop).is_ok();
+    Some(server.join(&rt) && good && stopped)
 }
 
-/// The same with a free port.
-fn is_served_once<R: Machine + Files>(rt: R, alloc: Global, scene: Scene) -> bool {
-    match free_port(&rt) {
-        Some(port) => is_served(rt, alloc, port, scene).unwrap_or(false),
-        None => false,
+/// The same with a free port, at the second try if memory was refused at the first.
+fn comes_out_somewhere<R: Machine + Files>(rt: R, alloc: Global, scene: Scene) -> bool {
+    for _try in 0..2 {
+        if let Some(port) = free_port(&rt) {
+            if comes_out(rt, alloc, port, scene) == Some(true) {
+                return true;
+            }
+        }
     }
+    false
 }
 
-/// Whether each scene comes out as it should, at the second try if memory was refused at the first.
+/// Whether all scenes come out as they say.
 fn all_come_out<R>(rt: R, alloc: Global, scenes: &[Scene]) -> bool
 where
     R: Net<Listener = TcpListener, Stream = TcpStream>
@@ -53,7 +78,7 @@ where
         + 'static,
 {
     for scene in scenes {
-        if !is_served_once(rt, alloc, *scene) && !is_served_once(rt, alloc, *scene) {
+        if !comes_out_somewhere(rt, alloc, *scene) {
             return false;
         }
     }
@@ -61,14 +86,184 @@ where
 }
 
 const SCENES: &[Scene] = &[
-    Scene::Bytes,
-    Scene::HalfClosed,
-    Scene::SlowReader,
-    Scene::KeysBesideGet,
-    Scene::Loads,
-    Scene::BehindLoad,
-    Scene::Quit,
-    Scene::TooLong,
+    // Byte by byte.
+    Scene {
+        keys: "",
+        steps: &[
+            Step::Connect,
+            Step::Drip(0, b"SET a - 1\nGET a\n"),
+            Step::Read(0, b"OK\nVAL 1\n", 1),
+        ],
+    },
+    // The end comes with the last bytes.
+    Scene {
+        keys: "loops = 1",
+        steps: &[
+            Step::Connect,
+            Step::Send(0, b"GET z\nGET", 1),
+            Step::End(0),
+            Step::Read(0, b"NONE\n", 1),
+            Step::AtEnd(0),
+        ],
+    },
+    // Many lines at once, and nothing more.
+    Scene {
+        keys: "",
+        steps: &[
+            Step::Connect,
+            Step::Send(0, b"GET z\n", 20_000),
+            Step::End(0),
+            Step::Read(0, b"NONE\n", 20_000),
+            Step::AtEnd(0),
+        ],
+    },
+    // A client does not read; another one is answered by the same loop; then the first one reads all.
+    Scene {
+        keys: "loops = 1",
+        steps: &[
+            Step::Connect,
+            Step::Send(0, b"SET long - ", 1),
+            Step::Send(0, b"vvvvvvvv", 1000),
+            Step::Send(0, b"\n", 1),
+            Step::Read(0, b"OK\n", 1),
+            Step::Send(0, b"GET long\n", 3000),
+            Step::Connect,
+            Step::Send(1, b"GET z\n", 1),
+            Step::Read(1, b"NONE\n", 1),
+            Step::Lines(0, 3000),
+            Step::Send(0, b"GET z\n", 1),
+            Step::Read(0, b"NONE\n", 1),
+        ],
+    },
+    // A client asks for all keys again and again; another one is answered by the same loop in the meantime.
+    Scene {
+        keys: "loops = 1",
+        steps: &[
+            Step::Connect,
+            Step::Connect,
+            Step::Send(0, b"SET a - 1\n", 1),
+            Step::Read(0, b"OK\n", 1),
+            Step::Send(0, b"KEYS\n", 1000),
+            Step::Send(1, b"GET a\n", 1),
+            Step::Read(1, b"VAL 1\n", 1),
+            Step::Read(0, b"KEYS 1\na\n", 1000),
+        ],
+    },
+    // Two loops, each with some of the connections, have the same values.
+    Scene {
+        keys: "loops = 2",
+        steps: &[
+            Step::Connect,
+            Step::Send(0, b"SET a - 1\n", 1),
+            Step::Read(0, b"OK\n", 1),
+            Step::Connect,
+            Step::Send(1, b"GET a\nLOAD k\n", 1),
+            Step::Connect,
+            Step::Send(2, b"LOAD k\nGET a\n", 1),
+            Step::Connect,
+            Step::Send(3, b"GET a\nLOAD k\n", 1),
+            Step::Read(1, b"VAL 1\nVAL v\n", 1),
+            Step::Read(2, b"VAL v\nVAL 1\n", 1),
+            Step::Read(3, b"VAL 1\nVAL v\n", 1),
+        ],
+    },
+    // More than is read at once stands behind a load.
+    Scene {
+        keys: "",
+        steps: &[
+            Step::Connect,
+            Step::Send(0, b"LOAD k\n", 1),
+            Step::Send(0, b"GET z\n", 3000),
+            Step::Read(0, b"VAL v\n", 1),
+            Step::Read(0, b"NONE\n", 3000),
+        ],
+    },
+    // A client quits, and sends more.
+    Scene {
+        keys: "",
+        steps: &[
+            Step::Connect,
+            Step::Send(0, b"GET z\nQUIT\nGET z\n", 1),
+            Step::Read(0, b"NONE\nOK\n", 1),
+            Step::AtEnd(0),
+        ],
+    },
+    // A line that is too long ends its connection, and no other one.
+    Scene {
+        keys: "",
+        steps: &[
+            Step::Connect,
+            Step::Connect,
+            Step::Send(0, b"kkkkkkkk", 1100),
+            Step::Send(1, b"GET z\n", 1),
+            Step::Read(1, b"NONE\n", 1),
+        ],
+    },
+    // One more than may be connected is told so; there is a place again when another one goes.
+    Scene {
+        keys: "max_connections = 2",
+        steps: &[
+            Step::Connect,
+            Step::Connect,
+            Step::Send(0, b"GET z\n", 1),
+            Step::Read(0, b"NONE\n", 1),
+            Step::Send(1, b"GET z\n", 1),
+            Step::Read(1, b"NONE\n", 1),
+            Step::Connect,
+            Step::Read(2, b"ERR connections\n", 1),
+            Step::AtEnd(2),
+            Step::Leave(0),
+            Step::Pause(300),
+            Step::Connect,
+            Step::Send(3, b"GET z\n", 1),
+            Step::Read(3, b"NONE\n", 1),
+        ],
+    },
+    // An idle client is closed, and not one that asks.
+    Scene {
+        keys: "idle_s = 2",
+        steps: &[
+            Step::Connect,
+            Step::Connect,
+            Step::Send(0, b"GET z\n", 1),
+            Step::Pause(1000),
+            Step::Send(0, b"GET z\n", 1),
+            Step::Pause(1000),
+            Step::Send(0, b"GET z\n", 1),
+            Step::Read(0, b"NONE\n", 3),
+            Step::AtEnd(1),
+            Step::AtEnd(0),
+        ],
+    },
+    // When it stops, an idle client is closed, and another one gets all that it has asked for.
+    Scene {
+        keys: "loops = 2",
+        steps: &[
+            Step::Connect,
+            Step::Connect,
+            Step::Send(1, b"SET a - 1\n", 1),
+            Step::Read(1, b"OK\n", 1),
+            Step::Send(1, b"KEYS\n", 1000),
+            Step::Send(0, b"GET a\n", 1),
+            Step::Read(0, b"VAL 1\n", 1),
+            Step::Stop,
+            Step::AtEnd(0),
+        ],
+    },
+    // Told twice, it does not wait for a client that does not read.
+    Scene {
+        keys: "",
+        steps: &[
+            Step::Connect,
+            Step::Send(0, b"SET long - ", 1),
+            Step::Send(0, b"vvvvvvvv", 1000),
+            Step::Send(0, b"\n", 1),
+            Step::Send(0, b"GET long\n", 3000),
+            Step::Pause(200),
+            Step::Stop,
+            Step::Pause(200),
+        ],
+    },
 ];
 
 #[test]

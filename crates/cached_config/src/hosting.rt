@@ -1,11 +1,9 @@
 //! What the keys say that only `bivrangd` knows. An error is what is wrong with a value, in words that follow its key.
 
+use crate::listed::Notices;
 use crate::values::{at_key, number_at};
 use std::net::IpAddr;
 use toml::Table;
-
-/// These keys.
-pub const HOSTING_KEYS: [&str; 5] = ["bind", "mode", "loops", "max_connections", "idle_s"];
 
 /// The longest path of a Unix socket has so many bytes.
 const PATH_BYTES: usize = 107;
@@ -15,6 +13,10 @@ const BIND: &str = "is an IP address, or a path that begins with / and has at mo
 const MODE: &str = "is a text of three digits from 0 to 7";
 
 const LOOPS: &str = "is a number from 1 to 64";
+
+const NOTICES: &str = "is \"values\", \"keys\" or \"off\"";
+
+const METRICS: &str = "is a table with a port, a number from 1 to 65535, and nothing else";
 
 /// Whether a text is an address or a path.
 fn is_bind(text: &str) -> bool {
@@ -54,11 +56,43 @@ pub fn mode_in(table: &Table) -> Result<u32, &'static str> {
     }
 }
 
-/// How many loops a table says; 2 if it says nothing of it.
-pub fn loops_in(table: &Table) -> Result<u32, &'static str> {
-    match number_at(table, "loops", 1, 64, LOOPS)? {
-        None => Ok(2),
-        Some(loops) => u32::try_from(loops).map_err(|_| LOOPS),
+/// How many loops a table says, if it does.
+pub fn loops_in(table: &Table) -> Result<Option<u64>, &'static str> {
+    number_at(table, "loops", 1, 64, LOOPS)
+}
+
+/// What a table says that notices have; values if it says nothing of it.
+pub fn notices_in(table: &Table) -> Result<Notices, &'static str> {
+    match at_key(table, "notices") {
+        None => Ok(Notices::Values),
+        Some(value) => match value.as_str() {
+            Some("values") => Ok(Notices::Values),
+            Some("keys") => Ok(Notices::Keys),
+            Some("off") => Ok(Notices::Off),
+            _ => Err(NOTICES),
+        },
+    }
+}
+
+/// The port at which a document says that metrics are served, if it does.
+pub fn metrics_in(document: &Table) -> Result<Option<u16>, &'static str> {
+    match at_key(document, "metrics") {
+        None => Ok(None),
+        Some(value) => match value.as_table() {
+            Some(table) if table.len() == 1 => port_of_metrics(table),
+            _ => Err(METRICS),
+        },
+    }
+}
+
+/// The port that the table of metrics says.
+fn port_of_metrics(table: &Table) -> Result<Option<u16>, &'static str> {
+    match number_at(table, "port", 1, 65_535, METRICS)? {
+        None => Err(METRICS),
+        Some(port) => match u16::try_from(port) {
+            Ok(port) => Ok(Some(port)),
+            Err(_) => Err(METRICS),
+        },
     }
 }
 

@@ -7,8 +7,12 @@ ghost use Rattle.cached_config.specs.Good.{are_good};
 ghost use Rattle.cached_config.specs.Said.{IsConfigOf, Says, SaysAll, SaysLimits, SaysSpace, SaysSpaces, loads_table, said_or};
 
 use crate::good::{MOST, are_good};
-use crate::hosting::{HOSTING_KEYS, bind_in, connections_in, idle_in, loops_in, mode_in};
-use crate::listed::{ConfigError, ConfigFault, ConfigReport, HostedNamespace, Hosting, Listed};
+use crate::hosting::{
+    bind_in, connections_in, idle_in, loops_in, metrics_in, mode_in, notices_in,
+};
+use crate::listed::{
+    ConfigError, ConfigFault, ConfigReport, HostedNamespace, Hosting, Listed, Notices,
+};
 use crate::places::{Part, line_at, line_of_header, line_of_key, line_outside};
 use crate::values::{
     at_key, capacity_in, deadlines_in, load_in, name_in, parts_in, policy_in, port_in, time_in,
@@ -20,8 +24,8 @@ use std::alloc::{AllocError, Global};
 use std::fmt::Display;
 use toml::{Table, Value};
 
-/// The keys of a namespace's table.
-const KEYS: [&str; 10] = [
+/// The keys of a namespace's table. All programs know the first `COMMON` of them.
+const KEYS: [&str; 16] = [
     "name",
     "port",
     "capacity",
@@ -32,7 +36,15 @@ const KEYS: [&str; 10] = [
     "idle_ms",
     "deadlines",
     "loads",
+    "bind",
+    "mode",
+    "loops",
+    "max_connections",
+    "idle_s",
+    "notices",
 ];
+
+const COMMON: usize = 10;
 
 /// A program that reads configuration files. Each knows its own keys.
 #[derive(Clone, Copy, Debug, PartialEq, Eq, Drop)]
@@ -43,11 +55,31 @@ enum Program {
     Bivrangd,
 }
 
+impl Program {
+    /// The keys of a namespace's table that it knows.
+    fn keys(self) -> &'static [&'static str] {
+        match self {
+            Program::Cached => &KEYS[..COMMON],
+            Program::Bivrangd => &KEYS,
+        }
+    }
+
+    /// The tables that it knows.
+    fn tables(self) -> &'static [&'static str] {
+        match self {
+            Program::Cached => &["namespace"],
+            Program::Bivrangd => &["namespace", "metrics"],
+        }
+    }
+}
+
 /// The namespaces of a configuration file, and how each is hosted, in the same order.
 #[derive(Drop)]
 pub struct Hosted {
     pub spaces: Vec<HostedNamespace>,
     pub hostings: Vec<Hosting>,
+    /// The port of 127.0.0.1 at which metrics are served, if they are.
+    pub metrics: Option<u16>,
 }
 
 /// Returns the namespaces of a configuration file, in its order.
@@ -70,8 +102,9 @@ pub fn read_config(alloc: Global, text: &str) -> Result<Vec<HostedNamespace>, Co
 }
 
 /// Like `read_config`, for `bivrangd`. In addition a namespace may have `bind` (an IP address, by default 127.0.0.1, or the path of a Unix
-/// socket, of at most 107 bytes), `mode` (the permissions of that socket, by default `"660"`), `loops` (1 to 64, by default 2),
-/// `max_connections` (1 to 1,000,000, by default 10,000) and `idle_s` (1 to 86,400,000; by default idle connections stay).
+/// socket, of at most 107 bytes), `mode` (the permissions of that socket, by default `"660"`), `loops` (1 to 64), `max_connections` (1 to
+/// 1,000,000, by default 10,000), `idle_s` (1 to 86,400,000; by default idle connections stay) and `notices` (`"values"`, the default,
+/// `"keys"` or `"off"`), and the file may have a table `metrics` with a `port`.
 pub fn read_hosted(alloc: Global, text: &str) -> Result<Hosted, ConfigError>
     ensures ok { IfOk result (λ hosted. IsTrue (are_good hosted.spaces.items)) }
     ensures said { IfOk result (λ hosted. IsConfigOf text.now hosted.spaces.items) }
@@ -80,10 +113,15 @@ pub fn read_hosted(alloc: Global, text: &str) -> Result<Hosted, ConfigError>
     let Read {
         spaces,
         hostings,
+        metrics,
         report,
     } = read_text(alloc, text, Program::Bivrangd)?;
     if report.faults.is_empty() {
-        Ok(Hosted { spaces, hostings })
+        Ok(Hosted {
+            spaces,
+            hostings,
+            metrics,
+        })
     } else {
         Err(ConfigError::Bad)
     }
@@ -119,6 +157,7 @@ pub fn check_hosted(alloc: Global, text: &str) -> Result<ConfigReport, AllocErro
 struct Read {
     spaces: Vec<HostedNamespace>,
     hostings: Vec<Hosting>,
+    metrics: Option<u16>,
     report: ConfigReport,
 }
 
@@ -134,6 +173,7 @@ fn read_text(alloc: Global, text: &str, program: Program) -> Result<Read, AllocE
         text,
         program,
         hostings: Vec::new(alloc),
+        metrics: None,
         faults: Vec::new(alloc),
         warnings: Vec::new(alloc),
     };
@@ -143,6 +183,7 @@ fn read_text(alloc: Global, text: &str, program: Program) -> Result<Read, AllocE
     }
     let Reader {
         hostings,
+        metrics,
         mut faults,
         warnings,
         ..
@@ -151,6 +192,7 @@ fn read_text(alloc: Global, text: &str, program: Program) -> Result<Read, AllocE
     Ok(Read {
         spaces,
         hostings,
+        metrics,
         report: ConfigReport { faults, warnings },
     })
 }
@@ -169,6 +211,7 @@ struct Reader<'a> {
     text: &'a str,
     program: Program,
     hostings: Vec<Hosting>,
+    metrics: Option<u16>,
     faults: Vec<ConfigFault>,
     warnings: Vec<ConfigFault>,
 }
@@ -230,6 +273,7 @@ impl Reader<'_> {
             → SaysAll (table_view document.now) spaces.items) }
     {
         self.only(document)?;
+        self.metrics(document)?;
         match at_key(document, "namespace") {
             Some(value) => self.array(value),
             None => {
@@ -239,17 +283,37 @@ impl Reader<'_> {
         }
     }
 
-    /// Refuses keys beside `namespace`.
+    /// Refuses tables that are not known.
     fn only(&mut self, document: &Table) -> Result<(), AllocError>
         ensures { OnOk result (vec_len self.old.faults ≤ vec_len self.new.faults) }
     {
+        let known = self.program.tables();
         for key in document.keys() {
-            if key.as_str() != "namespace" {
+            if !known.contains(&key.as_str()) {
                 let line = line_outside(self.text, key.as_str());
-                self.unknown(line, key.as_str(), &["namespace"])?;
+                self.unknown(line, key.as_str(), known)?;
             }
         }
         Ok(())
+    }
+
+    /// Reads where metrics are served.
+    fn metrics(&mut self, document: &Table) -> Result<(), AllocError>
+        ensures { OnOk result (vec_len self.old.faults ≤ vec_len self.new.faults) }
+    {
+        if self.program == Program::Cached {
+            return Ok(());
+        }
+        match metrics_in(document) {
+            Ok(port) => {
+                self.metrics = port;
+                Ok(())
+            }
+            Err(what) => {
+                let line = line_outside(self.text, "metrics");
+                self.add(line, format_args!("metrics {what}"))
+            }
+        }
     }
 
     /// Reads the array of namespaces.
@@ -314,35 +378,36 @@ impl Reader<'_> {
     fn known(&mut self, at: At<'_>) -> Result<(), AllocError>
         ensures { OnOk result (vec_len self.old.faults ≤ vec_len self.new.faults) }
     {
+        let known = self.program.keys();
         for key in at.table.keys() {
-            if !KEYS.contains(&key.as_str()) && !self.knows_more(key.as_str()) {
+            if !known.contains(&key.as_str()) {
                 let line = line_of_key(self.text, at.place, Part::Own, key.as_str());
-                self.unknown(line, key.as_str(), &KEYS)?;
+                self.unknown(line, key.as_str(), known)?;
             }
         }
         Ok(())
-    }
-
-    /// Whether the program knows a key that not all know.
-    fn knows_more(&self, key: &str) -> bool {
-        self.program == Program::Bivrangd && HOSTING_KEYS.contains(&key)
     }
 
     /// Reads how a namespace is hosted.
     fn hosting(&mut self, at: At<'_>) -> Result<(), AllocError>
         ensures { OnOk result (vec_len self.old.faults ≤ vec_len self.new.faults) }
     {
+        if self.program == Program::Cached {
+            return Ok(());
+        }
         let bind = self.said(at, "bind", bind_in(at.table), "")?;
         let mode = self.said(at, "mode", mode_in(at.table), 0)?;
-        let loops = self.said(at, "loops", loops_in(at.table), 1)?;
+        let loops = self.said(at, "loops", loops_in(at.table), None)?;
         let connections = self.said(at, "max_connections", connections_in(at.table), 1)?;
         let idle = self.said(at, "idle_s", idle_in(at.table), None)?;
+        let notices = self.said(at, "notices", notices_in(at.table), Notices::Values)?;
         let hosting = Hosting {
             bind: String::from_str(self.alloc, bind)?,
             mode,
             loops,
             connections,
             idle,
+            notices,
         };
         self.hostings.push(hosting)?;
         Ok(())
