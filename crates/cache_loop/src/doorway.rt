@@ -7,6 +7,9 @@ use std::io;
 use std::io::{Read, Write};
 use std::net::Shutdown;
 
+/// So many reads at most are made of what comes in when a connection is over.
+const DROPPED_READS: usize = 32;
+
 /// Where connections come in.
 #[derive(Drop)]
 pub enum Doorway {
@@ -60,20 +63,25 @@ impl Stream {
         }
     }
 
-    /// Writes a text, as much as is taken at once, and says that nothing more will come. What has come in is read, so that closing the socket
-    /// does not take the text back.
-    pub fn turn_away(&mut self, text: &[u8]) {
-        let mut buffer = [0u8; 512];
+    /// Writes a text, as much as is taken at once.
+    pub fn tell(&mut self, text: &[u8]) {
+        let _ = match self {
+            Stream::Tcp(stream) => stream.write(text),
+            Stream::Unix(stream) => stream.write(text),
+        };
+    }
+
+    /// Says that nothing more will come, and drops what has come in, unless it is much: closing a socket that has something to read takes
+    /// back what was written.
+    pub fn wind_up(&mut self) {
         match self {
             Stream::Tcp(stream) => {
-                let _ = stream.write(text);
                 let _ = stream.shutdown(Shutdown::Write);
-                let _ = stream.read(&mut buffer);
+                drop_input(stream);
             }
             Stream::Unix(stream) => {
-                let _ = stream.write(text);
                 let _ = stream.shutdown(Shutdown::Write);
-                let _ = stream.read(&mut buffer);
+                drop_input(stream);
             }
         }
     }
@@ -84,6 +92,17 @@ impl Stream {
         match self {
             Stream::Tcp(stream) => registry.reregister(stream, token, both),
             Stream::Unix(stream) => registry.reregister(stream, token, both),
+        }
+    }
+}
+
+/// Reads what has come in, unless it is much.
+fn drop_input<I: Read>(reader: &mut I) {
+    let mut buffer = [0u8; 4096];
+    for _read in 0..DROPPED_READS {
+        match reader.read(&mut buffer) {
+            Ok(count) if count == buffer.len() => {}
+            _ => return,
         }
     }
 }

@@ -229,7 +229,8 @@ impl Hall {
             crew.open.fetch_sub(1, Ordering::SeqCst);
             self.counts.refused = self.counts.refused.saturating_add(1);
             let mut stream = stream;
-            stream.turn_away(TOO_MANY);
+            stream.tell(TOO_MANY);
+            stream.wind_up();
             return None;
         }
         let admitted = self.seat(host, place, round, stream);
@@ -351,9 +352,10 @@ impl Hall {
         requires shared { H.LENT ≡ false }
         requires known { (conn : Conn) → (place : H.Place) → H.knows conn place }
     {
-        let Some(served) = self.served.try_remove(key) else {
+        let Some(mut served) = self.served.try_remove(key) else {
             return;
         };
+        served.stream.wind_up();
         let _ = served.link.close(host, place, outcome, &mut tools.loader);
         crew.open.fetch_sub(1, Ordering::SeqCst);
     }
