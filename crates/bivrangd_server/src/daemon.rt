@@ -9,7 +9,7 @@ use crate::stopping::read_orders;
 use crate::words::{Asked, take_words};
 use cache_run::{Watched, send};
 use cached_config::{
-    ConfigReport, Hosted, HostedNamespace, Hosting, check_hosted, read_hosted,
+    ConfigError, ConfigReport, Hosted, HostedNamespace, Hosting, check_hosted, read_hosted,
 };
 use cached_server::{Fault, Lines, Machine, Outlet, Scribe, Shown};
 use crossbeam_channel::{Receiver, Sender, unbounded};
@@ -95,21 +95,23 @@ fn obey<O: Write, E: Write, W: Shown, V: Shown, R: Machine + Input + Files + All
 ) -> Result<(), Fault> {
     match asked {
         Asked::Config(path) => serve_file(rt, alloc, path, shown, alarms),
-        Asked::Check(path) => check_file(&rt, alloc, path, writer),
+        Asked::Check(path) => {
+            let text = read_text(&rt, path, alarms)?;
+            check_text(alloc, path, text.as_str(), writer)
+        }
         Asked::Version => send(VERSION, writer).map_err(|_| Fault::Write),
         Asked::Help => send(USAGE, writer).map_err(|_| Fault::Write),
     }
 }
 
-/// Writes the faults of a configuration file, a line each, and its warnings. It is an error if there are faults.
-fn check_file<O: Write, R: Files + AllocGlobal>(
-    rt: &R,
+/// Writes the faults of the text of the configuration file at a path, a line each, and its warnings. It is an error if there are faults.
+fn check_text<O: Write>(
     alloc: Global,
     path: &str,
+    text: &str,
     writer: &mut Watched<O>,
 ) -> Result<(), Fault> {
-    let text = read_text(rt, path)?;
-    let ConfigReport { faults, warnings } = check_hosted(alloc, text.as_str())?;
+    let ConfigReport { faults, warnings } = check_hosted(alloc, text)?;
     for fault in &faults {
         let line = format!(in alloc; "{path}:{}: {}\n", fault.line, fault.what)?;
         send(line.as_bytes(), writer).map_err(|_| Fault::Write)?;
@@ -125,12 +127,20 @@ fn check_file<O: Write, R: Files + AllocGlobal>(
     }
 }
 
-/// The text of a file. One that cannot be read, or is not text, is a bad configuration.
-fn read_text<R: Files + AllocGlobal>(rt: &R, path: &str) -> Result<String, Fault> {
-    fs::read_to_string(rt, path).map_err(|error| match error.kind() {
-        ErrorKind::OutOfMemory => Fault::OutOfMemory,
-        _ => Fault::BadConfiguration,
-    })
+/// The text of a file. One that cannot be read, or is not text, is a bad configuration; why is said.
+fn read_text<E: Write, R: Machine + Files + AllocGlobal>(
+    rt: &R,
+    path: &str,
+    alarms: &mut Alarms<'_, R, E>,
+) -> Result<String, Fault> {
+    match fs::read_to_string(rt, path) {
+        Ok(text) => Ok(text),
+        Err(error) if error.kind() == ErrorKind::OutOfMemory => Err(Fault::OutOfMemory),
+        Err(error) => {
+            alarms.say(format_args!("{path}: {error}"));
+            Err(Fault::BadConfiguration)
+        }
+    }
 }
 
 /// Serves what the configuration file at a path says, until a line on standard input says `stop`.
@@ -141,7 +151,7 @@ fn serve_file<E: Write, W: Shown, V: Shown, R: Machine + Input + Files + AllocGl
     shown: (W, V),
     alarms: &mut Alarms<'_, R, E>,
 ) -> Result<(), Fault> {
-    let text = read_text(&rt, path)?;
+    let text = read_text(&rt, path, alarms)?;
     let (orders, told) = unbounded(alloc)?;
     let reading = Sender::clone(&orders)?;
     let reader = thread::spawn(&rt, move || read_orders(&rt, alloc, &reading));
@@ -163,7 +173,7 @@ pub fn serve_text<E: Write, W: Shown, V: Shown, R: Machine + Files>(
         spaces,
         hostings,
         metrics,
-    } = read_hosted(alloc, text)?;
+    } = read_config(alloc, text, alarms)?;
     let listeners = listen_all(&rt, alloc, &spaces, &hostings, alarms)?;
     let metrics = listen_for(&rt, metrics, alarms)?;
     let (shown, troubles) = shown;
@@ -177,6 +187,23 @@ pub fn serve_text<E: Write, W: Shown, V: Shown, R: Machine + Files>(
     house.outlet.end(&rt);
     writer.end(&rt);
     served
+}
+
+/// Reads the text of a configuration file. Its first fault is said.
+fn read_config<E: Write, R: Machine>(
+    alloc: Global,
+    text: &str,
+    alarms: &mut Alarms<'_, R, E>,
+) -> Result<Hosted, Fault> {
+    match read_hosted(alloc, text) {
+        Ok(hosted) => Ok(hosted),
+        Err(ConfigError::Bad(first)) => {
+            let (line, what) = (first.line, first.what.as_str());
+            alarms.say(format_args!("line {line}: {what}"));
+            Err(Fault::BadConfiguration)
+        }
+        Err(ConfigError::OutOfMemory) => Err(Fault::OutOfMemory),
+    }
 }
 
 /// A listener for the metrics, if there is a port for them. What is wrong is said.

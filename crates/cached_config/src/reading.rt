@@ -94,10 +94,9 @@ pub fn read_config(alloc: Global, text: &str) -> Result<Vec<HostedNamespace>, Co
     ensures text { parse_document text.now ≡ None → IsErr result }
 {
     let Read { spaces, report, .. } = read_text(alloc, text, Program::Cached)?;
-    if report.faults.is_empty() {
-        Ok(spaces)
-    } else {
-        Err(ConfigError::Bad)
+    match report.faults.into_iter().next() {
+        None => Ok(spaces),
+        Some(first) => Err(ConfigError::Bad(first)),
     }
 }
 
@@ -116,14 +115,13 @@ pub fn read_hosted(alloc: Global, text: &str) -> Result<Hosted, ConfigError>
         metrics,
         report,
     } = read_text(alloc, text, Program::Bivrangd)?;
-    if report.faults.is_empty() {
-        Ok(Hosted {
+    match report.faults.into_iter().next() {
+        None => Ok(Hosted {
             spaces,
             hostings,
             metrics,
-        })
-    } else {
-        Err(ConfigError::Bad)
+        }),
+        Some(first) => Err(ConfigError::Bad(first)),
     }
 }
 

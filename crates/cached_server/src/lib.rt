@@ -3,6 +3,7 @@
 
 mod announcing;
 mod devices;
+mod endings;
 mod hosts;
 mod lines;
 mod machine;
@@ -12,6 +13,7 @@ pub mod script;
 
 pub use announcing::{Outlet, Scribe, Site};
 pub use devices::{ListLoader, StartClock};
+pub use endings::{Cause, Ending};
 pub use lines::Lines;
 pub use machine::{Machine, Shown};
 pub use outbox::{Outbox, ROOM};
