@@ -9,7 +9,7 @@ use std::sync::{Arc, Mutex, Wait};
 use std::time::Clock;
 
 /// How many values have left a namespace, by cause.
-#[derive(Clone, Copy, Debug, PartialEq, Eq, Drop)]
+#[derive(Clone, Copy, Drop)]
 pub struct Departures {
     pub expired: u64,
     pub explicit: u64,

@@ -6,7 +6,7 @@ ghost use Rattle.cache_shared.specs.Events.{StandsAfter};
 use crate::alarms::Alarms;
 use crate::http::Metrics;
 use crate::listening::Listener;
-use crate::sources::{Reading, Source};
+use crate::sources::Source;
 use crate::starting::{Loops, Start, Told};
 use audit_model::{Config, Instant};
 use cache_loop::{Counts, Rules};
@@ -158,7 +158,7 @@ impl<R: Machine> House<R> {
         loops: usize,
     ) -> Result<Plan<R>, Fault> {
         let loops = hosting.loops.map_or(loops, |loops| loops as usize);
-        let source = Source::new(self.alloc, space.name.as_slice(), space.port)?;
+        let source = Source::new(self.alloc, &space, hosting)?;
         let space = Arc::new(self.alloc, space).map_err(|_| Fault::OutOfMemory)?;
         Ok(Plan {
             loops,
@@ -319,7 +319,7 @@ impl Watch {
         alarms: &mut Alarms<'_, R, E>,
     ) {
         for (source, seen) in sources.iter().zip(self.seen.iter_mut()) {
-            let Reading { counts, .. } = source.read(rt);
+            let counts = source.counts(rt);
             say_unserved(source, seen, &counts, alarms);
             *seen = counts;
         }

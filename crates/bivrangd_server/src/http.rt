@@ -21,7 +21,7 @@ const HEADERS: usize = 64;
 const READS: usize = 16;
 
 /// What a request asks for.
-#[derive(Clone, Copy, Debug, PartialEq, Eq, Drop)]
+#[derive(Clone, Copy, PartialEq, Eq, Drop)]
 enum Wanted {
     /// More of it has to be read.
     More,

@@ -4,6 +4,7 @@
 mod alarms;
 mod daemon;
 mod heralds;
+mod holdings;
 mod house;
 mod http;
 mod listening;

@@ -1,12 +1,14 @@
 //! The numbers of all namespaces, as text for Prometheus.
 
 use crate::sources::{Reading, Source};
+use cached_server::Machine;
 use std::alloc::{AllocError, Global};
-use std::sync::Wait;
 
 /// A number that each namespace has.
-#[derive(Clone, Copy, Debug, PartialEq, Eq, Drop)]
+#[derive(Clone, Copy, Drop)]
 enum Figure {
+    Values,
+    Weight,
     Open,
     Accepted,
     Refused,
@@ -18,7 +20,9 @@ enum Figure {
 }
 
 /// What Prometheus is told of a number: its name, its kind, and what it says.
-const FIGURES: [(Figure, &str, &str, &str); 8] = [
+const FIGURES: [(Figure, &str, &str, &str); 10] = [
+    (Figure::Values, "values", "gauge", "Values that are held."),
+    (Figure::Weight, "weight", "gauge", "What the values that are held weigh."),
     (Figure::Open, "connections", "gauge", "Open connections."),
     (
         Figure::Accepted,
@@ -65,9 +69,19 @@ const FIGURES: [(Figure, &str, &str, &str); 8] = [
 ];
 
 impl Figure {
-    /// What it is.
-    fn of(self, reading: &Reading) -> u64 {
+    /// What it is; `None` if it is not known.
+    fn of(self, reading: &Reading) -> Option<u64> {
         match self {
+            Figure::Values => reading.holding.map(|holding| holding.values),
+            Figure::Weight => reading.holding.map(|holding| holding.weight),
+            _ => Some(self.counted(reading)),
+        }
+    }
+
+    /// What it is, if it is counted.
+    fn counted(self, reading: &Reading) -> u64 {
+        match self {
+            Figure::Values | Figure::Weight => 0,
             Figure::Open => reading.open,
             Figure::Accepted => reading.counts.accepted,
             Figure::Refused => reading.counts.refused,
@@ -153,7 +167,7 @@ impl Page {
 const BOUND_TEXTS: [&str; 6] = ["0.00001", "0.0001", "0.001", "0.01", "0.1", "+Inf"];
 
 /// The numbers of all namespaces.
-pub fn show_metrics<R: Wait>(
+pub fn show_metrics<R: Machine>(
     rt: &R,
     alloc: Global,
     sources: &[Source],
@@ -166,7 +180,9 @@ pub fn show_metrics<R: Wait>(
     for (figure, name, kind, help) in &FIGURES {
         page.head(*name, *kind, *help)?;
         for (source, reading) in sources.iter().zip(&readings) {
-            page.number(*name, source, figure.of(reading))?;
+            if let Some(number) = figure.of(reading) {
+                page.number(*name, source, number)?;
+            }
         }
     }
     page.head("removals_total", "counter", "Values that have left, by cause.")?;

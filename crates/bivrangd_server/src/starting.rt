@@ -23,7 +23,7 @@ use std::thread::JoinHandle;
 const NAMESPACE: u64 = 0;
 
 /// What the program is told by its threads.
-#[derive(Clone, Copy, Debug, PartialEq, Eq, Drop)]
+#[derive(Clone, Copy, Drop)]
 pub enum Told {
     /// To stop.
     Stop,

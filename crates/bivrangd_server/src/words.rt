@@ -5,7 +5,7 @@ use std::convert::AsStr;
 use std::io::ErrorKind;
 
 /// What the words ask for.
-#[derive(Clone, Copy, Debug, PartialEq, Eq, Drop)]
+#[derive(Clone, Copy, Drop)]
 pub enum Asked<'a> {
     /// To serve what the configuration file at this path says.
     Config(&'a str),

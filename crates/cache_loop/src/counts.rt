@@ -8,7 +8,7 @@ use std::time::{Clock, Instant};
 pub const TURN_BOUNDS: [u64; 5] = [10_000, 100_000, 1_000_000, 10_000_000, 100_000_000];
 
 /// What a loop has counted since it began.
-#[derive(Clone, Copy, Debug, PartialEq, Eq, Drop)]
+#[derive(Clone, Copy, Drop)]
 pub struct Counts {
     /// Connections that were accepted.
     pub accepted: u64,

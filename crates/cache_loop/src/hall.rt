@@ -25,7 +25,7 @@ const PAUSE: u64 = 10;
 const TOO_MANY: &[u8] = b"ERR connections\n";
 
 /// Whether accepting goes on.
-#[derive(Clone, Copy, Debug, PartialEq, Eq, Drop)]
+#[derive(Clone, Copy, PartialEq, Eq, Drop)]
 enum Door {
     /// Nobody waits.
     Idle,

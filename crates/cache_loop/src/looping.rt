@@ -32,7 +32,7 @@ const EVENTS: usize = 256;
 const SECOND: u64 = 1_000_000_000;
 
 /// How connections are served.
-#[derive(Clone, Copy, Debug, Drop)]
+#[derive(Clone, Copy, Drop)]
 pub struct Rules {
     /// So many connections are accepted in one wake-up: 1 if other loops accept too.
     pub accepts: usize,
