@@ -71,10 +71,7 @@ where
 }
 
 /// Says what went wrong, and returns the status.
-fn status_of<E: Write, R: Machine>(
-    done: Result<(), Fault>,
-    alarms: &mut Alarms<'_, R, E>,
-) -> u8 {
+fn status_of<E: Write, R: Machine>(done: Result<(), Fault>, alarms: &mut Alarms<'_, R, E>) -> u8 {
     match done {
         Ok(()) => 0,
         Err(fault) => {

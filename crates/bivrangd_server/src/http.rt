@@ -3,8 +3,8 @@
 use crate::metrics::show_metrics;
 use crate::sources::Source;
 use cached_server::Machine;
-use httparse::spans::{EMPTY_HEADER_SPAN, parse_request};
 use httparse::Status;
+use httparse::spans::{EMPTY_HEADER_SPAN, parse_request};
 use std::alloc::{AllocError, Global};
 use std::io::{Read, Write};
 use std::net::{Ipv4Addr, SocketAddr, TcpListener, TcpStream};
@@ -131,12 +131,7 @@ fn serve_all<R: Machine>(
 }
 
 /// Answers the request of a connection.
-fn answer<R: Machine>(
-    rt: &R,
-    alloc: Global,
-    stream: TcpStream,
-    sources: &[Source],
-) -> Option<()> {
+fn answer<R: Machine>(rt: &R, alloc: Global, stream: TcpStream, sources: &[Source]) -> Option<()> {
     let mut stream = stream;
     let patience = Some(Duration::from_secs(1));
     stream.set_read_timeout(patience).ok()?;
@@ -186,5 +181,6 @@ fn text_for<R: Machine>(
 fn response(alloc: Global, status: &str, text: &str) -> Result<String, AllocError> {
     let length = text.len();
     format!(in alloc;
-        "HTTP/1.1 {status}\r\nContent-Type: text/plain; version=0.0.4; charset=utf-8\r\nContent-Length: {length}\r\nConnection: close\r\n\r\n{text}")
+        "HTTP/1.1 {status}\r\nContent-Type: text/plain; version=0.0.4; charset=utf-8\r\nContent-Length: {length}\r\nConnection: close\r\n\r\n{text}"
+    )
 }

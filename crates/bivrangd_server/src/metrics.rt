@@ -22,7 +22,12 @@ enum Figure {
 /// What Prometheus is told of a number: its name, its kind, and what it says.
 const FIGURES: [(Figure, &str, &str, &str); 10] = [
     (Figure::Values, "values", "gauge", "Values that are held."),
-    (Figure::Weight, "weight", "gauge", "What the values that are held weigh."),
+    (
+        Figure::Weight,
+        "weight",
+        "gauge",
+        "What the values that are held weigh.",
+    ),
     (Figure::Open, "connections", "gauge", "Open connections."),
     (
         Figure::Accepted,
@@ -104,8 +109,9 @@ struct Page {
 impl Page {
     /// Says what the numbers of a name are.
     fn head(&mut self, name: &str, kind: &str, help: &str) -> Result<(), AllocError> {
-        let lines =
-            format!(in self.alloc; "# HELP bivrangd_{name} {help}\n# TYPE bivrangd_{name} {kind}\n");
+        let lines = format!(in self.alloc;
+            "# HELP bivrangd_{name} {help}\n# TYPE bivrangd_{name} {kind}\n"
+        );
         self.text.push_str(lines?.as_str())
     }
 
@@ -127,7 +133,8 @@ impl Page {
         let space = source.name.as_str();
         let (key, value) = label;
         let line = format!(in self.alloc;
-            "bivrangd_{name}{{namespace=\"{space}\",{key}=\"{value}\"}} {number}\n");
+            "bivrangd_{name}{{namespace=\"{space}\",{key}=\"{value}\"}} {number}\n"
+        );
         self.text.push_str(line?.as_str())
     }
 
@@ -158,7 +165,8 @@ impl Page {
         let (whole, part) = (nanos / 1_000_000_000, nanos % 1_000_000_000);
         let space = source.name.as_str();
         let line = format!(in self.alloc;
-            "bivrangd_turn_seconds_sum{{namespace=\"{space}\"}} {whole}.{part:09}\n");
+            "bivrangd_turn_seconds_sum{{namespace=\"{space}\"}} {whole}.{part:09}\n"
+        );
         self.text.push_str(line?.as_str())
     }
 }
@@ -185,11 +193,19 @@ pub fn show_metrics<R: Machine>(
             }
         }
     }
-    page.head("removals_total", "counter", "Values that have left, by cause.")?;
+    page.head(
+        "removals_total",
+        "counter",
+        "Values that have left, by cause.",
+    )?;
     for (source, reading) in sources.iter().zip(&readings) {
         page.departures(source, reading)?;
     }
-    page.head("turn_seconds", "histogram", "How long a turn of a connection took.")?;
+    page.head(
+        "turn_seconds",
+        "histogram",
+        "How long a turn of a connection took.",
+    )?;
     for (source, reading) in sources.iter().zip(&readings) {
         page.turns(source, reading)?;
     }

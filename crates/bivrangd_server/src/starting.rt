@@ -14,10 +14,9 @@ use cached_server::{Fault, ListLoader, Machine, Site, StartClock};
 use crossbeam_channel::Sender;
 use mio::{Poll, Waker};
 use std::alloc::Global;
-use std::io;
 use std::sync::Arc;
-use std::thread;
 use std::thread::JoinHandle;
+use std::{io, thread};
 
 /// The namespace: it is the only one of its service.
 const NAMESPACE: u64 = 0;
@@ -160,5 +159,13 @@ fn serve_seat<L: Seating, R: Machine>(
     };
     let mut tools = Tools::new(crew.alloc, clock, counted);
     let mut sitting = Sitting::new(rt, crew.alloc, shared, &mut herald, false)?;
-    serve_all(rt, &mut sitting, &mut seat, &mut tools, &mut poll, doorway, crew)
+    serve_all(
+        rt,
+        &mut sitting,
+        &mut seat,
+        &mut tools,
+        &mut poll,
+        doorway,
+        crew,
+    )
 }

@@ -32,7 +32,8 @@ fn serve<R: Machine + Files>(rt: R, alloc: Global, text: &str, orders: Orders) -
 /// The configuration of a namespace at a port.
 fn config_of(alloc: Global, port: u16, keys: &str) -> Result<String, AllocError> {
     format!(in alloc;
-        "[[namespace]]\nname = \"m\"\nport = {port}\n{keys}\n[namespace.loads]\nk = \"v\"\n")
+        "[[namespace]]\nname = \"m\"\nport = {port}\n{keys}\n[namespace.loads]\nk = \"v\"\n"
+    )
 }
 
 /// Whether a scene comes out as it says with a server on a port, and the server ends well when it is told to stop.

@@ -10,6 +10,8 @@ mod unread;
 mod values;
 mod words;
 
-pub use listed::{ConfigError, ConfigFault, ConfigReport, HostedNamespace, Hosting, Listed, Notices};
+pub use listed::{
+    ConfigError, ConfigFault, ConfigReport, HostedNamespace, Hosting, Listed, Notices,
+};
 pub use reading::{Hosted, check_config, check_hosted, read_config, read_hosted};
 pub use unread::Unread;

@@ -7,9 +7,7 @@ ghost use Rattle.cached_config.specs.Good.{are_good};
 ghost use Rattle.cached_config.specs.Said.{IsConfigOf, Says, SaysAll, SaysLimits, SaysSpace, SaysSpaces, loads_table, said_or};
 
 use crate::good::{MOST, are_good};
-use crate::hosting::{
-    bind_in, connections_in, idle_in, loops_in, metrics_in, mode_in, notices_in,
-};
+use crate::hosting::{bind_in, connections_in, idle_in, loops_in, metrics_in, mode_in, notices_in};
 use crate::listed::{
     ConfigError, ConfigFault, ConfigReport, HostedNamespace, Hosting, Listed, Notices,
 };
