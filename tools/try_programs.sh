@@ -6,6 +6,7 @@ cd "$(dirname "$0")/.."
 failed=0
 python3 tools/refuse_allocations.py --between || failed=1
 tools/try_clients.sh || failed=1
+tools/try_clients.sh crates/bivrangd/out/bivrangd || failed=1
 tools/test_package.sh || failed=1
 PYTHONDONTWRITEBYTECODE=1 python3 tools/api_docs.py --check || failed=1
 exit $failed

@@ -97,6 +97,20 @@ pub fn reads_lines(stream: &mut TcpStream, count: u32) -> bool {
     false
 }
 
+/// Whether a text is among what is read to the end, 16 KiB at most.
+pub fn finds(stream: &mut TcpStream, wanted: &[u8]) -> bool {
+    let mut found = [0u8; 16384];
+    let mut count = 0usize;
+    for _read in 0..found.len() {
+        let rest = found.get_mut(count..).unwrap_or(&mut []);
+        match stream.read(rest) {
+            Ok(0) | Err(_) => break,
+            Ok(more) => count = count.saturating_add(more),
+        }
+    }
+    found.windows(wanted.len()).any(|window| window == wanted)
+}
+
 /// Whether nothing more is read, and that is the end.
 pub fn is_at_end(stream: &mut TcpStream) -> bool {
     matches!(stream.read(&mut [0u8; 1]), Ok(0))

@@ -4,6 +4,10 @@
 #[cfg(test)]
 mod clients;
 #[cfg(test)]
+mod hosted;
+#[cfg(test)]
+mod loads;
+#[cfg(test)]
 mod scenes;
 #[cfg(test)]
 mod servers;

@@ -1,5 +1,7 @@
 //! What clients do.
-use crate::clients::{connect, drips, ends, is_at_end, reads_lines, reads_times, sends_times};
+use crate::clients::{
+    connect, drips, ends, finds, is_at_end, reads_lines, reads_times, sends_times,
+};
 use bivrangd_server::Told;
 use cached_server::Machine;
 use crossbeam_channel::Sender;
@@ -13,6 +15,8 @@ use std::time::Duration;
 pub enum Step {
     /// Another client connects.
     Connect,
+    /// Another client connects to the port of the metrics.
+    Visit,
     /// A client sends a text so many times.
     Send(usize, &'static [u8], u32),
     /// A client sends a text byte by byte.
@@ -23,6 +27,8 @@ pub enum Step {
     Read(usize, &'static [u8], u32),
     /// A client reads so many lines, of whatever text.
     Lines(usize, u32),
+    /// A client reads to the end, and this is among what it reads.
+    Find(usize, &'static [u8]),
     /// A client reads nothing more, since the server has ended its side.
     AtEnd(usize),
     /// A client goes.
@@ -37,6 +43,8 @@ pub enum Step {
 #[derive(Drop)]
 pub struct Players {
     pub port: u16,
+    /// The port of the metrics.
+    pub metrics: u16,
     pub streams: Vec<Option<TcpStream>>,
     pub orders: Sender<Told, Global>,
 }
@@ -47,9 +55,9 @@ impl Players {
         self.streams.get_mut(number)?.as_mut()
     }
 
-    /// Another client connects.
-    fn connect<R: Machine>(&mut self, rt: &R) -> Option<bool> {
-        let stream = connect(rt, self.port)?;
+    /// Another client connects to a port.
+    fn connect<R: Machine>(&mut self, rt: &R, port: u16) -> Option<bool> {
+        let stream = connect(rt, port)?;
         self.streams.push(Some(stream)).ok()?;
         Some(true)
     }
@@ -64,7 +72,8 @@ impl Players {
     /// Plays a step. Whether it comes out as it says.
     fn play<R: Machine>(&mut self, rt: &R, step: Step) -> Option<bool> {
         match step {
-            Step::Connect => self.connect(rt),
+            Step::Connect => self.connect(rt, self.port),
+            Step::Visit => self.connect(rt, self.metrics),
             Step::Send(number, text, times) => {
                 Some(sends_times(self.client(number)?, text, times))
             }
@@ -74,6 +83,7 @@ impl Players {
                 Some(reads_times(self.client(number)?, text, times))
             }
             Step::Lines(number, count) => Some(reads_lines(self.client(number)?, count)),
+            Step::Find(number, text) => Some(finds(self.client(number)?, text)),
             Step::AtEnd(number) => Some(is_at_end(self.client(number)?)),
             Step::Leave(number) => self.leave(number),
             Step::Pause(millis) => {
