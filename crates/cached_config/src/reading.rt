@@ -283,11 +283,11 @@ impl Reader<'_> {
     fn only(&mut self, document: &Table) -> Result<(), AllocError>
         ensures { OnOk result (vec_len self.old.faults ≤ vec_len self.new.faults) }
     {
-        let known = self.program.tables();
+        let program = self.program;
         for key in document.keys() {
-            if !known.contains(&key.as_str()) {
+            if !program.tables().contains(&key.as_str()) {
                 let line = line_outside(self.text, key.as_str());
-                self.unknown(line, key.as_str(), known)?;
+                self.unknown(line, key.as_str(), program.tables())?;
             }
         }
         Ok(())
@@ -374,11 +374,11 @@ impl Reader<'_> {
     fn known(&mut self, at: At<'_>) -> Result<(), AllocError>
         ensures { OnOk result (vec_len self.old.faults ≤ vec_len self.new.faults) }
     {
-        let known = self.program.keys();
+        let program = self.program;
         for key in at.table.keys() {
-            if !known.contains(&key.as_str()) {
+            if !program.keys().contains(&key.as_str()) {
                 let line = line_of_key(self.text, at.place, Part::Own, key.as_str());
-                self.unknown(line, key.as_str(), known)?;
+                self.unknown(line, key.as_str(), program.keys())?;
             }
         }
         Ok(())
