@@ -14,14 +14,13 @@ fn gather_words<R: Env + Alloc>(rt: &R) -> io::Result<Vec<String<R::A>, R::A>> {
 
 fn main(rt: HostRuntime) -> ExitCode {
     let mut writer = Watched::new(rt.stdout());
-    let mut errors = Watched::new(rt.stderr());
     match gather_words(&rt) {
         Ok(words) => ExitCode::from(bivrangd(
             rt,
             rt.alloc(),
             &words,
             &mut writer,
-            &mut errors,
+            rt.stderr(),
             (rt.stdout(), rt.stderr()),
         )),
         Err(_) => ExitCode::from(2),

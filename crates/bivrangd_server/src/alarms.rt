@@ -9,22 +9,31 @@ use std::time::{Clock, SystemTime, UNIX_EPOCH};
 
 /// Writes messages, each on a line of its own with the time.
 #[derive(Drop)]
-pub struct Alarms<'a, R: Clock + Copy, E: Write> {
+pub struct Alarms<R: Clock + Copy, E: Write + Drop> {
     rt: R,
     alloc: Global,
-    writer: &'a mut Watched<E>,
+    writer: Watched<E>,
 }
 
-impl<'a, R: Clock + Copy, E: Write> Alarms<'a, R, E> {
+impl<R: Clock + Copy, E: Write + Drop> Alarms<R, E> {
     /// Messages go to this writer.
-    pub fn new(rt: R, alloc: Global, writer: &'a mut Watched<E>) -> Alarms<'a, R, E> {
-        Alarms { rt, alloc, writer }
+    pub fn new(rt: R, alloc: Global, writer: E) -> Alarms<R, E> {
+        Alarms {
+            rt,
+            alloc,
+            writer: Watched::new(writer),
+        }
+    }
+
+    /// Writes a text as it is. What cannot be written is lost.
+    pub fn show(&mut self, text: &[u8]) {
+        let _ = send(text, &mut self.writer);
     }
 
     /// Writes a message. What cannot be written is lost.
     pub fn say(&mut self, what: impl Display + Drop) {
         if let Ok(line) = self.line(what) {
-            let _ = send(line.as_bytes(), self.writer);
+            self.show(line.as_bytes());
         }
     }
 

@@ -43,35 +43,36 @@ fn text_of(fault: Fault) -> &'static str {
 
 /// The program, with its arguments and streams. Returns its status: 0 after it was told to stop, 1 after an error, 2 if the arguments are
 /// wrong.
-pub fn bivrangd<S: AsStr, O: Write, E: Write, W: Shown, V: Shown, R>(
+pub fn bivrangd<S: AsStr, O: Write, E: Write + Drop, W: Shown, V: Shown, R>(
     rt: R,
     alloc: Global,
     words: &[S],
     writer: &mut Watched<O>,
-    errors: &mut Watched<E>,
+    errors: E,
     shown: (W, V),
 ) -> u8
 where
     R: Machine + Input + Files + AllocGlobal,
 {
+    let mut alarms = Alarms::new(rt, alloc, errors);
     match take_words(alloc, words) {
         Ok(asked) => {
-            let mut alarms = Alarms::new(rt, alloc, errors);
             let done = obey(rt, alloc, asked, writer, &mut alarms, shown);
             status_of(done, &mut alarms)
         }
-        Err(ErrorKind::OutOfMemory) => {
-            status_of(Err(Fault::OutOfMemory), &mut Alarms::new(rt, alloc, errors))
-        }
+        Err(ErrorKind::OutOfMemory) => status_of(Err(Fault::OutOfMemory), &mut alarms),
         Err(_) => {
-            let _ = send(USAGE, errors);
+            alarms.show(USAGE);
             2
         }
     }
 }
 
 /// Says what went wrong, and returns the status.
-fn status_of<E: Write, R: Machine>(done: Result<(), Fault>, alarms: &mut Alarms<'_, R, E>) -> u8 {
+fn status_of<E: Write + Drop, R: Machine>(
+    done: Result<(), Fault>,
+    alarms: &mut Alarms<R, E>,
+) -> u8 {
     match done {
         Ok(()) => 0,
         Err(fault) => {
@@ -82,12 +83,12 @@ fn status_of<E: Write, R: Machine>(done: Result<(), Fault>, alarms: &mut Alarms<
 }
 
 /// Does what the words ask for.
-fn obey<O: Write, E: Write, W: Shown, V: Shown, R: Machine + Input + Files + AllocGlobal>(
+fn obey<O: Write, E: Write + Drop, W: Shown, V: Shown, R: Machine + Input + Files + AllocGlobal>(
     rt: R,
     alloc: Global,
     asked: Asked<'_>,
     writer: &mut Watched<O>,
-    alarms: &mut Alarms<'_, R, E>,
+    alarms: &mut Alarms<R, E>,
     shown: (W, V),
 ) -> Result<(), Fault> {
     match asked {
@@ -125,10 +126,10 @@ fn check_text<O: Write>(
 }
 
 /// The text of a file. One that cannot be read, or is not text, is a bad configuration; why is said.
-fn read_text<E: Write, R: Machine + Files + AllocGlobal>(
+fn read_text<E: Write + Drop, R: Machine + Files + AllocGlobal>(
     rt: &R,
     path: &str,
-    alarms: &mut Alarms<'_, R, E>,
+    alarms: &mut Alarms<R, E>,
 ) -> Result<String, Fault> {
     match fs::read_to_string(rt, path) {
         Ok(text) => Ok(text),
@@ -141,12 +142,12 @@ fn read_text<E: Write, R: Machine + Files + AllocGlobal>(
 }
 
 /// Serves what the configuration file at a path says, until a line on standard input says `stop`.
-fn serve_file<E: Write, W: Shown, V: Shown, R: Machine + Input + Files + AllocGlobal>(
+fn serve_file<E: Write + Drop, W: Shown, V: Shown, R: Machine + Input + Files + AllocGlobal>(
     rt: R,
     alloc: Global,
     path: &str,
     shown: (W, V),
-    alarms: &mut Alarms<'_, R, E>,
+    alarms: &mut Alarms<R, E>,
 ) -> Result<(), Fault> {
     let text = read_text(&rt, path, alarms)?;
     let (orders, told) = unbounded(alloc)?;
@@ -158,12 +159,12 @@ fn serve_file<E: Write, W: Shown, V: Shown, R: Machine + Input + Files + AllocGl
 }
 
 /// Serves what the text of a configuration file says, until it is told to stop.
-pub fn serve_text<E: Write, W: Shown, V: Shown, R: Machine + Files>(
+pub fn serve_text<E: Write + Drop, W: Shown, V: Shown, R: Machine + Files>(
     rt: R,
     alloc: Global,
     text: &str,
     shown: (W, V),
-    alarms: &mut Alarms<'_, R, E>,
+    alarms: &mut Alarms<R, E>,
     orders: Orders,
 ) -> Result<(), Fault> {
     let Hosted {
@@ -187,10 +188,10 @@ pub fn serve_text<E: Write, W: Shown, V: Shown, R: Machine + Files>(
 }
 
 /// Reads the text of a configuration file. Its first fault is said.
-fn read_config<E: Write, R: Machine>(
+fn read_config<E: Write + Drop, R: Machine>(
     alloc: Global,
     text: &str,
-    alarms: &mut Alarms<'_, R, E>,
+    alarms: &mut Alarms<R, E>,
 ) -> Result<Hosted, Fault> {
     match read_hosted(alloc, text) {
         Ok(hosted) => Ok(hosted),
@@ -204,10 +205,10 @@ fn read_config<E: Write, R: Machine>(
 }
 
 /// A listener for the metrics, if there is a port for them. What is wrong is said.
-fn listen_for<E: Write, R: Machine>(
+fn listen_for<E: Write + Drop, R: Machine>(
     rt: &R,
     port: Option<u16>,
-    alarms: &mut Alarms<'_, R, E>,
+    alarms: &mut Alarms<R, E>,
 ) -> Result<Option<(u16, TcpListener)>, Fault> {
     let Some(port) = port else {
         return Ok(None);

@@ -75,14 +75,14 @@ impl<R: Machine> House<R> {
     }
 
     /// Serves all namespaces, until all loops have ended.
-    pub fn serve<E: Write>(
+    pub fn serve<E: Write + Drop>(
         &self,
         spaces: Vec<HostedNamespace>,
         hostings: &[Hosting],
         listeners: Vec<Listener>,
         metrics: Option<(u16, TcpListener)>,
         told: &Receiver<Told, Global>,
-        alarms: &mut Alarms<'_, R, E>,
+        alarms: &mut Alarms<R, E>,
     ) -> Result<(), Fault> {
         let mut all = Loops {
             threads: Vec::new(self.alloc),
@@ -208,12 +208,12 @@ impl<R: Machine> House<R> {
 
     /// Waits until all loops have ended. When it is told to stop, it tells them; when it is told again, or after some seconds, they end at
     /// once.
-    fn wait<E: Write>(
+    fn wait<E: Write + Drop>(
         &self,
         told: &Receiver<Told, Global>,
         stoppers: &[Waker],
         sources: &[Source],
-        alarms: &mut Alarms<'_, R, E>,
+        alarms: &mut Alarms<R, E>,
     ) -> Result<(), Fault> {
         let mut watch = Watch::new(self.alloc, stoppers.len(), sources)?;
         let second = time::Duration::from_secs(1);
@@ -243,10 +243,10 @@ struct Plan<R: time::Clock + Wait + Copy> {
 }
 
 /// Says that a loop of the namespace with this number cannot go on.
-fn say_failed<E: Write, R: Machine>(
+fn say_failed<E: Write + Drop, R: Machine>(
     sources: &[Source],
     number: usize,
-    alarms: &mut Alarms<'_, R, E>,
+    alarms: &mut Alarms<R, E>,
 ) -> Fault {
     if let Some(source) = sources.get(number) {
         let (name, port) = (&source.name, source.port);
@@ -278,7 +278,7 @@ impl Watch {
     }
 
     /// Tells the loops to stop.
-    fn stop<E: Write, R: Machine>(&mut self, stoppers: &[Waker], alarms: &mut Alarms<'_, R, E>) {
+    fn stop<E: Write + Drop, R: Machine>(&mut self, stoppers: &[Waker], alarms: &mut Alarms<R, E>) {
         if self.is_stopping {
             alarms.say("stopping at once");
         } else {
@@ -292,12 +292,12 @@ impl Watch {
     }
 
     /// Notes that about a second has passed.
-    fn count_second<E: Write, R: Machine>(
+    fn count_second<E: Write + Drop, R: Machine>(
         &mut self,
         rt: &R,
         stoppers: &[Waker],
         sources: &[Source],
-        alarms: &mut Alarms<'_, R, E>,
+        alarms: &mut Alarms<R, E>,
     ) {
         self.seconds = self.seconds.saturating_add(1);
         if self.seconds < PATIENCE {
@@ -312,11 +312,11 @@ impl Watch {
     }
 
     /// Says which connections could not be served since it looked last.
-    fn look<E: Write, R: Machine>(
+    fn look<E: Write + Drop, R: Machine>(
         &mut self,
         rt: &R,
         sources: &[Source],
-        alarms: &mut Alarms<'_, R, E>,
+        alarms: &mut Alarms<R, E>,
     ) {
         for (source, seen) in sources.iter().zip(self.seen.iter_mut()) {
             let counts = source.counts(rt);
@@ -327,11 +327,11 @@ impl Watch {
 }
 
 /// Says which connections of a namespace could not be served between two readings.
-fn say_unserved<E: Write, R: Machine>(
+fn say_unserved<E: Write + Drop, R: Machine>(
     source: &Source,
     before: &Counts,
     now: &Counts,
-    alarms: &mut Alarms<'_, R, E>,
+    alarms: &mut Alarms<R, E>,
 ) {
     let (name, port) = (&source.name, source.port);
     let refused = now.refused.saturating_sub(before.refused);

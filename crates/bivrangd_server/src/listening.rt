@@ -37,12 +37,12 @@ impl Listener {
 }
 
 /// A listener for each namespace, in their order. What is wrong is said.
-pub fn listen_all<E: Write, R: Machine + Files>(
+pub fn listen_all<E: Write + Drop, R: Machine + Files>(
     rt: &R,
     alloc: Global,
     spaces: &[HostedNamespace],
     hostings: &[Hosting],
-    alarms: &mut Alarms<'_, R, E>,
+    alarms: &mut Alarms<R, E>,
 ) -> Result<Vec<Listener>, Fault> {
     let mut listeners = Vec::with_capacity(alloc, spaces.len())?;
     for (space, hosting) in spaces.iter().zip(hostings) {
@@ -58,12 +58,12 @@ pub fn listen_all<E: Write, R: Machine + Files>(
 }
 
 /// Says why a namespace cannot be served.
-fn say_refused<E: Write, R: Machine>(
+fn say_refused<E: Write + Drop, R: Machine>(
     alloc: Global,
     space: &HostedNamespace,
     hosting: &Hosting,
     error: &io::Error,
-    alarms: &mut Alarms<'_, R, E>,
+    alarms: &mut Alarms<R, E>,
 ) {
     if let Ok(name) = String::from_utf8_lossy(alloc, space.name.as_slice()) {
         let (port, bind) = (space.port, &hosting.bind);

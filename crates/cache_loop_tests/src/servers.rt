@@ -2,7 +2,6 @@
 use crate::clients::free_port;
 use crate::scenes::{Players, Step};
 use bivrangd_server::{Alarms, Orders, Told, serve_text};
-use cache_run::Watched;
 use cached_server::Machine;
 use crossbeam_channel::{Sender, unbounded};
 use std::alloc::{AllocError, Global};
@@ -23,8 +22,7 @@ struct Scene {
 
 /// Serves a text, and tells nobody. Whether it ends well.
 fn serve<R: Machine + Files>(rt: R, alloc: Global, text: &str, orders: Orders) -> bool {
-    let mut errors = Watched::new(Vec::new(alloc));
-    let mut alarms = Alarms::new(rt, alloc, &mut errors);
+    let mut alarms = Alarms::new(rt, alloc, Vec::new(alloc));
     let shown = (Vec::new(alloc), Vec::new(alloc));
     serve_text(rt, alloc, text, shown, &mut alarms, orders).is_ok()
 }
