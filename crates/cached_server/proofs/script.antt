@@ -1,4 +1,5 @@
 pub mod Ending
+pub mod Stopping
 pub mod Twice
 pub mod Calling
 pub mod Gathered

@@ -4,8 +4,8 @@ ghost use Rattle.cache_shared.specs.Recordings.{bare_spaces, no_journals};
 ghost use Rattle.cache_shared.specs.Events.{StandsAfter};
 
 use crate::announcing::{Outlet, Scribe, Site};
-use crate::machine::{Machine, Shown};
 use crate::endings::Ending;
+use crate::machine::{Machine, Shown};
 use crate::script::Fault;
 use audit_model::{Config, Instant};
 use cache_serve::host;
