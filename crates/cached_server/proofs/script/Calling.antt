@@ -1,5 +1,5 @@
 -- What the words ask for, as the parse finds it.
-use Rattle.std.proofs.Common.{codes, ◌≡◌, ◌≢◌, ◌∙◌, ap, ap₂, refl, subst, sym, true, ℕ, List, [], ◌∷◌, Option, Some, None, length, option_map}
+use Rattle.std.proofs.Common.{codes, ◌≡◌, ◌≢◌, ◌∙◌, ap, ap₂, refl, subst, sym, true, ℕ, List, [], Option, Some, None, option_map}
 use Rattle.std.specs.Prelude.{Result, IfOk, IfErr}
 use Rattle.std.specs.Option.{ok_or}
 use Rattle.clap.specs.Words.{App, HasMatchesOf, fault_of, first_of, first_value, found_of, is_simple, is_simple_and_free, matches_of}
