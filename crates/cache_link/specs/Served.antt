@@ -1,6 +1,6 @@
 -- How far a connection has come, after a turn of it.
 use Rattle.std.specs.Prelude.{◌≡◌, ◌≢◌, ◌≤◌, ◌⊎◌, ◌++◌, ℕ, true, false, List, [], Option, None, Result, MatchResult, Ok}
-use Rattle.std.specs.Io.KnownBytes.{Consumes, IsAtEnd}
+use Rattle.std.specs.Io.KnownBytes.{Appends, Consumes, IsAtEnd}
 use Rattle.audit_model.specs.declared.event.Outcome.{Outcome}
 use Rattle.cache_run.specs.Driver.Drives.{Rest, lost_of}
 use Rattle.cache_run.specs.Driver.Exchanges.{Exchange, HaveClosed, Outs}
@@ -12,6 +12,7 @@ use Rattle.cache_link.specs.Patience.{device}
 use Rattle.cache_link.specs.declared.link.Link.{Link}
 use Rattle.cache_link.specs.declared.link.Next.{Next}
 use Rattle.cache_link.specs.declared.link.Next.TheVariants.{Turn, Input, Room, Load, Over}
+use Rattle.cache_link.specs.declared.link.Report.TheVariants.{Nothing}
 use Rattle.cache_link.specs.declared.patient.Patient.{Patient}
 use Rattle.cache_link.specs.declared.tools.Tools.{Tools}
 
@@ -45,6 +46,7 @@ pub record IsAlike (s t : Link) : Type 0 where
   pub footing : t.session.footing ≡ s.session.footing
   pub inbox : t.session.inbox ≡ s.session.inbox
   pub backlog : t.backlog ≡ s.backlog
+  pub report : t.report ≡ s.report
   pub stopped : t.is_stopped ≡ s.is_stopped
   pub over : t.is_over ≡ s.is_over
 
@@ -54,7 +56,16 @@ pub record HasJustOpened (link : Link) : Type 0 where
   pub taken : link.session.taken.items ≡ []
   pub inbox : link.session.inbox ≡ []
   pub backlog : link.backlog ≡ []
+  pub report : link.report ≡ Nothing
+  pub stopped : link.is_stopped ≡ false
   pub over : link.is_over ≡ false
+
+-- All that it was owed was written, and maybe more; or nothing was read or fed.
+abbrev pub WritesFirst : {H K D R W : Type 0} → (W → Option (List ℕ)) → Link → Station H K D
+    → Station H K D → Patient R → Patient R → Patient W → Patient W → Type 0
+WritesFirst contents s p q reader reader' writer writer' =
+    ((more : List ℕ) × Appends (contents (device writer)) (contents (device writer')) (s.backlog ++ more))
+    ⊎ ((q ≡ p) × (reader' ≡ reader))
 
 -- Nothing more is fed: the input is at its end, or nothing more is read of it, and all that was read was fed; or the connection has closed;
 -- or others had closed it, so that something was refused.

@@ -4,17 +4,18 @@ ghost use Rattle.cache_run.specs.Devices.Sources.{HasToldLate};
 ghost use Rattle.cache_run.specs.Devices.Sent.{SentBut};
 ghost use Rattle.cache_run.specs.Driver.Causes.{Because};
 ghost use Rattle.cache_run.specs.Driver.Driven.{ClosesAfter};
-ghost use Rattle.cache_link.specs.Patience.{BreaksDown, is_broken_by};
-ghost use Rattle.cache_link.specs.Served.{Attends, Fetched, IsAlike, HasJustOpened, Works, TakesTurn, station, wire};
+ghost use Rattle.cache_link.specs.Patience.{BreaksDown, Grows, is_broken_by};
+ghost use Rattle.cache_link.specs.Reports.{HearsOf, Hears, report_after, report_with};
+ghost use Rattle.cache_link.specs.Served.{Attends, Fetched, IsAlike, HasJustOpened, Works, WritesFirst, TakesTurn, station, wire};
 
 use crate::attending::attend;
 use crate::backlog::Backlog;
-use crate::patient::{Patient, is_for_now};
+use crate::patient::{Patient, is_for_now, would_wait};
 use crate::tools::Tools;
 use audit_model::Conn;
 use cache_run::{Clock, Footing, Host, Inbox, Loader, Progress, RunError, Session, Watched, close};
 use std::alloc::Global;
-use std::io::{ErrorKind, Read, Write};
+use std::io::{Read, Write};
 use std::{io, mem};
 
 /// What a connection waits for.
@@ -32,15 +33,53 @@ pub enum Next {
     Over,
 }
 
+/// What a connection's socket reported and was not read.
+#[derive(Clone, Copy, Debug, PartialEq, Eq, Drop)]
+enum Report {
+    /// Nothing.
+    Nothing,
+    /// There may be bytes to read.
+    Bytes,
+    /// There may be bytes to read, and then the input ends.
+    End,
+}
+
+impl Report {
+    /// This, and what was reported after it.
+    fn with(self, is_readable: bool, is_ending: bool) -> Report
+        ensures { result ≡ report_with self is_readable is_ending }
+    {
+        if is_ending {
+            return Report::End;
+        }
+        if !is_readable {
+            return self;
+        }
+        match self {
+            Report::Nothing | Report::Bytes => Report::Bytes,
+            Report::End => Report::End,
+        }
+    }
+
+    /// What is left of this after a read that took some bytes. One that did not fill its room has taken all that there was; but the end that
+    /// came with the last bytes is not reported again.
+    fn after_read(self, is_full: bool) -> Report
+        ensures { result ≡ report_after self is_full }
+    {
+        match self {
+            Report::Bytes if !is_full => Report::Nothing,
+            _ => self,
+        }
+    }
+}
+
 /// One connection: what was read of it and not fed, and the replies to it that were not written.
 #[derive(Drop)]
 pub struct Link {
     session: Session,
     backlog: Backlog,
-    // whether there may be bytes to read
-    is_readable: bool,
-    // whether the end of the input was announced, so that a short read is not the last one
-    is_ending: bool,
+    // what its socket reported and was not read
+    report: Report,
     // whether nothing more is read
     is_stopped: bool,
     // whether nothing more is fed
@@ -73,8 +112,7 @@ impl Link {
         Ok(Link {
             session,
             backlog: Backlog::new(Vec::new(alloc)),
-            is_readable: false,
-            is_ending: false,
+            report: Report::Nothing,
             is_stopped: false,
             is_over: false,
         })
@@ -88,13 +126,17 @@ impl Link {
     }
 
     /// Notes what its socket reported: that there are bytes to read, or that the input ends.
-    pub fn wake(&mut self, is_readable: bool, is_ending: bool) {
-        self.is_readable = self.is_readable || is_readable || is_ending;
-        self.is_ending = self.is_ending || is_ending;
+    pub fn wake(&mut self, is_readable: bool, is_ending: bool)
+        ensures { self.new ≡ record self.old {
+            report = report_with self.old.report is_readable is_ending } }
+    {
+        self.report = self.report.with(is_readable, is_ending);
     }
 
     /// Reads nothing more: once what was read is answered, it is over.
-    pub fn stop(&mut self) {
+    pub fn stop(&mut self)
+        ensures { self.new ≡ record self.old { is_stopped = true } }
+    {
         self.is_stopped = true;
     }
 
@@ -120,6 +162,10 @@ impl Link {
             (wire I.remaining O.contents reader.new writer.new) }
         ensures why { IfErr result (Because (BreaksDown reader.old reader.new)
             (BreaksDown writer.old writer.new) (Unit {0}) (HasToldLate K.reads tools.new.clock)) }
+        ensures first { WritesFirst O.contents self.old (station place.old tools.old)
+            (station place.new tools.new) reader.old reader.new writer.old writer.new }
+        ensures hears { Hears I.remaining self.old.report self.new.report reader.old reader.new }
+        ensures idle { result ≡ Ok Next.Input → self.new.report ≡ Report.Nothing }
     {
         if !self.backlog.write_to(writer)? {
             return Ok(Next::Room);
@@ -150,7 +196,9 @@ impl Link {
             (wire I.remaining O.contents reader.new writer.new) }
         ensures why { IfErr result (Because (BreaksDown reader.old reader.new)
             (BreaksDown writer.old writer.new) (Unit {0}) (HasToldLate K.reads tools.new.clock)) }
-        ensures later { writer.old.broken ≤ writer.new.broken }
+        ensures grows { Grows O.contents writer.old writer.new }
+        ensures hears { Hears I.remaining self.old.report self.new.report reader.old reader.new
+            × (result ≡ Ok Next.Input → self.new.report ≡ Report.Nothing) }
     {
         let served = self.serve(host, place, reader, tools);
         // Also what was answered before an error is written.
@@ -197,6 +245,7 @@ impl Link {
             (station place.old tools.old) (station place.new tools.new) reader.old reader.new }
         ensures why { IfErr result (Because (BreaksDown reader.old reader.new) ⊥ (Unit {0})
             (HasToldLate K.reads tools.new.clock)) }
+        ensures hears { Hears I.remaining self.old.report self.new.report reader.old reader.new }
     {
         if self.session.footing == Footing::Waiting {
             return self.answer(host, place, tools);
@@ -249,6 +298,7 @@ impl Link {
             (station place.old tools.old) (station place.new tools.new) }
         ensures why { IfErr result (Because ⊥ ⊥ (Unit {0})
             (HasToldLate K.reads tools.new.clock)) }
+        ensures report { self.new.report ≡ self.old.report }
     {
         let mut bytes = mem::replace(&mut tools.bytes, Vec::new(tools.alloc));
         bytes.clear();
@@ -289,6 +339,7 @@ impl Link {
         ensures fetched { Fetched I.remaining reader.old reader.new self.old self.new }
         ensures same { (tools.new.clock ≡ tools.old.clock) × (tools.new.loader ≡ tools.old.loader) }
         ensures why { IfErr result (Because (BreaksDown reader.old reader.new) ⊥ ⊥ ⊥) }
+        ensures hears { Hears I.remaining self.old.report self.new.report reader.old reader.new }
     {
         if !self.is_fed() {
             return Ok(());
@@ -297,7 +348,7 @@ impl Link {
             self.is_over = true;
             return Ok(());
         }
-        if !self.is_readable {
+        if self.report == Report::Nothing {
             return Ok(());
         }
         let Ok(inbox) = tools.take_inbox() else {
@@ -315,22 +366,24 @@ impl Link {
             × (self.new.backlog ≡ self.old.backlog) }
         ensures over { self.new.is_over ≡ true → filled ≡ Ok 0 }
         ensures why { IfErr result (λ e. (e ≡ RunError.Read) × (is_broken_by filled ≡ true)) }
+        ensures hears { HearsOf filled self.old.report self.new.report }
     {
         match filled {
             Ok(0) => {
                 self.is_over = true;
                 Ok(())
             }
-            // A short read has taken all that there was.
             Ok(count) => {
-                self.is_readable = self.is_ending || self.session.inbox.is_filled_by(count);
+                let is_full = self.session.inbox.is_filled_by(count);
+                self.report = self.report.after_read(is_full);
                 Ok(())
             }
             Err(error) if !is_for_now(&error) => Err(RunError::Read),
-            Err(error) => {
-                self.is_readable = error.kind() == ErrorKind::Interrupted;
+            Err(error) if would_wait(&error) => {
+                self.report = Report::Nothing;
                 Ok(())
             }
+            Err(_) => Ok(()),
         }
     }
 
@@ -352,7 +405,8 @@ impl Link {
 
     /// What it waits for, if all its replies were written.
     fn next(&self) -> Next
-        ensures { result ≡ Next.Over → self.now.is_over ≡ true }
+        ensures over { result ≡ Next.Over → self.now.is_over ≡ true }
+        ensures idle { result ≡ Next.Input → self.now.report ≡ Report.Nothing }
     {
         if self.is_over {
             return Next::Over;
@@ -360,7 +414,7 @@ impl Link {
         if self.session.footing == Footing::Waiting {
             return Next::Load;
         }
-        if self.is_readable || self.is_stopped || !self.is_fed() {
+        if self.report != Report::Nothing || self.is_stopped || !self.is_fed() {
             return Next::Turn;
         }
         Next::Input

@@ -1,8 +1,9 @@
-use Rattle.std.proofs.Common.{◌≡◌, rules}
+use Rattle.std.proofs.Common.{◌≡◌, inl, rules}
 use Rattle.std.proofs.lemmas.Result.{err_from_is_err_and}
 use Rattle.cache_run.proofs.devices.Sending.{failed_after}
 use Rattle.cache_run.proofs.driver.Exchanges.{why-map}
 use Rattle.cache_link.specs.declared.link.Next.TheVariants.{Room, Over}
+use Rattle.cache_link.proofs.Patience.{appends-first}
 use Rattle.cache_link.proofs.Serving.{not-ok, served-broken, served-sent}
 use Rattle.cache_link.proofs.link.Link.turn.Goals as goal
 
@@ -27,4 +28,7 @@ pub returns-clause-goes : goal.returns-clause-goes
 returns-clause-goes g c = λ start a x. c.work.ensures.goes start a (served-sent g.H.Host g.K.Clock.reads g.D.Loader.loads c.requires.shared start a c.args.self.now _ _ c.write_to.new.self _ c.write_to.ensures.sent x)
 
 pub returns-clause-why : goal.returns-clause-why
-returns-clause-why g c = why-map c.work.result (λ broke. broke) (failed_after _ _ _ c.write_to.ensures.later c.work.ensures.later) (λ used. used) (λ late. late) c.work.ensures.why
+returns-clause-why g c = why-map c.work.result (λ broke. broke) (failed_after _ _ _ c.write_to.ensures.later c.work.ensures.grows.later) (λ used. used) (λ late. late) c.work.ensures.why
+
+pub returns-clause-first : goal.returns-clause-first
+returns-clause-first g c = inl (appends-first g.O.Write.contents c.args.writer.now c.write_to.new.writer c.work.new.writer c.write_to.new.self _ c.write_to.ensures.sent (c.in_ok-write_to.ensures.all c.if-not-branch.false) c.work.ensures.grows)
