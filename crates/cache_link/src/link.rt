@@ -21,7 +21,7 @@ use std::{io, mem};
 /// What a connection waits for.
 #[derive(Clone, Copy, Debug, PartialEq, Eq, Drop)]
 pub enum Next {
-    /// Nothing: it takes another turn when the others have had one.
+    /// Nothing: it is to take another turn when the others have had theirs.
     Turn,
     /// Bytes to read.
     Input,
@@ -29,7 +29,7 @@ pub enum Next {
     Room,
     /// A load that is requested from another connection's loader.
     Load,
-    /// It is over, and all its replies were written.
+    /// It is over: nothing more of it is fed, and all its replies were written.
     Over,
 }
 
@@ -87,7 +87,7 @@ pub struct Link {
 }
 
 impl Link {
-    /// Opens a connection of a namespace.
+    /// Opens a connection of a namespace. Returns `OutOfMemory` or the host's error; then no connection was opened.
     pub fn open<H: Host>(
         host: &mut H,
         place: &mut H::Place,
@@ -118,7 +118,7 @@ impl Link {
         })
     }
 
-    /// The connection.
+    /// Returns the connection.
     pub fn conn(&self) -> Conn
         ensures { result ≡ self.now.session.conn }
     {
@@ -128,22 +128,25 @@ impl Link {
     /// Notes what its socket reported: that there are bytes to read, or that the input ends.
     pub fn wake(&mut self, is_readable: bool, is_ending: bool)
         ensures { self.new ≡ record self.old {
-            report = report_with self.old.report is_readable is_ending } }
+          report = report_with self.old.report is_readable is_ending;
+        } }
     {
         self.report = self.report.with(is_readable, is_ending);
     }
 
-    /// Reads nothing more: once what was read is answered, it is over.
+    /// Notes that nothing more is to be read: once what was read is answered, the connection is over.
     pub fn stop(&mut self)
         ensures { self.new ≡ record self.old { is_stopped = true } }
     {
         self.is_stopped = true;
     }
 
-    /// Writes what it is owed, and if all of it was taken: reads once if all that was read was fed, feeds a piece of what was read, or looks
-    /// for the load that it waits for, settles the loads that went out, and writes the replies. Returns what it waits for then.
+    /// Writes what the connection is owed, and if the writer took all of it: reads once if all that was read was fed, feeds a piece of what
+    /// was read, or looks for the load that the connection waits for, settles the loads that went out, and writes the replies. Returns what
+    /// the connection waits for then.
     ///
-    /// After an error the caller closes it with that error.
+    /// After an error the caller closes the connection with that error: `Read` or `Write` if the device failed, `Moment` if the clock told
+    /// more than 2^63 - 1 nanoseconds, `UsedUp`, or `OutOfMemory`.
     pub fn turn<H: Host, I: Read, O: Write, K: Clock, D: Loader>(
         &mut self,
         host: &mut H,
@@ -211,7 +214,8 @@ impl Link {
         Ok(self.next())
     }
 
-    /// Closes it, unless it has closed; after an error the loads in hand are dropped, and those that have gone out.
+    /// Closes the connection, unless it has closed; after an error the loads in hand are dropped, and those that have gone out. Returns
+    /// `outcome`.
     pub fn close<H: Host, D: Loader>(
         self,
         host: &mut H,

@@ -36,7 +36,7 @@ pub struct Patient<T> {
 }
 
 impl<T> Patient<T> {
-    /// Wraps a device that has not broken down.
+    /// Wraps a device, none of whose calls is counted.
     pub fn new(inner: T) -> Patient<T>
         ensures holds { device result ≡ inner }
         ensures none { (result.broken ≡ 0) × (result.waited ≡ 0) }
@@ -72,6 +72,7 @@ impl<R: Read> Patient<R> {
             ≡ counted (not (is_for_now (error_kind error.now))) self.old.broken }
         ensures waits { self.new.waited
             ≡ counted (would_wait (error_kind error.now)) self.old.waited }
+        ensures later { self.old.broken ≤ self.new.broken }
         ensures same { self.new.inner ≡ self.old.inner }
     {
         if !is_for_now(error) {
