@@ -64,7 +64,8 @@ pub record HasJustOpened (link : Link) : Type 0 where
 abbrev pub WritesFirst : {H K D R W : Type 0} → (W → Option (List ℕ)) → Link → Station H K D
     → Station H K D → Patient R → Patient R → Patient W → Patient W → Type 0
 WritesFirst contents s p q reader reader' writer writer' =
-    ((more : List ℕ) × Appends (contents (device writer)) (contents (device writer')) (s.backlog ++ more))
+    ((more : List ℕ)
+    × Appends (contents (device writer)) (contents (device writer')) (s.backlog ++ more))
     ⊎ ((q ≡ p) × (reader' ≡ reader))
 
 -- Nothing more is fed: the input is at its end, or nothing more is read of it, and all that was read was fed; or the connection has closed;
@@ -123,11 +124,18 @@ module _ {X H K D : Type 0} (ways : Ways X H) (reads : K → ℕ → K → Type 
   EndsAs result start a link now b =
       Continued result start a link now b × (result ≡ Ok Over → IsFinished start a link now b)
 
-  -- a connection that is served takes a turn
+  -- a connection that is served goes on, and may write
+  abbrev pub Proceeds : Result Next RunError → Link → Link → Station H K D → Station H K D → Wire
+      → Wire → Type 0
+  Proceeds result s t p q b c =
+      (start : Station H K D) → (a : Wire) → IsServed start a s p b → EndsAs result start a t q c
+
+  -- a connection that was served takes a turn when others have had theirs
   abbrev pub TakesTurn : Result Next RunError → Link → Link → Station H K D → Station H K D → Wire
       → Wire → Type 0
   TakesTurn result s t p q b c =
-      (start : Station H K D) → (a : Wire) → IsServed start a s p b → EndsAs result start a t q c
+      (start before : Station H K D) → (a : Wire) → IsServed start a s before b
+      → Interlude ways reads loads s.session.conn before p → EndsAs result start a t q c
 
   -- it is served, and nothing is written
   abbrev pub Works : {R : Type 0} → (R → Option (List ℕ)) → Result (Unit {0}) RunError → Link
@@ -135,10 +143,12 @@ module _ {X H K D : Type 0} (ways : Ways X H) (reads : K → ℕ → K → Type 
   Works remaining result s t p q was is =
       (start : Station H K D) → (a : Wire) → (contents : Option (List ℕ))
       → IsServed start a s p (record { remaining = remaining (device was); contents = contents })
-      → Continued result start a t q (record { remaining = remaining (device is); contents = contents })
+      → Continued result start a t q
+      (record { remaining = remaining (device is); contents = contents })
 
   -- and nothing is read
   abbrev pub Attends : Result (Unit {0}) RunError → Link → Link → Station H K D → Station H K D
       → Type 0
   Attends result s t p q =
-      (start : Station H K D) → (a b : Wire) → IsServed start a s p b → Continued result start a t q b
+      (start : Station H K D) → (a b : Wire) → IsServed start a s p b
+      → Continued result start a t q b

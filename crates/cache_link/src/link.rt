@@ -6,7 +6,7 @@ ghost use Rattle.cache_run.specs.Driver.Causes.{Because};
 ghost use Rattle.cache_run.specs.Driver.Driven.{ClosesAfter};
 ghost use Rattle.cache_link.specs.Patience.{BreaksDown, Grows, is_broken_by};
 ghost use Rattle.cache_link.specs.Reports.{HearsOf, Hears, report_after, report_with};
-ghost use Rattle.cache_link.specs.Served.{Attends, Fetched, IsAlike, HasJustOpened, Works, WritesFirst, TakesTurn, station, wire};
+ghost use Rattle.cache_link.specs.Served.{Attends, Fetched, IsAlike, HasJustOpened, Proceeds, Works, WritesFirst, TakesTurn, station, wire};
 
 use crate::attending::attend;
 use crate::backlog::Backlog;
@@ -193,7 +193,7 @@ impl Link {
         requires going { (self.old.is_over ≡ false) × (self.old.backlog ≡ []) }
         ensures known { H.knows self.new.session.conn place.new
             × (self.new.session.conn ≡ self.old.session.conn) }
-        ensures goes { TakesTurn H.Host K.reads D.loads result self.old self.new
+        ensures goes { Proceeds H.Host K.reads D.loads result self.old self.new
             (station place.old tools.old) (station place.new tools.new)
             (wire I.remaining O.contents reader.old writer.old)
             (wire I.remaining O.contents reader.new writer.new) }
