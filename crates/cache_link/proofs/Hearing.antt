@@ -1,5 +1,5 @@
 -- What is left of a report.
-use Rattle.std.proofs.Common.{◌≡◌, ℕ, ◌<◌, List, ◌++◌, Option, Bool, true, false, refl, sym, ◌∙◌, arith, ◌⊎◌, inl, inr, Result, Ok, Err, MatchResult}
+use Rattle.std.proofs.Common.{◌≡◌, ℕ, ◌<◌, List, Option, Bool, true, false, refl, sym, ◌∙◌, arith, inl, inr, Result, Ok, Err, MatchResult}
 use Rattle.std.specs.declared.io.Error.{Error}
 use Rattle.cache_run.specs.Devices.Failures.{counted}
 use Rattle.cache_run.specs.Driver.Causes.{Obtains}

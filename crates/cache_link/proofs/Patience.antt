@@ -1,5 +1,5 @@
 -- Devices that do not wait.
-use Rattle.std.proofs.Common.{◌≡◌, ℕ, ◌≤◌, ◌-◌, ◌^◌, List, [], ◌∷◌, ◌++◌, Option, None, Some, Bool, true, false, arith, sym, subst, Result, Ok, Err, length, refl}
+use Rattle.std.proofs.Common.{◌≡◌, ℕ, ◌≤◌, List, [], ◌∷◌, ◌++◌, Option, None, Some, Bool, true, false, arith, sym, subst, Result, Ok, Err, length, refl}
 use Rattle.std.specs.Io.KnownBytes.{Appends, Consumes, IsAtEnd, Keeps}
 use Rattle.cache_run.specs.Devices.Failures.{HasFailed, counted}
 use Rattle.cache_run.proofs.devices.Sending.{appends_more, sent_all}

@@ -11,7 +11,7 @@ use Rattle.cache_link.specs.Dialogues.{Station, Dialogue, Interlude, Wire}
 use Rattle.cache_link.specs.Patience.{device}
 use Rattle.cache_link.specs.declared.link.Link.{Link}
 use Rattle.cache_link.specs.declared.link.Next.{Next}
-use Rattle.cache_link.specs.declared.link.Next.TheVariants.{Turn, Input, Room, Load, Over}
+use Rattle.cache_link.specs.declared.link.Next.TheVariants.{Over}
 use Rattle.cache_link.specs.declared.link.Report.TheVariants.{Nothing}
 use Rattle.cache_link.specs.declared.patient.Patient.{Patient}
 use Rattle.cache_link.specs.declared.tools.Tools.{Tools}

@@ -2,7 +2,7 @@ use Rattle.std.proofs.Common.{◌≡◌, ◌∙◌, ◌++◌, [], refl, sym, ap,
 use Rattle.std.proofs.lemmas.List.{append-nil}
 use Rattle.cache_run.proofs.devices.Sending.{same_consumes}
 use Rattle.cache_link.proofs.Hearing.{hears-read, hears-same}
-use Rattle.cache_link.proofs.Patience.{counted-fails, obtains-consumes, obtains-end}
+use Rattle.cache_link.proofs.Patience.{obtains-consumes, obtains-end}
 use Rattle.cache_link.proofs.Serving.{no-both}
 use Rattle.cache_link.proofs.link.Link.read.Goals as goal
 
