@@ -1,5 +1,5 @@
 -- Where a connection has closed.
-use Rattle.std.proofs.Common.{◌≡◌, List, [], ◌∷◌, ◌++◌, Option, None, Some, refl, sym, subst, MatchOption}
+use Rattle.std.proofs.Common.{◌≡◌, List, [], ◌∷◌, ◌++◌, Option, None, Some, refl}
 use Rattle.std.specs.List.{last_or}
 use Rattle.cache_run.specs.Driver.Exchanges.{Exchange, HaveClosed}
 

@@ -7,14 +7,14 @@ use Rattle.std.specs.Io.KnownBytes.{Appends, Consumes, Keeps}
 use Rattle.std.specs.Option.{option_map_or}
 use Rattle.audit_model.specs.declared.event.Outcome.{Outcome}
 use Rattle.audit_model.specs.declared.input.Conn.{Conn}
-use Rattle.cache_run.proofs.devices.Sending.{appends_more, consumes_more, same_appends, same_consumes}
+use Rattle.cache_run.proofs.devices.Sending.{appends_more, askings_more, consumes_more, readings_more, same_appends, same_consumes}
 use Rattle.cache_run.proofs.driver.Exchanges.{chain-more}
 use Rattle.cache_run.specs.Devices.Sent.{SentBut}
 use Rattle.cache_run.specs.Devices.Sources.{Asking, Askings, Readings}
 use Rattle.cache_run.specs.Driver.Drives.{Outside, Rest, Talks, asked_of, late_of, lost_of, no_rest}
 use Rattle.cache_run.specs.Driver.Exchanges.{Chain, Exchange, Hands, Outs, asks_of, askings_in, bytes_of, moments_in, pieces_in, replies_in, told_of, untaken_in}
 use Rattle.cache_run.specs.declared.driver.host.Host.{Ghosts as Ways}
-use Rattle.cache_link.specs.Dialogues.{Comes, ComesBehind, Station, Dialogue, Interlude, Wire}
+use Rattle.cache_link.specs.Dialogues.{Aside, Comes, ComesBehind, HavePassed, Station, Dialogue, Interlude, Wire}
 
 -- a byte that is read later
 abbrev pub sentinel : List ℕ
@@ -43,6 +43,21 @@ module _ {X H K D : Type 0} (ways : Ways X H) (reads : K → ℕ → K → Type 
   -- nobody had a turn
   pub interlude-none : (p : Station H K D) → Interlude ways reads loads conn p p
   interlude-none p = record { asides = []; done = refl; moments = []; told = refl; askings = []; asked = refl }
+
+  passed-more : (h : H) (xs : List Aside) (k : H) (ys : List Aside) (m : H) → HavePassed ways reads loads conn h xs k → HavePassed ways reads loads conn k ys m → HavePassed ways reads loads conn h (xs ++ ys) m
+  passed-more h [] k ys m p q = let P : H → Type 0 = λ x. HavePassed ways reads loads conn x ys m in subst P p q
+  passed-more h (x ∷ xs) k ys m p q = (p.0, p.1, passed-more p.0 xs k ys m p.2 q)
+
+  -- others had more turns
+  pub interlude-more : (p q r : Station H K D) → Interlude ways reads loads conn p q → Interlude ways reads loads conn q r → Interlude ways reads loads conn p r
+  interlude-more p q r x y = record {
+    asides = x.asides ++ y.asides;
+    done = passed-more p.place x.asides q.place y.asides r.place x.done y.done;
+    moments = x.moments ++ y.moments;
+    told = readings_more reads p.clock x.moments q.clock y.moments r.clock x.told y.told;
+    askings = x.askings ++ y.askings;
+    asked = askings_more loads p.loader x.askings q.loader y.askings r.loader x.asked y.asked;
+  }
 
   -- exchanges with the clock's readings, and with what the loader returned
   pub chain-station : (h : H) (hand : Outs) (xs : List Exchange) (k : H) (after : Outs) (c d : K) (l m : D) → Chain (ways.came conn) h hand xs k after → Readings reads c (moments_in xs) d → Askings loads l (askings_in xs) m

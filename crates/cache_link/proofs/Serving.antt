@@ -5,10 +5,10 @@ use Rattle.std.specs.Option.{option_map_or}
 use Rattle.std.specs.Io.KnownBytes.{Appends, Consumes, IsAtEnd, Keeps}
 use Rattle.audit_model.specs.declared.event.Outcome.{Outcome}
 use Rattle.audit_model.specs.declared.input.Conn.{Conn}
-use Rattle.cache_run.proofs.devices.Sending.{appends_more, consumes_more}
+use Rattle.cache_run.proofs.devices.Sending.{appends_more, consumes_more, same_appends, same_consumes}
 use Rattle.cache_run.specs.Devices.Sent.{SentBut}
 use Rattle.cache_run.specs.Driver.Driven.{ComesTo as DriverComesTo, Finished, Stopped, Underway, unfed}
-use Rattle.cache_run.specs.Driver.Drives.{Outside, Rest, Talks, lost_of}
+use Rattle.cache_run.specs.Driver.Drives.{Outside, Rest, Talks, lost_of, no_rest}
 use Rattle.cache_run.specs.Driver.Exchanges.{Exchange, HaveClosed, Outs, asks_of, pieces_in, told_of}
 use Rattle.cache_run.specs.Driver.Causes.{Because}
 use Rattle.cache_run.specs.declared.devices.errors.RunError.{RunError}
@@ -16,15 +16,15 @@ use Rattle.cache_run.specs.declared.devices.errors.RunError.TheVariants.{Moment,
 use Rattle.cache_run.specs.declared.driver.driving.Progress.{Progress}
 use Rattle.cache_run.specs.declared.driver.driving.Progress.TheVariants.{More, Over}
 use Rattle.cache_run.specs.declared.driver.host.Host.{Ghosts as Ways}
-use Rattle.cache_run.specs.declared.driver.session.Footing.TheVariants.{Closed}
+use Rattle.cache_run.specs.declared.driver.session.Footing.TheVariants.{Closed, Ready}
 use Rattle.cache_run.specs.declared.driver.session.Session.{Session}
 use Rattle.cache_link.specs.Dialogues.{ComesBehind, Dialogue, Interlude, Station, Wire}
-use Rattle.cache_link.specs.Served.{Fetched, IsAlike, IsAnswered, IsBroken, IsGoing, IsServed}
+use Rattle.cache_link.specs.Served.{Fetched, HasJustOpened, IsAlike, IsAnswered, IsBroken, IsGoing, IsServed}
 use Rattle.cache_link.specs.Patience.{device}
 use Rattle.cache_link.specs.declared.link.Link.{Link}
 use Rattle.cache_link.specs.declared.patient.Patient.{Patient}
 use Rattle.cache_link.proofs.Closing.{closed-more}
-use Rattle.cache_link.proofs.Dialogues.{dialogue-more, dialogue-sent, follows-talks, lost-is, sentinel, together}
+use Rattle.cache_link.proofs.Dialogues.{dialogue-more, dialogue-sent, follows-talks, interlude-more, interlude-none, lost-is, sentinel, together}
 
 pub no-both : (b : Bool) → b ≡ true → b ≡ false → ⊥
 no-both true holds fails = let h : true ≡ false = fails in cc
@@ -174,6 +174,44 @@ module _ {X H K D : Type 0} (ways : Ways X H) (reads : K → ℕ → K → Type 
       unsent = refl;
       few = x.few;
     }
+
+  -- a connection that was opened
+  pub served-new : (start : Station H K D) (a : Wire) (link : Link) → HasJustOpened link → IsServed ways reads loads start a link start a
+  served-new start a link fresh = record {
+    last = start;
+    rest = no_rest;
+    dialogue = record {
+      exchanges = [];
+      chain = (refl, refl);
+      read = same_consumes a.remaining;
+      sent = [];
+      wrote = same_appends a.contents;
+      replies = refl;
+      untaken = refl;
+    };
+    unsent = sym fresh.backlog;
+    all_taken = refl;
+    going = λ still. record {
+      others = interlude-none ways reads loads link.session.conn start;
+      accepted = refl;
+      unfed = sym fresh.inbox;
+      idle = fresh.taken;
+      opened = λ is. let no : Ready ≡ Closed = sym fresh.footing ∙ is in cc;
+    };
+    over = λ done. absurd (no-both link.is_over done fresh.over);
+  }
+
+  -- others had more turns
+  pub served-later : (start : Station H K D) (a : Wire) (s : Link) (p q : Station H K D) (b : Wire) → Interlude ways reads loads s.session.conn p q → IsServed ways reads loads start a s p b → IsServed ways reads loads start a s q b
+  served-later start a s p q b more x = record {
+    last = x.last;
+    rest = x.rest;
+    dialogue = x.dialogue;
+    unsent = x.unsent;
+    all_taken = x.all_taken;
+    going = λ still. let g = x.going still in record { others = interlude-more ways reads loads s.session.conn x.last p q g.others more; accepted = g.accepted; unfed = g.unfed; idle = g.idle; opened = g.opened };
+    over = x.over;
+  }
 
   -- more was read of it, or nothing more is read
   pub served-fetched : {R : Type 0} (remaining : R → Option (List ℕ)) (was is : Patient R) (start : Station H K D) (a : Wire) (s t : Link) (p : Station H K D) (w : Option (List ℕ)) → s.is_over ≡ false → Fetched remaining was is s t

@@ -1,6 +1,6 @@
 -- How far a connection has come, after a turn of it.
 use Rattle.std.specs.Prelude.{◌≡◌, ◌≢◌, ◌≤◌, ◌⊎◌, ◌++◌, ℕ, true, false, List, [], Option, None, Result, MatchResult, Ok}
-use Rattle.std.specs.Io.KnownBytes.{Consumes, IsAtEnd}
+use Rattle.std.specs.Io.KnownBytes.{Appends, Consumes, IsAtEnd}
 use Rattle.audit_model.specs.declared.event.Outcome.{Outcome}
 use Rattle.cache_run.specs.Driver.Drives.{Rest, lost_of}
 use Rattle.cache_run.specs.Driver.Exchanges.{Exchange, HaveClosed, Outs}
@@ -11,7 +11,8 @@ use Rattle.cache_link.specs.Dialogues.{Station, Dialogue, Interlude, Wire}
 use Rattle.cache_link.specs.Patience.{device}
 use Rattle.cache_link.specs.declared.link.Link.{Link}
 use Rattle.cache_link.specs.declared.link.Next.{Next}
-use Rattle.cache_link.specs.declared.link.Next.TheVariants.{Turn, Input, Room, Load, Over}
+use Rattle.cache_link.specs.declared.link.Next.TheVariants.{Over}
+use Rattle.cache_link.specs.declared.link.Report.TheVariants.{Nothing}
 use Rattle.cache_link.specs.declared.patient.Patient.{Patient}
 use Rattle.cache_link.specs.declared.tools.Tools.{Tools}
 
@@ -45,6 +46,7 @@ pub record IsAlike (s t : Link) : Type 0 where
   pub footing : t.session.footing ≡ s.session.footing
   pub inbox : t.session.inbox ≡ s.session.inbox
   pub backlog : t.backlog ≡ s.backlog
+  pub report : t.report ≡ s.report
   pub stopped : t.is_stopped ≡ s.is_stopped
   pub over : t.is_over ≡ s.is_over
 
@@ -54,7 +56,17 @@ pub record HasJustOpened (link : Link) : Type 0 where
   pub taken : link.session.taken.items ≡ []
   pub inbox : link.session.inbox ≡ []
   pub backlog : link.backlog ≡ []
+  pub report : link.report ≡ Nothing
+  pub stopped : link.is_stopped ≡ false
   pub over : link.is_over ≡ false
+
+-- All that it was owed was written, and maybe more; or nothing was read or fed.
+abbrev pub WritesFirst : {H K D R W : Type 0} → (W → Option (List ℕ)) → Link → Station H K D
+    → Station H K D → Patient R → Patient R → Patient W → Patient W → Type 0
+WritesFirst contents s p q reader reader' writer writer' =
+    ((more : List ℕ)
+    × Appends (contents (device writer)) (contents (device writer')) (s.backlog ++ more))
+    ⊎ ((q ≡ p) × (reader' ≡ reader))
 
 -- Nothing more is fed: the input is at its end, or nothing more is read of it, and all that was read was fed; or the connection has closed;
 -- or others had closed it, so that something was refused.
@@ -112,11 +124,18 @@ module _ {X H K D : Type 0} (ways : Ways X H) (reads : K → ℕ → K → Type 
   EndsAs result start a link now b =
       Continued result start a link now b × (result ≡ Ok Over → IsFinished start a link now b)
 
-  -- a connection that is served takes a turn
+  -- a connection that is served goes on, and may write
+  abbrev pub Proceeds : Result Next RunError → Link → Link → Station H K D → Station H K D → Wire
+      → Wire → Type 0
+  Proceeds result s t p q b c =
+      (start : Station H K D) → (a : Wire) → IsServed start a s p b → EndsAs result start a t q c
+
+  -- a connection that was served takes a turn when others have had theirs
   abbrev pub TakesTurn : Result Next RunError → Link → Link → Station H K D → Station H K D → Wire
       → Wire → Type 0
   TakesTurn result s t p q b c =
-      (start : Station H K D) → (a : Wire) → IsServed start a s p b → EndsAs result start a t q c
+      (start before : Station H K D) → (a : Wire) → IsServed start a s before b
+      → Interlude ways reads loads s.session.conn before p → EndsAs result start a t q c
 
   -- it is served, and nothing is written
   abbrev pub Works : {R : Type 0} → (R → Option (List ℕ)) → Result (Unit {0}) RunError → Link
@@ -124,10 +143,12 @@ module _ {X H K D : Type 0} (ways : Ways X H) (reads : K → ℕ → K → Type 
   Works remaining result s t p q was is =
       (start : Station H K D) → (a : Wire) → (contents : Option (List ℕ))
       → IsServed start a s p (record { remaining = remaining (device was); contents = contents })
-      → Continued result start a t q (record { remaining = remaining (device is); contents = contents })
+      → Continued result start a t q
+      (record { remaining = remaining (device is); contents = contents })
 
   -- and nothing is read
   abbrev pub Attends : Result (Unit {0}) RunError → Link → Link → Station H K D → Station H K D
       → Type 0
   Attends result s t p q =
-      (start : Station H K D) → (a b : Wire) → IsServed start a s p b → Continued result start a t q b
+      (start : Station H K D) → (a b : Wire) → IsServed start a s p b
+      → Continued result start a t q b

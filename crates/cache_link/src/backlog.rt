@@ -3,9 +3,9 @@ ghost use Rattle.std.specs.Prelude.{◌≡◌, ◌==◌, ◌≤◌, [], true, dr
 ghost use Rattle.cache_run.specs.Devices.Sent.{SentBut};
 ghost use Rattle.cache_link.specs.Patience.{BreaksDown, device};
 
-use crate::patient::{Patient, is_for_now};
+use crate::patient::{Patient, is_for_now, would_wait};
 use cache_run::RunError;
-use std::io::{ErrorKind, Write};
+use std::io::Write;
 use std::marker::Model;
 
 /// Replies that a connection is owed and that were not written.
@@ -78,7 +78,7 @@ impl Backlog {
                 Ok(0) => return Err(RunError::Write),
                 Ok(count) => self.skip(count),
                 Err(error) if !is_for_now(&error) => return Err(RunError::Write),
-                Err(error) if error.kind() == ErrorKind::WouldBlock => return Ok(false),
+                Err(error) if would_wait(&error) => return Ok(false),
                 Err(_) => {}
             }
         }

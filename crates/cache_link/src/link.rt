@@ -4,23 +4,24 @@ ghost use Rattle.cache_run.specs.Devices.Sources.{HasToldLate};
 ghost use Rattle.cache_run.specs.Devices.Sent.{SentBut};
 ghost use Rattle.cache_run.specs.Driver.Causes.{Because};
 ghost use Rattle.cache_run.specs.Driver.Driven.{ClosesAfter};
-ghost use Rattle.cache_link.specs.Patience.{BreaksDown, is_broken_by};
-ghost use Rattle.cache_link.specs.Served.{Attends, Fetched, IsAlike, HasJustOpened, Works, TakesTurn, station, wire};
+ghost use Rattle.cache_link.specs.Patience.{BreaksDown, Grows, is_broken_by};
+ghost use Rattle.cache_link.specs.Reports.{HearsOf, Hears, report_after, report_with};
+ghost use Rattle.cache_link.specs.Served.{Attends, Fetched, IsAlike, HasJustOpened, Proceeds, Works, WritesFirst, TakesTurn, station, wire};
 
 use crate::attending::attend;
 use crate::backlog::Backlog;
-use crate::patient::{Patient, is_for_now};
+use crate::patient::{Patient, is_for_now, would_wait};
 use crate::tools::Tools;
 use audit_model::Conn;
 use cache_run::{Clock, Footing, Host, Inbox, Loader, Progress, RunError, Session, Watched, close};
 use std::alloc::Global;
-use std::io::{ErrorKind, Read, Write};
+use std::io::{Read, Write};
 use std::{io, mem};
 
 /// What a connection waits for.
 #[derive(Clone, Copy, Debug, PartialEq, Eq, Drop)]
 pub enum Next {
-    /// Nothing: it takes another turn when the others have had one.
+    /// Nothing: it is to take another turn when the others have had theirs.
     Turn,
     /// Bytes to read.
     Input,
@@ -28,8 +29,48 @@ pub enum Next {
     Room,
     /// A load that is requested from another connection's loader.
     Load,
-    /// It is over, and all its replies were written.
+    /// It is over: nothing more of it is fed, and all its replies were written.
     Over,
+}
+
+/// What a connection's socket reported and was not read.
+#[derive(Clone, Copy, Debug, PartialEq, Eq, Drop)]
+enum Report {
+    /// Nothing.
+    Nothing,
+    /// There may be bytes to read.
+    Bytes,
+    /// There may be bytes to read, and then the input ends.
+    End,
+}
+
+impl Report {
+    /// This, and what was reported after it.
+    fn with(self, is_readable: bool, is_ending: bool) -> Report
+        ensures { result ≡ report_with self is_readable is_ending }
+    {
+        if is_ending {
+            return Report::End;
+        }
+        if !is_readable {
+            return self;
+        }
+        match self {
+            Report::Nothing | Report::Bytes => Report::Bytes,
+            Report::End => Report::End,
+        }
+    }
+
+    /// What is left of this after a read that took some bytes. One that did not fill its room has taken all that there was; but the end that
+    /// came with the last bytes is not reported again.
+    fn after_read(self, is_full: bool) -> Report
+        ensures { result ≡ report_after self is_full }
+    {
+        match self {
+            Report::Bytes if !is_full => Report::Nothing,
+            _ => self,
+        }
+    }
 }
 
 /// One connection: what was read of it and not fed, and the replies to it that were not written.
@@ -37,10 +78,8 @@ pub enum Next {
 pub struct Link {
     session: Session,
     backlog: Backlog,
-    // whether there may be bytes to read
-    is_readable: bool,
-    // whether the end of the input was announced, so that a short read is not the last one
-    is_ending: bool,
+    // what its socket reported and was not read
+    report: Report,
     // whether nothing more is read
     is_stopped: bool,
     // whether nothing more is fed
@@ -48,7 +87,7 @@ pub struct Link {
 }
 
 impl Link {
-    /// Opens a connection of a namespace.
+    /// Opens a connection of a namespace. Returns `OutOfMemory` or the host's error; then no connection was opened.
     pub fn open<H: Host>(
         host: &mut H,
         place: &mut H::Place,
@@ -73,14 +112,13 @@ impl Link {
         Ok(Link {
             session,
             backlog: Backlog::new(Vec::new(alloc)),
-            is_readable: false,
-            is_ending: false,
+            report: Report::Nothing,
             is_stopped: false,
             is_over: false,
         })
     }
 
-    /// The connection.
+    /// Returns the connection.
     pub fn conn(&self) -> Conn
         ensures { result ≡ self.now.session.conn }
     {
@@ -88,20 +126,27 @@ impl Link {
     }
 
     /// Notes what its socket reported: that there are bytes to read, or that the input ends.
-    pub fn wake(&mut self, is_readable: bool, is_ending: bool) {
-        self.is_readable = self.is_readable || is_readable || is_ending;
-        self.is_ending = self.is_ending || is_ending;
+    pub fn wake(&mut self, is_readable: bool, is_ending: bool)
+        ensures { self.new ≡ record self.old {
+          report = report_with self.old.report is_readable is_ending;
+        } }
+    {
+        self.report = self.report.with(is_readable, is_ending);
     }
 
-    /// Reads nothing more: once what was read is answered, it is over.
-    pub fn stop(&mut self) {
+    /// Notes that nothing more is to be read: once what was read is answered, the connection is over.
+    pub fn stop(&mut self)
+        ensures { self.new ≡ record self.old { is_stopped = true } }
+    {
         self.is_stopped = true;
     }
 
-    /// Writes what it is owed, and if all of it was taken: reads once if all that was read was fed, feeds a piece of what was read, or looks
-    /// for the load that it waits for, settles the loads that went out, and writes the replies. Returns what it waits for then.
+    /// Writes what the connection is owed, and if the writer took all of it: reads once if all that was read was fed, feeds a piece of what
+    /// was read, or looks for the load that the connection waits for, settles the loads that went out, and writes the replies. Returns what
+    /// the connection waits for then.
     ///
-    /// After an error the caller closes it with that error.
+    /// After an error the caller closes the connection with that error: `Read` or `Write` if the device failed, `Moment` if the clock told
+    /// more than 2^63 - 1 nanoseconds, `UsedUp`, or `OutOfMemory`.
     pub fn turn<H: Host, I: Read, O: Write, K: Clock, D: Loader>(
         &mut self,
         host: &mut H,
@@ -120,6 +165,10 @@ impl Link {
             (wire I.remaining O.contents reader.new writer.new) }
         ensures why { IfErr result (Because (BreaksDown reader.old reader.new)
             (BreaksDown writer.old writer.new) (Unit {0}) (HasToldLate K.reads tools.new.clock)) }
+        ensures first { WritesFirst O.contents self.old (station place.old tools.old)
+            (station place.new tools.new) reader.old reader.new writer.old writer.new }
+        ensures hears { Hears I.remaining self.old.report self.new.report reader.old reader.new }
+        ensures idle { result ≡ Ok Next.Input → self.new.report ≡ Report.Nothing }
     {
         if !self.backlog.write_to(writer)? {
             return Ok(Next::Room);
@@ -144,13 +193,15 @@ impl Link {
         requires going { (self.old.is_over ≡ false) × (self.old.backlog ≡ []) }
         ensures known { H.knows self.new.session.conn place.new
             × (self.new.session.conn ≡ self.old.session.conn) }
-        ensures goes { TakesTurn H.Host K.reads D.loads result self.old self.new
+        ensures goes { Proceeds H.Host K.reads D.loads result self.old self.new
             (station place.old tools.old) (station place.new tools.new)
             (wire I.remaining O.contents reader.old writer.old)
             (wire I.remaining O.contents reader.new writer.new) }
         ensures why { IfErr result (Because (BreaksDown reader.old reader.new)
             (BreaksDown writer.old writer.new) (Unit {0}) (HasToldLate K.reads tools.new.clock)) }
-        ensures later { writer.old.broken ≤ writer.new.broken }
+        ensures grows { Grows O.contents writer.old writer.new }
+        ensures hears { Hears I.remaining self.old.report self.new.report reader.old reader.new
+            × (result ≡ Ok Next.Input → self.new.report ≡ Report.Nothing) }
     {
         let served = self.serve(host, place, reader, tools);
         // Also what was answered before an error is written.
@@ -163,7 +214,8 @@ impl Link {
         Ok(self.next())
     }
 
-    /// Closes it, unless it has closed; after an error the loads in hand are dropped, and those that have gone out.
+    /// Closes the connection, unless it has closed; after an error the loads in hand are dropped, and those that have gone out. Returns
+    /// `outcome`.
     pub fn close<H: Host, D: Loader>(
         self,
         host: &mut H,
@@ -197,6 +249,7 @@ impl Link {
             (station place.old tools.old) (station place.new tools.new) reader.old reader.new }
         ensures why { IfErr result (Because (BreaksDown reader.old reader.new) ⊥ (Unit {0})
             (HasToldLate K.reads tools.new.clock)) }
+        ensures hears { Hears I.remaining self.old.report self.new.report reader.old reader.new }
     {
         if self.session.footing == Footing::Waiting {
             return self.answer(host, place, tools);
@@ -249,6 +302,7 @@ impl Link {
             (station place.old tools.old) (station place.new tools.new) }
         ensures why { IfErr result (Because ⊥ ⊥ (Unit {0})
             (HasToldLate K.reads tools.new.clock)) }
+        ensures report { self.new.report ≡ self.old.report }
     {
         let mut bytes = mem::replace(&mut tools.bytes, Vec::new(tools.alloc));
         bytes.clear();
@@ -289,6 +343,7 @@ impl Link {
         ensures fetched { Fetched I.remaining reader.old reader.new self.old self.new }
         ensures same { (tools.new.clock ≡ tools.old.clock) × (tools.new.loader ≡ tools.old.loader) }
         ensures why { IfErr result (Because (BreaksDown reader.old reader.new) ⊥ ⊥ ⊥) }
+        ensures hears { Hears I.remaining self.old.report self.new.report reader.old reader.new }
     {
         if !self.is_fed() {
             return Ok(());
@@ -297,7 +352,7 @@ impl Link {
             self.is_over = true;
             return Ok(());
         }
-        if !self.is_readable {
+        if self.report == Report::Nothing {
             return Ok(());
         }
         let Ok(inbox) = tools.take_inbox() else {
@@ -315,22 +370,24 @@ impl Link {
             × (self.new.backlog ≡ self.old.backlog) }
         ensures over { self.new.is_over ≡ true → filled ≡ Ok 0 }
         ensures why { IfErr result (λ e. (e ≡ RunError.Read) × (is_broken_by filled ≡ true)) }
+        ensures hears { HearsOf filled self.old.report self.new.report }
     {
         match filled {
             Ok(0) => {
                 self.is_over = true;
                 Ok(())
             }
-            // A short read has taken all that there was.
             Ok(count) => {
-                self.is_readable = self.is_ending || self.session.inbox.is_filled_by(count);
+                let is_full = self.session.inbox.is_filled_by(count);
+                self.report = self.report.after_read(is_full);
                 Ok(())
             }
             Err(error) if !is_for_now(&error) => Err(RunError::Read),
-            Err(error) => {
-                self.is_readable = error.kind() == ErrorKind::Interrupted;
+            Err(error) if would_wait(&error) => {
+                self.report = Report::Nothing;
                 Ok(())
             }
+            Err(_) => Ok(()),
         }
     }
 
@@ -352,7 +409,8 @@ impl Link {
 
     /// What it waits for, if all its replies were written.
     fn next(&self) -> Next
-        ensures { result ≡ Next.Over → self.now.is_over ≡ true }
+        ensures over { result ≡ Next.Over → self.now.is_over ≡ true }
+        ensures idle { result ≡ Next.Input → self.now.report ≡ Report.Nothing }
     {
         if self.is_over {
             return Next::Over;
@@ -360,7 +418,7 @@ impl Link {
         if self.session.footing == Footing::Waiting {
             return Next::Load;
         }
-        if self.is_readable || self.is_stopped || !self.is_fed() {
+        if self.report != Report::Nothing || self.is_stopped || !self.is_fed() {
             return Next::Turn;
         }
         Next::Input

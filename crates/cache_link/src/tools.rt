@@ -19,7 +19,7 @@ pub struct Tools<K, D> {
 }
 
 impl<K, D> Tools<K, D> {
-    /// A clock and a loader; room is made when it is needed.
+    /// Creates tools with this clock and this loader. Room for bytes is made when it is needed.
     pub fn new(alloc: Global, clock: K, loader: D) -> Tools<K, D>
         ensures { (result.clock ≡ clock) × (result.loader ≡ loader) }
     {

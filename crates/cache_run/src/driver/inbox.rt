@@ -1,5 +1,5 @@
 //! What was read of a connection and not fed.
-ghost use Rattle.std.specs.Prelude.{◌≡◌, ◌==◌, ◌≤◌, [], drop, length, IfOk};
+ghost use Rattle.std.specs.Prelude.{◌≡◌, ◌==◌, ◌≤◌, ◌<◌, [], false, drop, length, IfOk};
 ghost use Rattle.cache_run.specs.Driver.Causes.{Fills, Obtains};
 
 use crate::devices::{RunError, Watched};
@@ -27,7 +27,7 @@ impl Model for Inbox {
     ghost view = { λ i. drop i.from (take i.to i.buffer.items) };
 
     ghost invariant = { λ i. (i.from ≤ i.to) × (i.to ≤ length i.buffer.items)
-        × (0 < length i.buffer.items) };
+        × (0 < length i.buffer.items) × (length i.buffer.items ≤ 8192) };
 }
 
 impl Inbox {
@@ -90,8 +90,10 @@ impl Inbox {
         Ok(count)
     }
 
-    /// Returns whether it has no room for more than this many bytes.
-    pub fn is_filled_by(&self, count: usize) -> bool {
+    /// Returns whether it has no room for more than this many bytes. It never has room for more than 8,192.
+    pub fn is_filled_by(&self, count: usize) -> bool
+        ensures { result ≡ false → count < 8192 }
+    {
         self.buffer.len() <= count
     }
 

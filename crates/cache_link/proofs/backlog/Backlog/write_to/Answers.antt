@@ -1,4 +1,4 @@
-use Rattle.std.proofs.Common.{◌≡◌, ◌∙◌, arith}
+use Rattle.std.proofs.Common.{◌∙◌, arith}
 use Rattle.cache_run.proofs.devices.Sending.{sent_more, sent_kept}
 use Rattle.cache_link.proofs.backlog.Backlog.write_to.Goals as goal
 use Rattle.cache_link.proofs.backlog.Backlog.write_to.Goals.{in-Ok, in-Err-3}

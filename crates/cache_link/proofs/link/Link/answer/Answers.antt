@@ -1,4 +1,4 @@
-use Rattle.std.proofs.Common.{◌≡◌, ◌∙◌, [], refl, sym, ap, Some, rules}
+use Rattle.std.proofs.Common.{Some, rules}
 use Rattle.cache_link.proofs.Dialogues.{sentinel}
 use Rattle.cache_link.proofs.Serving.{answer-because, answered-broken, answered-on, begun}
 use Rattle.cache_link.proofs.link.Link.answer.Goals as goal

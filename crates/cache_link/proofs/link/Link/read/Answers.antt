@@ -1,7 +1,8 @@
 use Rattle.std.proofs.Common.{◌≡◌, ◌∙◌, ◌++◌, [], refl, sym, ap, inl, inr, rules}
 use Rattle.std.proofs.lemmas.List.{append-nil}
 use Rattle.cache_run.proofs.devices.Sending.{same_consumes}
-use Rattle.cache_link.proofs.Patience.{counted-fails, obtains-consumes, obtains-end}
+use Rattle.cache_link.proofs.Hearing.{hears-read, hears-same}
+use Rattle.cache_link.proofs.Patience.{obtains-consumes, obtains-end}
 use Rattle.cache_link.proofs.Serving.{no-both}
 use Rattle.cache_link.proofs.link.Link.read.Goals as goal
 
@@ -29,8 +30,8 @@ returns-then-self-clause-fetched g c = record {
   over = λ done. (search rules, inr (search rules));
 }
 
-pub returns-then-not-self-clause-fetched : goal.returns-then-not-self-clause-fetched
-returns-then-not-self-clause-fetched g c = record {
+pub returns-then-eq-clause-fetched : goal.returns-then-eq-clause-fetched
+returns-then-eq-clause-fetched g c = record {
   conn = refl;
   taken = refl;
   footing = refl;
@@ -68,3 +69,18 @@ returns-clause-fetched g c =
       over = λ done.
           let end = obtains-end _ _ _ c.fill-filled.result c.fill-filled.ensures.bytes (c.take_in.ensures.over done) in (ap (λ z. z.inbox) same.0 ∙ end.0, inl end.1);
     }
+
+pub returns-then-not-is_fed-clause-hears : goal.returns-then-not-is_fed-clause-hears
+returns-then-not-is_fed-clause-hears g c = hears-same _ _ _ _ _ refl
+
+pub returns-then-self-clause-hears : goal.returns-then-self-clause-hears
+returns-then-self-clause-hears g c = hears-same _ _ _ _ _ refl
+
+pub returns-then-eq-clause-hears : goal.returns-then-eq-clause-hears
+returns-then-eq-clause-hears g c = hears-same _ _ _ _ _ refl
+
+pub returns-in_default-clause-hears : goal.returns-in_default-clause-hears
+returns-in_default-clause-hears g c = hears-same _ _ _ _ _ refl
+
+pub returns-clause-hears : goal.returns-clause-hears
+returns-clause-hears g c = hears-read _ _ _ _ _ c.fill-filled.result c.fill-filled.new.inbox c.take_in.ensures.hears c.fill-filled.ensures.waits c.fill-filled.ensures.bytes

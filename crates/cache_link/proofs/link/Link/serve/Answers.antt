@@ -1,7 +1,8 @@
-use Rattle.std.proofs.Common.{◌≡◌, refl, sym, subst}
+use Rattle.std.proofs.Common.{refl, sym, subst}
 use Rattle.std.proofs.lemmas.Result.{err_from_is_err_and}
 use Rattle.cache_link.specs.Served.{IsServed}
 use Rattle.cache_link.proofs.Dialogues.{same-together}
+use Rattle.cache_link.proofs.Hearing.{hears-same, hears-then}
 use Rattle.cache_link.proofs.Serving.{served-broken, served-fetched}
 use Rattle.cache_link.proofs.link.Link.serve.Goals as goal
 
@@ -23,3 +24,9 @@ returns-clause-goes g c = λ start a contents x.
     (subst (λ z. IsServed g.H.Host g.K.Clock.reads g.D.Loader.loads start a c.read.new.self z (record { remaining = g.I.Read.remaining c.read.new.reader.inner; contents = contents }))
     (sym (same-together c.args.place.now c.args.place.now c.args.tools.now.clock c.read.new.tools.clock c.args.tools.now.loader c.read.new.tools.loader refl c.read.ensures.same.0 c.read.ensures.same.1))
     (served-fetched g.H.Host g.K.Clock.reads g.D.Loader.loads c.requires.shared g.I.Read.remaining c.args.reader.now c.read.new.reader start a c.args.self.now c.read.new.self _ contents c.requires.going.0 c.read.ensures.fetched x))
+
+pub returns-then-eq-clause-hears : goal.returns-then-eq-clause-hears
+returns-then-eq-clause-hears g c = hears-same _ _ _ _ _ c.answer.ensures.report
+
+pub returns-clause-hears : goal.returns-clause-hears
+returns-clause-hears g c = hears-then _ _ _ _ _ _ c.answer-2.ensures.report c.read.ensures.hears
