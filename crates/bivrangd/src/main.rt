@@ -19,6 +19,7 @@ fn main(rt: HostRuntime) -> ExitCode {
             rt,
             rt.alloc(),
             &words,
+            rt.stdin(),
             &mut writer,
             rt.stderr(),
             (rt.stdout(), rt.stderr()),

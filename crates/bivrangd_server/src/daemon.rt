@@ -15,7 +15,7 @@ use cached_server::{Fault, Lines, Machine, Outlet, Scribe, Shown};
 use crossbeam_channel::{Receiver, Sender, unbounded};
 use std::alloc::Global;
 use std::convert::AsStr;
-use std::io::{ErrorKind, Input, Write};
+use std::io::{ErrorKind, Read, Write};
 use std::net::TcpListener;
 use std::rt::Files;
 use std::sync::Arc;
@@ -43,21 +43,23 @@ fn text_of(fault: Fault) -> &'static str {
 
 /// The program, with its arguments and streams. Returns its status: 0 after it was told to stop, 1 after an error, 2 if the arguments are
 /// wrong.
-pub fn bivrangd<S: AsStr, O: Write, E: Write + Drop, W: Shown, V: Shown, R>(
+pub fn bivrangd<S: AsStr, I, O: Write, E: Write + Drop, W: Shown, V: Shown, R>(
     rt: R,
     alloc: Global,
     words: &[S],
+    input: I,
     writer: &mut Watched<O>,
     errors: E,
     shown: (W, V),
 ) -> u8
 where
-    R: Machine + Input + Files + AllocGlobal,
+    I: Read + Drop + Send + 'static,
+    R: Machine + Files + AllocGlobal,
 {
     let mut alarms = Alarms::new(rt, alloc, errors);
     match take_words(alloc, words) {
         Ok(asked) => {
-            let done = obey(rt, alloc, asked, writer, &mut alarms, shown);
+            let done = obey(rt, alloc, asked, input, writer, &mut alarms, shown);
             status_of(done, &mut alarms)
         }
         Err(ErrorKind::OutOfMemory) => status_of(Err(Fault::OutOfMemory), &mut alarms),
@@ -83,16 +85,21 @@ fn status_of<E: Write + Drop, R: Machine>(
 }
 
 /// Does what the words ask for.
-fn obey<O: Write, E: Write + Drop, W: Shown, V: Shown, R: Machine + Input + Files + AllocGlobal>(
+fn obey<I, O: Write, E: Write + Drop, W: Shown, V: Shown, R>(
     rt: R,
     alloc: Global,
     asked: Asked<'_>,
+    input: I,
     writer: &mut Watched<O>,
     alarms: &mut Alarms<R, E>,
     shown: (W, V),
-) -> Result<(), Fault> {
+) -> Result<(), Fault>
+where
+    I: Read + Drop + Send + 'static,
+    R: Machine + Files + AllocGlobal,
+{
     match asked {
-        Asked::Config(path) => serve_file(rt, alloc, path, shown, alarms),
+        Asked::Config(path) => serve_file(rt, alloc, path, input, shown, alarms),
         Asked::Check(path) => {
             let text = read_text(&rt, path, alarms)?;
             check_text(alloc, path, text.as_str(), writer)
@@ -141,18 +148,24 @@ fn read_text<E: Write + Drop, R: Machine + Files + AllocGlobal>(
     }
 }
 
-/// Serves what the configuration file at a path says, until a line on standard input says `stop`.
-fn serve_file<E: Write + Drop, W: Shown, V: Shown, R: Machine + Input + Files + AllocGlobal>(
+/// Serves what the configuration file at a path says, until a line of the input says `stop`.
+fn serve_file<I, E: Write + Drop, W: Shown, V: Shown, R>(
     rt: R,
     alloc: Global,
     path: &str,
+    input: I,
     shown: (W, V),
     alarms: &mut Alarms<R, E>,
-) -> Result<(), Fault> {
+) -> Result<(), Fault>
+where
+    I: Read + Drop + Send + 'static,
+    R: Machine + Files + AllocGlobal,
+{
     let text = read_text(&rt, path, alarms)?;
     let (orders, told) = unbounded(alloc)?;
     let reading = Sender::clone(&orders)?;
-    let reader = thread::spawn(&rt, move || read_orders(&rt, alloc, &reading));
+    let mut input = input;
+    let reader = thread::spawn(&rt, move || read_orders(&rt, &mut input, &reading));
     // It may wait for a line when the program ends.
     let _reader = reader.map_err(|_| Fault::OutOfMemory)?;
     serve_text(rt, alloc, text.as_str(), shown, alarms, (orders, told))
