@@ -3,7 +3,7 @@
 # installs where it can; skipped otherwise), in Rust (cargo without a registry; skipped if there is no cargo), those of the watcher, and
 # those of the judge of random use. The status is 1 if one fails, or if the program is missing.
 #
-#   tools/try_clients.sh [PATH_OF_CACHED]
+#   tools/try_clients.sh [PATH_OF_CACHED_OR_BIVRANGD]
 set -uo pipefail
 cd "$(dirname "$0")/.."
 program=$(realpath -m "${1:-crates/cached/out/cached}")

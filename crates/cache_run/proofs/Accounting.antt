@@ -1,19 +1,17 @@
 -- What becomes of the loads of a namespace, call by call, and over an exchange.
-use Rattle.std.proofs.Common.{◌≡◌, ℕ, suc, ◌≤◌, true, false, ◌&&◌, ◌==◌, List, [], ◌∷◌, ◌++◌, Option, Some, None, sym, ap, ◌∙◌, subst, arith, nat_lt, refl, IfSome, ◌+◌, ◌-◌, ◌<◌, ◌||◌, not, nat_le, Bool, length, is_some, inl, inr, ◌⊎◌}
-use Rattle.std.proofs.lemmas.Bool.{and_parts, and_from, eq-eqb, eqb-true, lt-ltb, or_left, or_right, cases_lt, leb-true, ltb-true, or_cases}
+use Rattle.std.proofs.Common.{◌≡◌, ℕ, suc, ◌≤◌, true, false, ◌==◌, List, [], ◌∷◌, ◌++◌, Option, Some, None, sym, ap, ◌∙◌, subst, arith, nat_lt, refl, IfSome, ◌+◌, ◌-◌, ◌<◌, ◌||◌, not, nat_le, Bool, length, is_some, inl, inr, ◌⊎◌}
+use Rattle.std.proofs.lemmas.Bool.{and_parts, eq-eqb, eqb-true, or_left, or_right, cases_lt, leb-true, ltb-true, or_cases}
 use Rattle.std.proofs.lemmas.List.{append_assoc, append-nil}
-use Rattle.std.proofs.lemmas.List.Elements.{All-append, All-cons, All-head, All-nil, All-tail}
-use Rattle.std.proofs.lemmas.List.Folds.{list_any_at, list_any-append}
+use Rattle.std.proofs.lemmas.List.Folds.{list_any-append}
 use Rattle.std.proofs.lemmas.Option.{same_Some}
-use Rattle.std.specs.List.{list_all, slice_index_or, find}
+use Rattle.std.specs.List.{list_all, find}
 use Rattle.std.specs.Option.{option_map_or, option_map}
 use Rattle.audit_model.specs.Bytewise.{same}
 use Rattle.audit_model.specs.Follows.{Follows, after_event, tasks_in}
-use Rattle.audit_model.specs.Situation.{Situation, key_in, PendingLoad}
+use Rattle.audit_model.specs.Situation.{Situation, PendingLoad}
 use Rattle.audit_model.specs.declared.event.Event.{Event}
 use Rattle.audit_model.specs.declared.input.LoadId.{LoadId}
 use Rattle.audit_model.specs.declared.transcript.Record.{Record}
-use Rattle.audit_laws.proofs.HeldStep.{same-refl}
 use Rattle.audit_laws.proofs.waiting.Sending.{all-own, one-of, send-later, settle}
 use Rattle.audit_laws.specs.Waiting.Sending.{IsSettlingOf, are_all, is_under_way}
 use Rattle.cache_commands.specs.Loads.Keys.{are_in_turn}

@@ -8,5 +8,8 @@ mod session;
 mod settling;
 
 pub use driving::{Progress, close, converse, open, outcome_of};
+pub use feeding::feed_piece;
 pub use host::{Given, Host};
+pub use inbox::Inbox;
 pub use session::{Footing, Session};
+pub use settling::settle_next;

@@ -10,5 +10,8 @@ mod loads;
 mod serving;
 
 pub use devices::{Clock, Loader, RunError, Watched, send};
-pub use driver::{Footing, Given, Host, Progress, Session, close, converse, open, outcome_of};
+pub use driver::{
+    Footing, Given, Host, Inbox, Progress, Session, close, converse, feed_piece, open, outcome_of,
+    settle_next,
+};
 pub use serving::run;

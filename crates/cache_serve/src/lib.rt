@@ -12,3 +12,4 @@ mod workers;
 pub use devices::{Devices, Teller, Untold};
 pub use hosting::{Hosted, host};
 pub use serving::{serve, serve_and_tell};
+pub use sitting::Sitting;

@@ -118,7 +118,7 @@ pub fn serve_and_tell<
     ensures used_up { IsErrOf result RunError.UsedUp → 2 ^ 64 - 1 ≤ seat.new.count }
     ensures loader { HasAskedSome D.loads loader.old loader.new }
 {
-    let Ok(mut sitting) = Sitting::new(rt, alloc, shared, teller) else {
+    let Ok(mut sitting) = Sitting::new(rt, alloc, shared, teller, true) else {
         return Err(RunError::OutOfMemory);
     };
     let mut session = open(&mut sitting, seat, alloc, namespace)?;

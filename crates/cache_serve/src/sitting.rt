@@ -31,15 +31,19 @@ pub struct Sitting<'a, L: Seating, C: Shareable, T: Teller, R: Wait> {
     teller: &'a mut T,
     notes: Vec<Note>,
     replied: usize,
+    // whether it waits for loads that are requested from other connections' loaders
+    waits: bool,
 }
 
 impl<'a, L: Seating, C: Shareable, T: Teller, R: Wait> Sitting<'a, L, C, T, R> {
-    /// What a connection is served with, with room for notes if they are received.
+    /// What a connection is served with, with room for notes if they are received. `waits` says whether it waits for loads that are requested
+    /// from other connections' loaders, or only looks.
     pub fn new(
         rt: &'a R,
         alloc: Global,
         shared: &'a SharedService<L, C>,
         teller: &'a mut T,
+        waits: bool,
     ) -> Result<Self, AllocError> {
         let room = if teller.is_told() { NOTES_AT_ONCE } else { 0 };
         Ok(Sitting {
@@ -49,6 +53,7 @@ impl<'a, L: Seating, C: Shareable, T: Teller, R: Wait> Sitting<'a, L, C, T, R> {
             teller,
             notes: Vec::with_capacity(alloc, room)?,
             replied: 0,
+            waits,
         })
     }
 
@@ -315,7 +320,9 @@ impl<L: Seating, C: Shareable, T: Teller, R: Wait> Host for Sitting<'_, L, C, T,
     }
 
     fn await_owed(&mut self, place: &mut Seat<L>, conn: Conn) -> Given {
-        self.shared.await_ready(self.rt, place, conn);
+        if self.waits {
+            self.shared.await_ready(self.rt, place, conn);
+        }
         self.take_owed(conn, true)
     }
 

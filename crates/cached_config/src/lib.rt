@@ -2,6 +2,7 @@
 #![tactic(auto)]
 
 mod good;
+mod hosting;
 mod listed;
 mod places;
 mod reading;
@@ -9,6 +10,8 @@ mod unread;
 mod values;
 mod words;
 
-pub use listed::{ConfigError, ConfigFault, ConfigReport, HostedNamespace, Listed};
-pub use reading::{check_config, read_config};
+pub use listed::{
+    ConfigError, ConfigFault, ConfigReport, HostedNamespace, Hosting, Listed, Notices,
+};
+pub use reading::{Hosted, check_config, check_hosted, read_config, read_hosted};
 pub use unread::Unread;

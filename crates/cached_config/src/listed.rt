@@ -24,6 +24,33 @@ pub struct HostedNamespace {
     pub loads: Vec<Listed>,
 }
 
+/// How `bivrangd` serves a namespace.
+#[derive(Drop)]
+pub struct Hosting {
+    /// The IP address on which it listens, or the path of a Unix socket, which begins with `/`.
+    pub bind: String,
+    /// The permissions of the socket at the path, as a number.
+    pub mode: u32,
+    /// How many loops serve it, if the file says so.
+    pub loops: Option<u64>,
+    /// How many connections may be open at once.
+    pub connections: u64,
+    /// After so many seconds without a byte a connection is closed.
+    pub idle: Option<u64>,
+    pub notices: Notices,
+}
+
+/// What `bivrangd` tells of a value that leaves.
+#[derive(Clone, Copy, Debug, PartialEq, Eq, Drop)]
+pub enum Notices {
+    /// Its key and the value.
+    Values,
+    /// Its key.
+    Keys,
+    /// Nothing.
+    Off,
+}
+
 /// A fault of a configuration file, or a warning.
 #[derive(Debug, Drop)]
 pub struct ConfigFault {

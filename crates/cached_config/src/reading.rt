@@ -7,7 +7,10 @@ ghost use Rattle.cached_config.specs.Good.{are_good};
 ghost use Rattle.cached_config.specs.Said.{IsConfigOf, Says, SaysAll, SaysLimits, SaysSpace, SaysSpaces, loads_table, said_or};
 
 use crate::good::{MOST, are_good};
-use crate::listed::{ConfigError, ConfigFault, ConfigReport, HostedNamespace, Listed};
+use crate::hosting::{bind_in, connections_in, idle_in, loops_in, metrics_in, mode_in, notices_in};
+use crate::listed::{
+    ConfigError, ConfigFault, ConfigReport, HostedNamespace, Hosting, Listed, Notices,
+};
 use crate::places::{Part, line_at, line_of_header, line_of_key, line_outside};
 use crate::values::{
     at_key, capacity_in, deadlines_in, load_in, name_in, parts_in, policy_in, port_in, time_in,
@@ -19,8 +22,8 @@ use std::alloc::{AllocError, Global};
 use std::fmt::Display;
 use toml::{Table, Value};
 
-/// The keys of a namespace's table.
-const KEYS: [&str; 10] = [
+/// The keys of a namespace's table. All programs know the first `COMMON` of them.
+const KEYS: [&str; 16] = [
     "name",
     "port",
     "capacity",
@@ -31,7 +34,51 @@ const KEYS: [&str; 10] = [
     "idle_ms",
     "deadlines",
     "loads",
+    "bind",
+    "mode",
+    "loops",
+    "max_connections",
+    "idle_s",
+    "notices",
 ];
+
+const COMMON: usize = 10;
+
+/// A program that reads configuration files. Each knows its own keys.
+#[derive(Clone, Copy, Debug, PartialEq, Eq, Drop)]
+enum Program {
+    /// `cached`: the keys of `read_config`.
+    Cached,
+    /// `bivrangd`: also those of `read_hosted`.
+    Bivrangd,
+}
+
+impl Program {
+    /// The keys of a namespace's table that it knows.
+    fn keys(self) -> &'static [&'static str] {
+        match self {
+            Program::Cached => &KEYS[..COMMON],
+            Program::Bivrangd => &KEYS,
+        }
+    }
+
+    /// The tables that it knows.
+    fn tables(self) -> &'static [&'static str] {
+        match self {
+            Program::Cached => &["namespace"],
+            Program::Bivrangd => &["namespace", "metrics"],
+        }
+    }
+}
+
+/// The namespaces of a configuration file, and how each is hosted, in the same order.
+#[derive(Drop)]
+pub struct Hosted {
+    pub spaces: Vec<HostedNamespace>,
+    pub hostings: Vec<Hosting>,
+    /// The port of 127.0.0.1 at which metrics are served, if they are.
+    pub metrics: Option<u16>,
+}
 
 /// Returns the namespaces of a configuration file, in its order.
 ///
@@ -44,9 +91,34 @@ pub fn read_config(alloc: Global, text: &str) -> Result<Vec<HostedNamespace>, Co
     ensures said { IfOk result (λ spaces. IsConfigOf text.now spaces.items) }
     ensures text { parse_document text.now ≡ None → IsErr result }
 {
-    let Read { spaces, report } = read_text(alloc, text)?;
+    let Read { spaces, report, .. } = read_text(alloc, text, Program::Cached)?;
     match report.faults.into_iter().next() {
         None => Ok(spaces),
+        Some(first) => Err(ConfigError::Bad(first)),
+    }
+}
+
+/// Like `read_config`, for `bivrangd`. In addition a namespace may have `bind` (an IP address, by default 127.0.0.1, or the path of a Unix
+/// socket, of at most 107 bytes), `mode` (the permissions of that socket, by default `"660"`), `loops` (1 to 64), `max_connections` (1 to
+/// 1,000,000, by default 10,000), `idle_s` (1 to 86,400,000; by default idle connections stay) and `notices` (`"values"`, the default,
+/// `"keys"` or `"off"`), and the file may have a table `metrics` with a `port`.
+pub fn read_hosted(alloc: Global, text: &str) -> Result<Hosted, ConfigError>
+    ensures ok { IfOk result (λ hosted. IsTrue (are_good hosted.spaces.items)) }
+    ensures said { IfOk result (λ hosted. IsConfigOf text.now hosted.spaces.items) }
+    ensures text { parse_document text.now ≡ None → IsErr result }
+{
+    let Read {
+        spaces,
+        hostings,
+        metrics,
+        report,
+    } = read_text(alloc, text, Program::Bivrangd)?;
+    match report.faults.into_iter().next() {
+        None => Ok(Hosted {
+            spaces,
+            hostings,
+            metrics,
+        }),
         Some(first) => Err(ConfigError::Bad(first)),
     }
 }
@@ -63,18 +135,30 @@ pub fn check_config(alloc: Global, text: &str) -> Result<ConfigReport, AllocErro
     ensures good { IfOk result (λ report. report.faults.items ≡ [] → (spaces : List HostedNamespace)
         × IsTrue (are_good spaces) × IsConfigOf text.now spaces) }
 {
-    Ok(read_text(alloc, text)?.report)
+    Ok(read_text(alloc, text, Program::Cached)?.report)
+}
+
+/// Like `check_config`, for what `read_hosted` accepts.
+pub fn check_hosted(alloc: Global, text: &str) -> Result<ConfigReport, AllocError>
+    ensures text { parse_document text.now ≡ None
+        → IfOk result (λ report. report.faults.items ≢ []) }
+    ensures good { IfOk result (λ report. report.faults.items ≡ [] → (spaces : List HostedNamespace)
+        × IsTrue (are_good spaces) × IsConfigOf text.now spaces) }
+{
+    Ok(read_text(alloc, text, Program::Bivrangd)?.report)
 }
 
 /// What was read of a text. Without faults a file may have these namespaces.
 #[derive(Drop)]
 struct Read {
     spaces: Vec<HostedNamespace>,
+    hostings: Vec<Hosting>,
+    metrics: Option<u16>,
     report: ConfigReport,
 }
 
 /// Reads a text.
-fn read_text(alloc: Global, text: &str) -> Result<Read, AllocError>
+fn read_text(alloc: Global, text: &str, program: Program) -> Result<Read, AllocError>
     ensures good { IfOk result
         (λ read. read.report.faults.items ≡ [] → IsTrue (are_good read.spaces.items)) }
     ensures said { IfOk result
@@ -83,6 +167,9 @@ fn read_text(alloc: Global, text: &str) -> Result<Read, AllocError>
     let mut reader = Reader {
         alloc,
         text,
+        program,
+        hostings: Vec::new(alloc),
+        metrics: None,
         faults: Vec::new(alloc),
         warnings: Vec::new(alloc),
     };
@@ -91,6 +178,8 @@ fn read_text(alloc: Global, text: &str) -> Result<Read, AllocError>
         reader.add(1, "bad configuration")?;
     }
     let Reader {
+        hostings,
+        metrics,
         mut faults,
         warnings,
         ..
@@ -98,6 +187,8 @@ fn read_text(alloc: Global, text: &str) -> Result<Read, AllocError>
     faults.sort_by_key(|fault| fault.line)?;
     Ok(Read {
         spaces,
+        hostings,
+        metrics,
         report: ConfigReport { faults, warnings },
     })
 }
@@ -114,6 +205,9 @@ struct At<'a> {
 struct Reader<'a> {
     alloc: Global,
     text: &'a str,
+    program: Program,
+    hostings: Vec<Hosting>,
+    metrics: Option<u16>,
     faults: Vec<ConfigFault>,
     warnings: Vec<ConfigFault>,
 }
@@ -175,6 +269,7 @@ impl Reader<'_> {
             → SaysAll (table_view document.now) spaces.items) }
     {
         self.only(document)?;
+        self.metrics(document)?;
         match at_key(document, "namespace") {
             Some(value) => self.array(value),
             None => {
@@ -184,17 +279,37 @@ impl Reader<'_> {
         }
     }
 
-    /// Refuses keys beside `namespace`.
+    /// Refuses tables that are not known.
     fn only(&mut self, document: &Table) -> Result<(), AllocError>
         ensures { OnOk result (vec_len self.old.faults ≤ vec_len self.new.faults) }
     {
+        let program = self.program;
         for key in document.keys() {
-            if key.as_str() != "namespace" {
+            if !program.tables().contains(&key.as_str()) {
                 let line = line_outside(self.text, key.as_str());
-                self.unknown(line, key.as_str(), &["namespace"])?;
+                self.unknown(line, key.as_str(), program.tables())?;
             }
         }
         Ok(())
+    }
+
+    /// Reads where metrics are served.
+    fn metrics(&mut self, document: &Table) -> Result<(), AllocError>
+        ensures { OnOk result (vec_len self.old.faults ≤ vec_len self.new.faults) }
+    {
+        if self.program == Program::Cached {
+            return Ok(());
+        }
+        match metrics_in(document) {
+            Ok(port) => {
+                self.metrics = port;
+                Ok(())
+            }
+            Err(what) => {
+                let line = line_outside(self.text, "metrics");
+                self.add(line, format_args!("metrics {what}"))
+            }
+        }
     }
 
     /// Reads the array of namespaces.
@@ -250,6 +365,7 @@ impl Reader<'_> {
         let at = At { place, table };
         self.known(at)?;
         let space = self.space(at)?;
+        self.hosting(at)?;
         self.twins(at, before)?;
         Ok(Some(space))
     }
@@ -258,12 +374,38 @@ impl Reader<'_> {
     fn known(&mut self, at: At<'_>) -> Result<(), AllocError>
         ensures { OnOk result (vec_len self.old.faults ≤ vec_len self.new.faults) }
     {
+        let program = self.program;
         for key in at.table.keys() {
-            if !KEYS.contains(&key.as_str()) {
+            if !program.keys().contains(&key.as_str()) {
                 let line = line_of_key(self.text, at.place, Part::Own, key.as_str());
-                self.unknown(line, key.as_str(), &KEYS)?;
+                self.unknown(line, key.as_str(), program.keys())?;
             }
         }
+        Ok(())
+    }
+
+    /// Reads how a namespace is hosted.
+    fn hosting(&mut self, at: At<'_>) -> Result<(), AllocError>
+        ensures { OnOk result (vec_len self.old.faults ≤ vec_len self.new.faults) }
+    {
+        if self.program == Program::Cached {
+            return Ok(());
+        }
+        let bind = self.said(at, "bind", bind_in(at.table), "")?;
+        let mode = self.said(at, "mode", mode_in(at.table), 0)?;
+        let loops = self.said(at, "loops", loops_in(at.table), None)?;
+        let connections = self.said(at, "max_connections", connections_in(at.table), 1)?;
+        let idle = self.said(at, "idle_s", idle_in(at.table), None)?;
+        let notices = self.said(at, "notices", notices_in(at.table), Notices::Values)?;
+        let hosting = Hosting {
+            bind: String::from_str(self.alloc, bind)?,
+            mode,
+            loops,
+            connections,
+            idle,
+            notices,
+        };
+        self.hostings.push(hosting)?;
         Ok(())
     }
 

@@ -79,7 +79,7 @@ pub fn time_in(table: &Table, key: &str) -> Result<Option<u64>, &'static str>
 }
 
 /// The number that a table says at a key, if it does; an error if it is not within bounds.
-fn number_at(
+pub fn number_at(
     table: &Table,
     key: &str,
     least: u64,

@@ -1,6 +1,6 @@
 -- Why a driver stops, and the result of a read.
 use Rattle.std.specs.Prelude.{◌≤◌, ◌+◌, ◌^◌, ◌-◌, ℕ, List, length, min, Option, Result, Ok, Err, ◌≡◌, ◌<◌, ◌⊎◌, ◌++◌, Bool, true, false, [], MatchResult}
-use Rattle.std.specs.Io.KnownBytes.{Consumes, IsAtEnd}
+use Rattle.std.specs.Io.KnownBytes.{Consumes, IsAtEnd, Keeps}
 use Rattle.audit_model.specs.declared.event.Outcome.{Outcome}
 use Rattle.cache_run.specs.Devices.Failures.{HasFailed}
 use Rattle.cache_run.specs.Devices.Sources.{Asking, Askings}
@@ -71,3 +71,9 @@ module _ {R : Type 0} (remaining : R → Option (List ℕ)) (old new : List ℕ)
   -- an error comes from the reader
   abbrev pub Fills : Result Bool RunError → Type 0
   Fills result = Reads × MatchResult result GoesOn (λ e. (e ≡ Read) × Fails was is)
+
+-- Bytes were read, none only at the end; after an error none.
+abbrev pub Obtains : {E : Type 0} → Option (List ℕ) → Option (List ℕ) → List ℕ → Result ℕ E → Type 0
+Obtains before after bytes result =
+    MatchResult result (λ n. Consumes before after bytes × (length bytes ≡ n)
+    × (n ≡ 0 → IsAtEnd after)) (λ e. (bytes ≡ []) × Keeps before after)

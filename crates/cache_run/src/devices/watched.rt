@@ -26,6 +26,14 @@ impl<T> Watched<T> {
         Watched { inner, failed: 0 }
     }
 
+    /// Returns the device, and drops the count.
+    pub fn into_inner(self) -> T
+        ensures { result ≡ device self }
+    {
+        let Watched { inner, .. } = self;
+        inner
+    }
+
     /// Returns the device.
     pub fn inner(&self) -> &T
         ensures { result.now ≡ device self.now }

@@ -1,9 +1,10 @@
 //! What was read of a connection and not fed.
-ghost use Rattle.std.specs.Prelude.{◌≡◌, ◌==◌, ◌≤◌, [], drop, length, IfOk};
-ghost use Rattle.cache_run.specs.Driver.Causes.{Fills};
+ghost use Rattle.std.specs.Prelude.{◌≡◌, ◌==◌, ◌≤◌, ◌<◌, [], false, drop, length, IfOk};
+ghost use Rattle.cache_run.specs.Driver.Causes.{Fills, Obtains};
 
 use crate::devices::{RunError, Watched};
 use std::alloc::{AllocError, Global};
+use std::io;
 use std::io::{ErrorKind, Read};
 use std::marker::Model;
 
@@ -26,7 +27,7 @@ impl Model for Inbox {
     ghost view = { λ i. drop i.from (take i.to i.buffer.items) };
 
     ghost invariant = { λ i. (i.from ≤ i.to) × (i.to ≤ length i.buffer.items)
-        × (0 < length i.buffer.items) };
+        × (0 < length i.buffer.items) × (length i.buffer.items ≤ 8192) };
 }
 
 impl Inbox {
@@ -35,6 +36,18 @@ impl Inbox {
         ensures { IfOk result (λ inbox. inbox ≡ []) }
     {
         let buffer = vec![in alloc; 0u8; PIECE_BYTES]?;
+        Ok(Inbox {
+            buffer,
+            from: 0,
+            to: 0,
+        })
+    }
+
+    /// Creates an empty inbox with room for one byte, for a connection of which nothing is read for now.
+    pub fn small(alloc: Global) -> Result<Inbox, AllocError>
+        ensures { IfOk result (λ inbox. inbox ≡ []) }
+    {
+        let buffer = vec![in alloc; 0u8]?;
         Ok(Inbox {
             buffer,
             from: 0,
@@ -62,6 +75,34 @@ impl Inbox {
         ensures { self.new ≡ drop count self.old }
     {
         self.from += count;
+    }
+
+    /// Reads once, if all bytes were fed, as many bytes as there is room for. Returns how many: none at the end of the input. After an error
+    /// none was read.
+    pub fn fill<I: Read>(&mut self, reader: &mut I) -> io::Result<usize>
+        requires { self.old ≡ [] }
+        ensures { Obtains (I.remaining reader.old) (I.remaining reader.new) self.new result }
+    {
+        self.from = 0;
+        self.to = 0;
+        let count = reader.read(&mut self.buffer)?;
+        self.to = count;
+        Ok(count)
+    }
+
+    /// Returns whether it has no room for more than this many bytes. It never has room for more than 8,192.
+    pub fn is_filled_by(&self, count: usize) -> bool
+        ensures { result ≡ false → count < 8192 }
+    {
+        self.buffer.len() <= count
+    }
+
+    /// Drops all bytes.
+    pub fn clear(&mut self)
+        ensures { self.new ≡ [] }
+    {
+        self.from = 0;
+        self.to = 0;
     }
 
     /// Reads a piece, if all bytes were fed. Returns whether there may be more: not at the end of the input. After an interrupted read

@@ -1,0 +1,5 @@
+pub mod Closing
+pub mod Dialogues
+pub mod Hearing
+pub mod Patience
+pub mod Serving

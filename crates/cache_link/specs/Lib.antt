@@ -1,0 +1,4 @@
+pub mod Patience
+pub mod Reports
+pub mod Dialogues
+pub mod Served

@@ -1,0 +1,139 @@
+//! What a loop counts.
+
+use std::io;
+use std::io::{Read, Write};
+use std::time::{Clock, Instant};
+
+/// The bounds of the turns that are counted together, in nanoseconds: a turn belongs to the first that is not below its length.
+pub const TURN_BOUNDS: [u64; 5] = [10_000, 100_000, 1_000_000, 10_000_000, 100_000_000];
+
+/// What a loop has counted since it began.
+#[derive(Clone, Copy, Drop)]
+pub struct Counts {
+    /// Connections that were accepted.
+    pub accepted: u64,
+    /// Accepted connections for which there was no place.
+    pub refused: u64,
+    /// Connections that were closed because they were idle.
+    pub idle: u64,
+    /// Accepts that failed for lack of descriptors or memory.
+    pub starved: u64,
+    /// Bytes that were read.
+    pub read: u64,
+    /// Bytes that were written.
+    pub written: u64,
+    /// Loads that a loader was asked for.
+    pub loads: u64,
+    /// Turns within each of the bounds and above the one before, and those above the last.
+    pub turns: [u64; 6],
+    /// How many nanoseconds all turns took.
+    pub nanos: u64,
+}
+
+impl Counts {
+    /// Nothing was counted.
+    pub fn new() -> Counts {
+        Counts {
+            accepted: 0,
+            refused: 0,
+            idle: 0,
+            starved: 0,
+            read: 0,
+            written: 0,
+            loads: 0,
+            turns: [0; 6],
+            nanos: 0,
+        }
+    }
+
+    /// Adds what another loop has counted.
+    pub fn add(&mut self, other: &Counts) {
+        self.accepted = self.accepted.saturating_add(other.accepted);
+        self.refused = self.refused.saturating_add(other.refused);
+        self.idle = self.idle.saturating_add(other.idle);
+        self.starved = self.starved.saturating_add(other.starved);
+        self.read = self.read.saturating_add(other.read);
+        self.written = self.written.saturating_add(other.written);
+        self.loads = self.loads.saturating_add(other.loads);
+        for (turns, more) in self.turns.iter_mut().zip(&other.turns) {
+            *turns = turns.saturating_add(*more);
+        }
+        self.nanos = self.nanos.saturating_add(other.nanos);
+    }
+
+    /// Counts a turn that took so many nanoseconds.
+    pub fn count_turn(&mut self, nanos: u64) {
+        let place = TURN_BOUNDS.iter().position(|bound| nanos <= *bound);
+        if let Some(turns) = self.turns.get_mut(place.unwrap_or(TURN_BOUNDS.len())) {
+            *turns = turns.saturating_add(1);
+        }
+        self.nanos = self.nanos.saturating_add(nanos);
+    }
+}
+
+/// A reader or a writer whose bytes are counted.
+#[derive(Drop)]
+pub struct Metered<'a, T> {
+    inner: T,
+    bytes: &'a mut u64,
+}
+
+impl<'a, T> Metered<'a, T> {
+    /// Adds the bytes of a device to a count.
+    pub fn new(inner: T, bytes: &'a mut u64) -> Metered<'a, T> {
+        Metered { inner, bytes }
+    }
+}
+
+impl<T: Read> Read for Metered<'_, T> {
+    fn read(&mut self, buf: &mut [u8]) -> io::Result<usize> {
+        let count = self.inner.read(buf)?;
+        *self.bytes = self.bytes.saturating_add(count as u64);
+        Ok(count)
+    }
+}
+
+impl<T: Write> Write for Metered<'_, T> {
+    fn write(&mut self, buf: &[u8]) -> io::Result<usize> {
+        let count = self.inner.write(buf)?;
+        *self.bytes = self.bytes.saturating_add(count as u64);
+        Ok(count)
+    }
+
+    fn flush(&mut self) -> io::Result<()> {
+        self.inner.flush()
+    }
+}
+
+/// Tells how much time has passed.
+#[derive(Drop)]
+pub struct Stopwatch {
+    since: Option<Instant>,
+}
+
+impl Stopwatch {
+    /// It begins at its first lap.
+    pub fn new() -> Stopwatch {
+        Stopwatch { since: None }
+    }
+
+    /// How many nanoseconds have passed since the last lap; none if the clock cannot be read.
+    pub fn lap<R: Clock>(&mut self, rt: &R) -> u64 {
+        let Ok(now) = Instant::now(rt) else {
+            return 0;
+        };
+        let nanos = self.nanos_to(now);
+        self.since = Some(now);
+        nanos
+    }
+
+    /// How many nanoseconds have passed since the last lap, at this time.
+    fn nanos_to(&self, now: Instant) -> u64 {
+        match &self.since {
+            Some(since) => {
+                u64::try_from(now.saturating_duration_since(*since).as_nanos()).unwrap_or(u64::MAX)
+            }
+            None => 0,
+        }
+    }
+}

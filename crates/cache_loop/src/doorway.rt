@@ -1,0 +1,108 @@
+//! Sockets of the network, and of a path.
+
+use mio::event::Source;
+use mio::net::{TcpListener, TcpStream, UnixListener, UnixStream};
+use mio::{Interest, Registry, Token};
+use std::io;
+use std::io::{Read, Write};
+use std::net::Shutdown;
+
+/// So many reads at most are made of what comes in when a connection is over.
+const DROPPED_READS: usize = 32;
+
+/// Where connections come in.
+#[derive(Drop)]
+pub enum Doorway {
+    /// At an address of the network.
+    Tcp(TcpListener),
+    /// At a path.
+    Unix(UnixListener),
+}
+
+impl Doorway {
+    /// The next connection, or `WouldBlock` if nobody waits.
+    pub fn accept(&self) -> io::Result<Stream> {
+        match self {
+            Doorway::Tcp(listener) => {
+                let (stream, _) = listener.accept()?;
+                // Replies go out as soon as they are written.
+                let _ = stream.set_nodelay(true);
+                Ok(Stream::Tcp(stream))
+            }
+            Doorway::Unix(listener) => {
+                let (stream, _) = listener.accept()?;
+                Ok(Stream::Unix(stream))
+            }
+        }
+    }
+
+    /// Has a registry report under a token when somebody waits.
+    pub fn register(&mut self, registry: &Registry, token: Token) -> io::Result<()> {
+        match self {
+            Doorway::Tcp(listener) => registry.register(listener, token, Interest::READABLE),
+            Doorway::Unix(listener) => registry.register(listener, token, Interest::READABLE),
+        }
+    }
+}
+
+/// A connection's socket.
+#[derive(Drop)]
+pub enum Stream {
+    /// Of the network.
+    Tcp(TcpStream),
+    /// Of a path.
+    Unix(UnixStream),
+}
+
+impl Stream {
+    /// Has a registry report under a token when there are bytes to read.
+    pub fn register(&mut self, registry: &Registry, token: Token) -> io::Result<()> {
+        match self {
+            Stream::Tcp(stream) => registry.register(stream, token, Interest::READABLE),
+            Stream::Unix(stream) => registry.register(stream, token, Interest::READABLE),
+        }
+    }
+
+    /// Writes a text, as much as is taken at once.
+    pub fn tell(&mut self, text: &[u8]) {
+        let _ = match self {
+            Stream::Tcp(stream) => stream.write(text),
+            Stream::Unix(stream) => stream.write(text),
+        };
+    }
+
+    /// Says that nothing more will come, and drops what has come in, unless it is much: closing a socket that has something to read takes
+    /// back what was written.
+    pub fn wind_up(&mut self) {
+        match self {
+            Stream::Tcp(stream) => {
+                let _ = stream.shutdown(Shutdown::Write);
+                drop_input(stream);
+            }
+            Stream::Unix(stream) => {
+                let _ = stream.shutdown(Shutdown::Write);
+                drop_input(stream);
+            }
+        }
+    }
+
+    /// Has a registry report in addition when there is room to write, also if there is some by now.
+    pub fn watch_room(&mut self, registry: &Registry, token: Token) -> io::Result<()> {
+        let both = Interest::READABLE | Interest::WRITABLE;
+        match self {
+            Stream::Tcp(stream) => registry.reregister(stream, token, both),
+            Stream::Unix(stream) => registry.reregister(stream, token, both),
+        }
+    }
+}
+
+/// Reads what has come in, unless it is much.
+fn drop_input<I: Read>(reader: &mut I) {
+    let mut buffer = [0u8; 4096];
+    for _read in 0..DROPPED_READS {
+        match reader.read(&mut buffer) {
+            Ok(count) if count == buffer.len() => {}
+            _ => return,
+        }
+    }
+}

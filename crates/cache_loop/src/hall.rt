@@ -1,0 +1,407 @@
+//! The connections of a loop.
+ghost use Rattle.std.specs.Prelude.{◌≡◌, false};
+ghost use Rattle.audit_model.specs.declared.input.Conn.{Conn};
+
+use crate::counting::Counting;
+use crate::counts::{Counts, Stopwatch};
+use crate::doorway::{Doorway, Stream};
+use crate::looping::{Crew, LISTENER, LOADED, STOP};
+use crate::served::Served;
+use cache_link::{Link, Next, Tools};
+use cache_run::{Clock, Host, Loader, RunError};
+use mio::event::Event;
+use mio::{Events, Registry, Token};
+use slab::Slab;
+use std::alloc::Global;
+use std::io::ErrorKind;
+use std::sync::atomic::Ordering;
+use std::time::Duration;
+use std::{mem, time};
+
+/// After an accept that failed for lack of something, the next one comes after so many milliseconds.
+const PAUSE: u64 = 10;
+
+/// What is written to a connection for which there is no place.
+const TOO_MANY: &[u8] = b"ERR connections\n";
+
+/// Whether accepting goes on.
+#[derive(Clone, Copy, PartialEq, Eq, Drop)]
+enum Door {
+    /// Nobody waits.
+    Idle,
+    /// Somebody may wait.
+    Open,
+    /// An accept failed for lack of something.
+    Starved,
+}
+
+/// The connections of a loop, and those among them that have something to do.
+#[derive(Drop)]
+pub struct Hall {
+    served: Slab<Served>,
+    // those whose sockets reported something
+    queue: Vec<usize>,
+    // those that have more to do since their last turn: they come after the others
+    again: Vec<usize>,
+    spare: Vec<usize>,
+    // where connections come in; none if nobody is accepted any more
+    doorway: Option<Doorway>,
+    door: Door,
+    // whether loads were settled for which some may wait
+    is_loaded: bool,
+    // how often it was asked to stop
+    stops: u64,
+    watch: Stopwatch,
+    counts: Counts,
+}
+
+/// What a wake-up of a loop works with.
+#[derive(Drop)]
+pub struct Round<'a, R> {
+    pub rt: &'a R,
+    pub registry: &'a Registry,
+    pub crew: &'a Crew,
+}
+
+impl Hall {
+    /// Nobody is connected.
+    pub fn new(alloc: Global, doorway: Doorway) -> Hall {
+        Hall {
+            served: Slab::new(alloc),
+            queue: Vec::new(alloc),
+            again: Vec::new(alloc),
+            spare: Vec::new(alloc),
+            doorway: Some(doorway),
+            door: Door::Idle,
+            is_loaded: false,
+            stops: 0,
+            watch: Stopwatch::new(),
+            counts: Counts::new(),
+        }
+    }
+
+    /// What was counted.
+    pub fn counts(&self) -> Counts {
+        self.counts
+    }
+
+    /// How long to wait for events; without end if there is nothing else to do.
+    pub fn patience(&self) -> Option<Duration> {
+        if !self.again.is_empty() || self.door == Door::Open {
+            return Some(Duration::from_millis(0));
+        }
+        match self.door {
+            Door::Starved => Some(Duration::from_millis(PAUSE)),
+            _ => None,
+        }
+    }
+
+    /// Whether the loop ends.
+    pub fn is_done(&self) -> bool {
+        self.stops > 1 || (self.doorway.is_none() && self.served.is_empty())
+    }
+
+    /// Notes what the sockets reported.
+    pub fn note_all(&mut self, events: &Events) {
+        for event in events {
+            self.note(event);
+        }
+    }
+
+    /// Notes what a socket reported.
+    fn note(&mut self, event: &Event) {
+        let token = event.token();
+        if token == LISTENER {
+            self.door = Door::Open;
+        } else if token == STOP {
+            self.stop();
+        } else if token == LOADED {
+            self.is_loaded = true;
+        } else if let Some(served) = self.served.get_mut(token.0) {
+            let is_ending = event.is_read_closed() || event.is_error();
+            served.link.wake(event.is_readable(), is_ending);
+            served.quiet = 0;
+            self.enqueue(token.0);
+        }
+    }
+
+    /// Queues a connection for a turn, unless it is queued.
+    fn enqueue(&mut self, key: usize) {
+        if let Some(served) = self.served.get_mut(key) {
+            if !served.is_queued {
+                served.is_queued = true;
+                // There is room: it was made when the connection was accepted.
+                let _ = self.queue.push(key);
+            }
+        }
+    }
+
+    /// Accepts nobody and reads nothing any more.
+    fn stop(&mut self) {
+        self.stops = self.stops.saturating_add(1);
+        self.doorway = None;
+        self.door = Door::Idle;
+        for key in 0..self.served.capacity() {
+            if let Some(served) = self.served.get_mut(key) {
+                served.link.stop();
+                self.enqueue(key);
+            }
+        }
+    }
+
+    /// Queues the connections that wait for a load, if some were settled.
+    pub fn wake_waiting(&mut self) {
+        if !self.is_loaded {
+            return;
+        }
+        self.is_loaded = false;
+        for key in 0..self.served.capacity() {
+            let waits = self.served.get(key).is_some_and(|served| served.is_waiting);
+            if waits {
+                self.enqueue(key);
+            }
+        }
+    }
+
+    /// Accepts connections, until nobody waits or many were accepted.
+    pub fn accept_all<H: Host, R>(
+        &mut self,
+        host: &mut H,
+        place: &mut H::Place,
+        round: &Round<'_, R>,
+    ) {
+        for _accept in 0..round.crew.rules.accepts {
+            if self.door == Door::Idle {
+                return;
+            }
+            if let Some(stream) = self.accept() {
+                let _ = self.admit(host, place, round, stream);
+            }
+        }
+    }
+
+    /// Accepts a connection, if somebody waits.
+    fn accept(&mut self) -> Option<Stream> {
+        let Some(doorway) = &self.doorway else {
+            self.door = Door::Idle;
+            return None;
+        };
+        match doorway.accept() {
+            Ok(stream) => {
+                self.door = Door::Open;
+                self.counts.accepted = self.counts.accepted.saturating_add(1);
+                Some(stream)
+            }
+            Err(error) => {
+                self.note_failure(error.kind());
+                None
+            }
+        }
+    }
+
+    /// Notes that accepting failed.
+    fn note_failure(&mut self, kind: ErrorKind) {
+        self.door = match kind {
+            ErrorKind::WouldBlock => Door::Idle,
+            ErrorKind::ConnectionAborted
+            | ErrorKind::ConnectionReset
+            | ErrorKind::HostUnreachable
+            | ErrorKind::NetworkDown
+            | ErrorKind::NetworkUnreachable
+            | ErrorKind::Interrupted => Door::Open,
+            _ => Door::Starved,
+        };
+        if self.door == Door::Starved {
+            self.counts.starved = self.counts.starved.saturating_add(1);
+        }
+    }
+
+    /// Begins to serve a connection. `None`, and it is closed, if there is no place for it, or what it needs is not available.
+    fn admit<H: Host, R>(
+        &mut self,
+        host: &mut H,
+        place: &mut H::Place,
+        round: &Round<'_, R>,
+        stream: Stream,
+    ) -> Option<()> {
+        let crew = round.crew;
+        if crew.open.fetch_add(1, Ordering::SeqCst) >= crew.rules.connections {
+            crew.open.fetch_sub(1, Ordering::SeqCst);
+            self.counts.refused = self.counts.refused.saturating_add(1);
+            let mut stream = stream;
+            stream.tell(TOO_MANY);
+            stream.wind_up();
+            return None;
+        }
+        let admitted = self.seat(host, place, round, stream);
+        if admitted.is_none() {
+            crew.open.fetch_sub(1, Ordering::SeqCst);
+        }
+        admitted
+    }
+
+    /// Makes room for a connection, and opens it.
+    fn seat<H: Host, R>(
+        &mut self,
+        host: &mut H,
+        place: &mut H::Place,
+        round: &Round<'_, R>,
+        stream: Stream,
+    ) -> Option<()> {
+        let room = self.served.len().saturating_add(1);
+        self.served.reserve(1).ok()?;
+        self.queue.reserve(room).ok()?;
+        self.again.reserve(room).ok()?;
+        self.spare.reserve(room).ok()?;
+        let mut stream = stream;
+        let key = self.served.vacant_key();
+        stream.register(round.registry, Token(key)).ok()?;
+        let link = Link::open(host, place, round.crew.alloc, round.crew.namespace).ok()?;
+        let _ = self.served.insert(Served::new(stream, link));
+        Some(())
+    }
+
+    /// Gives each queued connection a turn, and then each that has more to do since its last one.
+    pub fn take_turns<H: Host, K: Clock, D: Loader, R: time::Clock>(
+        &mut self,
+        host: &mut H,
+        place: &mut H::Place,
+        tools: &mut Tools<K, Counting<D>>,
+        round: &Round<'_, R>,
+    )
+        requires shared { H.LENT ≡ false }
+        requires known { (conn : Conn) → (place : H.Place) → H.knows conn place }
+    {
+        let _since_the_wake = self.watch.lap(round.rt);
+        for index in 0..self.queue.len() {
+            if let Some(key) = self.queue.get(index).copied() {
+                self.take_turn(host, place, tools, round, key);
+            }
+        }
+        self.queue.clear();
+        for index in 0..self.again.len() {
+            if let Some(key) = self.again.get(index).copied() {
+                self.take_turn(host, place, tools, round, key);
+            }
+        }
+        self.again.clear();
+        mem::swap(&mut self.again, &mut self.spare);
+    }
+
+    /// Gives a connection a turn.
+    fn take_turn<H: Host, K: Clock, D: Loader, R: time::Clock>(
+        &mut self,
+        host: &mut H,
+        place: &mut H::Place,
+        tools: &mut Tools<K, Counting<D>>,
+        round: &Round<'_, R>,
+        key: usize,
+    )
+        requires shared { H.LENT ≡ false }
+        requires known { (conn : Conn) → (place : H.Place) → H.knows conn place }
+    {
+        let Hall { served, counts, .. } = self;
+        let Some(served) = served.get_mut(key) else {
+            return;
+        };
+        match served.turn(host, place, tools, counts) {
+            Ok(Next::Over) => self.end(host, place, tools, round.crew, key, Ok(())),
+            Ok(next) => self.note_next(round.registry, key, next),
+            Err(error) => self.end(host, place, tools, round.crew, key, Err(error)),
+        }
+        self.counts.loads = self
+            .counts
+            .loads
+            .saturating_add(round.crew.tell_loads(&mut tools.loader));
+        let nanos = self.watch.lap(round.rt);
+        self.counts.count_turn(nanos);
+    }
+
+    /// Notes what a connection waits for.
+    fn note_next(&mut self, registry: &Registry, key: usize, next: Next) {
+        let Hall { served, spare, .. } = self;
+        let Some(served) = served.get_mut(key) else {
+            return;
+        };
+        match next {
+            Next::Input | Next::Over => {}
+            Next::Turn => {
+                served.is_queued = true;
+                let _ = spare.push(key);
+            }
+            Next::Load => served.is_waiting = true,
+            Next::Room => {
+                if !served.tells_room {
+                    served.tells_room = true;
+                    let _ = served.stream.watch_room(registry, Token(key));
+                }
+            }
+        }
+    }
+
+    /// Closes a connection.
+    fn end<H: Host, K: Clock, D: Loader>(
+        &mut self,
+        host: &mut H,
+        place: &mut H::Place,
+        tools: &mut Tools<K, Counting<D>>,
+        crew: &Crew,
+        key: usize,
+        outcome: Result<(), RunError>,
+    )
+        requires shared { H.LENT ≡ false }
+        requires known { (conn : Conn) → (place : H.Place) → H.knows conn place }
+    {
+        let Some(mut served) = self.served.try_remove(key) else {
+            return;
+        };
+        served.stream.wind_up();
+        let _ = served.link.close(host, place, outcome, &mut tools.loader);
+        crew.open.fetch_sub(1, Ordering::SeqCst);
+    }
+
+    /// Counts a second, and closes the connections whose sockets have reported nothing for so many seconds, unless they wait for a load.
+    pub fn count_second<H: Host, K: Clock, D: Loader>(
+        &mut self,
+        host: &mut H,
+        place: &mut H::Place,
+        tools: &mut Tools<K, Counting<D>>,
+        crew: &Crew,
+        idle: u64,
+    )
+        requires shared { H.LENT ≡ false }
+        requires known { (conn : Conn) → (place : H.Place) → H.knows conn place }
+    {
+        for key in 0..self.served.capacity() {
+            if self.is_too_quiet(key, idle) {
+                self.counts.idle = self.counts.idle.saturating_add(1);
+                self.end(host, place, tools, crew, key, Ok(()));
+            }
+        }
+    }
+
+    /// Counts a second of a connection. Returns whether its socket has reported nothing for more seconds than it may.
+    fn is_too_quiet(&mut self, key: usize, idle: u64) -> bool {
+        let Some(served) = self.served.get_mut(key) else {
+            return false;
+        };
+        served.quiet = served.quiet.saturating_add(1);
+        served.quiet > idle && !served.is_waiting && !served.is_queued
+    }
+
+    /// Closes all connections.
+    pub fn end_all<H: Host, K: Clock, D: Loader>(
+        &mut self,
+        host: &mut H,
+        place: &mut H::Place,
+        tools: &mut Tools<K, Counting<D>>,
+        crew: &Crew,
+    )
+        requires shared { H.LENT ≡ false }
+        requires known { (conn : Conn) → (place : H.Place) → H.knows conn place }
+    {
+        for key in 0..self.served.capacity() {
+            self.end(host, place, tools, crew, key, Ok(()));
+        }
+    }
+}

@@ -1,0 +1,14 @@
+//! Connections of a namespace, served by a thread that waits for all their sockets at once.
+#![tactic(auto)]
+
+mod counting;
+mod counts;
+mod doorway;
+mod hall;
+mod looping;
+mod served;
+
+pub use counting::Counting;
+pub use counts::{Counts, TURN_BOUNDS};
+pub use doorway::{Doorway, Stream};
+pub use looping::{Crew, LOADED, Rules, STOP, serve_all};

@@ -1,0 +1,193 @@
+//! The loop over the sockets of a namespace.
+ghost use Rattle.std.specs.Prelude.{◌≡◌, false};
+ghost use Rattle.audit_model.specs.declared.input.Conn.{Conn};
+
+use crate::counting::Counting;
+use crate::counts::{Counts, Stopwatch};
+use crate::doorway::Doorway;
+use crate::hall::{Hall, Round};
+use cache_link::Tools;
+use cache_run::{Clock, Host, Loader};
+use mio::{Events, Poll, Token, Waker};
+use std::alloc::Global;
+use std::sync::atomic::AtomicU64;
+use std::sync::{Arc, Mutex, Wait};
+use std::time::Duration;
+use std::{io, time};
+
+/// The token of the listener. No connection has it.
+pub const LISTENER: Token = Token(usize::MAX);
+
+/// The token of a waker by which a loop is told that loads were settled for which its connections may wait. No connection has it.
+pub const LOADED: Token = Token(usize::MAX - 1);
+
+/// The token of a waker by which a loop is stopped. No connection has it. At its first wake nobody is accepted and nothing is read any more,
+/// and the loop ends when all that was read is answered and taken; at the second it ends at once.
+pub const STOP: Token = Token(usize::MAX - 2);
+
+/// The maximum number of events of one wake-up.
+const EVENTS: usize = 256;
+
+/// A second has so many nanoseconds.
+const SECOND: u64 = 1_000_000_000;
+
+/// How connections are served.
+#[derive(Clone, Copy, Drop)]
+pub struct Rules {
+    /// So many connections are accepted in one wake-up: 1 if other loops accept too.
+    pub accepts: usize,
+    /// So many connections may be open at once. One more gets the line `ERR connections`, and is closed.
+    pub connections: u64,
+    /// A connection from which nothing came, and to which nothing could be written, for more than so many seconds is closed.
+    pub idle: Option<u64>,
+}
+
+/// What a loop shares with others.
+#[derive(Drop)]
+pub struct Crew {
+    pub alloc: Global,
+    pub namespace: u64,
+    pub rules: Rules,
+    /// How many connections of the namespace are open.
+    pub open: Arc<AtomicU64>,
+    /// The wakers of all loops of the namespace, by which they are told of loads that were settled.
+    pub wakers: Arc<Vec<Waker>>,
+    /// What this loop has counted by its last wake-up.
+    pub counts: Arc<Mutex<Counts>>,
+}
+
+impl Crew {
+    /// Tells all loops that loads were settled, if the loader was asked for some. Returns for how many.
+    pub(crate) fn tell_loads<D>(&self, loader: &mut Counting<D>) -> u64 {
+        let asked = loader.asked;
+        if asked > 0 {
+            loader.asked = 0;
+            self.wake_all();
+        }
+        asked
+    }
+
+    /// Wakes all loops.
+    fn wake_all(&self) {
+        for waker in self.wakers.iter() {
+            let _ = waker.wake();
+        }
+    }
+}
+
+/// The shorter of two waits.
+fn shorter(a: Option<Duration>, b: Option<Duration>) -> Option<Duration> {
+    match (a, b) {
+        (Some(a), Some(b)) => Some(a.min(b)),
+        (Some(a), None) => Some(a),
+        (None, b) => b,
+    }
+}
+
+/// Counts whole seconds.
+#[derive(Drop)]
+struct Seconds {
+    watch: Stopwatch,
+    nanos: u64,
+}
+
+impl Seconds {
+    /// Whether a second has passed since the last one that was counted.
+    fn passes<R: time::Clock>(&mut self, rt: &R) -> bool {
+        self.nanos = self.nanos.saturating_add(self.watch.lap(rt));
+        let has_passed = self.nanos >= SECOND;
+        if has_passed {
+            self.nanos = 0;
+        }
+        has_passed
+    }
+}
+
+/// Serves the connections that come in at a doorway, until it is stopped. They are closed when it returns. An error is one of waiting for events, or of memory for the first of them.
+pub fn serve_all<H, K, D, R>(
+    rt: &R,
+    host: &mut H,
+    place: &mut H::Place,
+    tools: &mut Tools<K, Counting<D>>,
+    poll: &mut Poll,
+    doorway: Doorway,
+    crew: &Crew,
+) -> io::Result<()>
+where
+    H: Host,
+    K: Clock,
+    D: Loader,
+    R: Wait + time::Clock,
+    requires shared { H.LENT ≡ false }
+    requires known { (conn : Conn) → (place : H.Place) → H.knows conn place }
+{
+    let mut doorway = doorway;
+    doorway.register(poll.registry(), LISTENER)?;
+    let mut events = Events::with_capacity(crew.alloc, EVENTS)?;
+    let mut hall = Hall::new(crew.alloc, doorway);
+    let waiting = (poll, &mut events);
+    let ended = turn_round(rt, host, place, tools, waiting, &mut hall, crew);
+    hall.end_all(host, place, tools, crew);
+    *crew.counts.lock(rt) = hall.counts();
+    ended
+}
+
+/// Waits for events and gives turns, until the loop ends.
+fn turn_round<H, K, D, R>(
+    rt: &R,
+    host: &mut H,
+    place: &mut H::Place,
+    tools: &mut Tools<K, Counting<D>>,
+    waiting: (&mut Poll, &mut Events),
+    hall: &mut Hall,
+    crew: &Crew,
+) -> io::Result<()>
+where
+    H: Host,
+    K: Clock,
+    D: Loader,
+    R: Wait + time::Clock,
+    requires shared { H.LENT ≡ false }
+    requires known { (conn : Conn) → (place : H.Place) → H.knows conn place }
+{
+    let (poll, events) = waiting;
+    let mut seconds = Seconds {
+        watch: Stopwatch::new(),
+        nanos: 0,
+    };
+    let second = crew.rules.idle.map(|_| Duration::from_secs(1));
+    for _wake in rt.forever() {
+        poll.poll(events, shorter(hall.patience(), second))?;
+        hall.note_all(events);
+        let registry = poll.registry();
+        let round = Round { rt, registry, crew };
+        work(host, place, tools, &round, hall, &mut seconds);
+        if hall.is_done() {
+            return Ok(());
+        }
+    }
+    unreachable!()
+}
+
+/// Does what a wake-up asks for.
+fn work<H: Host, K: Clock, D: Loader, R: Wait + time::Clock>(
+    host: &mut H,
+    place: &mut H::Place,
+    tools: &mut Tools<K, Counting<D>>,
+    round: &Round<'_, R>,
+    hall: &mut Hall,
+    seconds: &mut Seconds,
+)
+    requires shared { H.LENT ≡ false }
+    requires known { (conn : Conn) → (place : H.Place) → H.knows conn place }
+{
+    hall.wake_waiting();
+    hall.accept_all(host, place, round);
+    hall.take_turns(host, place, tools, round);
+    if let Some(idle) = round.crew.rules.idle {
+        if seconds.passes(round.rt) {
+            hall.count_second(host, place, tools, round.crew, idle);
+        }
+    }
+    *round.crew.counts.lock(round.rt) = hall.counts();
+}

@@ -1,0 +1,82 @@
+//! A connection with its socket.
+ghost use Rattle.std.specs.Prelude.{◌≡◌, false};
+ghost use Rattle.audit_model.specs.declared.input.Conn.{Conn};
+
+use crate::counts::{Counts, Metered};
+use crate::doorway::Stream;
+use cache_link::{Link, Next, Patient, Tools};
+use cache_run::{Clock, Host, Loader, RunError};
+use std::io::{Read, Write};
+
+/// A connection, its socket, and what the loop notes of it.
+#[derive(Drop)]
+pub struct Served {
+    pub stream: Stream,
+    pub link: Link,
+    /// Whether it is queued for a turn.
+    pub is_queued: bool,
+    /// Whether it waits for a load that is requested from another connection's loader.
+    pub is_waiting: bool,
+    /// Whether its socket reports room to write.
+    pub tells_room: bool,
+    /// For how many seconds its socket has reported nothing.
+    pub quiet: u64,
+}
+
+impl Served {
+    /// A connection that was opened.
+    pub fn new(stream: Stream, link: Link) -> Served {
+        Served {
+            stream,
+            link,
+            is_queued: false,
+            is_waiting: false,
+            tells_room: false,
+            quiet: 0,
+        }
+    }
+
+    /// Gives it a turn.
+    pub fn turn<H: Host, K: Clock, D: Loader>(
+        &mut self,
+        host: &mut H,
+        place: &mut H::Place,
+        tools: &mut Tools<K, D>,
+        counts: &mut Counts,
+    ) -> Result<Next, RunError>
+        requires shared { H.LENT ≡ false }
+        requires known { (conn : Conn) → (place : H.Place) → H.knows conn place }
+    {
+        self.is_queued = false;
+        self.is_waiting = false;
+        let Served { stream, link, .. } = self;
+        match stream {
+            Stream::Tcp(stream) => {
+                let (input, output) = (&*stream, &*stream);
+                turn_over(link, input, output, host, place, tools, counts)
+            }
+            Stream::Unix(stream) => {
+                let (input, output) = (&*stream, &*stream);
+                turn_over(link, input, output, host, place, tools, counts)
+            }
+        }
+    }
+}
+
+/// Gives a connection a turn over its socket.
+fn turn_over<I: Read + Drop, O: Write + Drop, H: Host, K: Clock, D: Loader>(
+    link: &mut Link,
+    input: I,
+    output: O,
+    host: &mut H,
+    place: &mut H::Place,
+    tools: &mut Tools<K, D>,
+    counts: &mut Counts,
+) -> Result<Next, RunError>
+    requires shared { H.LENT ≡ false }
+    requires known { (conn : Conn) → (place : H.Place) → H.knows conn place }
+{
+    let mut reader = Patient::new(Metered::new(input, &mut counts.read));
+    let mut writer = Patient::new(Metered::new(output, &mut counts.written));
+    link.turn(host, place, &mut reader, &mut writer, tools)
+}

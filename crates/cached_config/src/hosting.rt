@@ -1,0 +1,115 @@
+//! What the keys say that only `bivrangd` knows. An error is what is wrong with a value, in words that follow its key.
+
+use crate::listed::Notices;
+use crate::values::{at_key, number_at};
+use std::net::IpAddr;
+use toml::Table;
+
+/// The longest path of a Unix socket has so many bytes.
+const PATH_BYTES: usize = 107;
+
+const BIND: &str = "is an IP address, or a path that begins with / and has at most 107 bytes";
+
+const MODE: &str = "is a text of three digits from 0 to 7";
+
+const LOOPS: &str = "is a number from 1 to 64";
+
+const NOTICES: &str = "is \"values\", \"keys\" or \"off\"";
+
+const METRICS: &str = "is a table with a port, a number from 1 to 65535, and nothing else";
+
+/// Whether a text is an address or a path.
+fn is_bind(text: &str) -> bool {
+    if text.starts_with("/") {
+        return text.len() <= PATH_BYTES;
+    }
+    let address: Result<IpAddr, _> = text.parse();
+    address.is_ok()
+}
+
+/// Where a table says that the namespace listens: 127.0.0.1 if it says nothing of it.
+pub fn bind_in(table: &Table) -> Result<&str, &'static str> {
+    match at_key(table, "bind") {
+        None => Ok("127.0.0.1"),
+        Some(value) => match value.as_str() {
+            Some(text) if is_bind(text) => Ok(text),
+            _ => Err(BIND),
+        },
+    }
+}
+
+/// The permissions that a table says, as a number; 660 if it says none.
+pub fn mode_in(table: &Table) -> Result<u32, &'static str> {
+    let Some(value) = at_key(table, "mode") else {
+        return Ok(0o660);
+    };
+    match value.as_str().map(|text| text.as_bytes()) {
+        Some([a @ b'0'..=b'7', b @ b'0'..=b'7', c @ b'0'..=b'7']) => {
+            let (a, b, c) = (
+                u32::from(*a - b'0'),
+                u32::from(*b - b'0'),
+                u32::from(*c - b'0'),
+            );
+            Ok(a * 64 + b * 8 + c)
+        }
+        _ => Err(MODE),
+    }
+}
+
+/// How many loops a table says, if it does.
+pub fn loops_in(table: &Table) -> Result<Option<u64>, &'static str> {
+    number_at(table, "loops", 1, 64, LOOPS)
+}
+
+/// What a table says that notices have; values if it says nothing of it.
+pub fn notices_in(table: &Table) -> Result<Notices, &'static str> {
+    match at_key(table, "notices") {
+        None => Ok(Notices::Values),
+        Some(value) => match value.as_str() {
+            Some("values") => Ok(Notices::Values),
+            Some("keys") => Ok(Notices::Keys),
+            Some("off") => Ok(Notices::Off),
+            _ => Err(NOTICES),
+        },
+    }
+}
+
+/// The port at which a document says that metrics are served, if it does.
+pub fn metrics_in(document: &Table) -> Result<Option<u16>, &'static str> {
+    match at_key(document, "metrics") {
+        None => Ok(None),
+        Some(value) => match value.as_table() {
+            Some(table) if table.len() == 1 => port_of_metrics(table),
+            _ => Err(METRICS),
+        },
+    }
+}
+
+/// The port that the table of metrics says.
+fn port_of_metrics(table: &Table) -> Result<Option<u16>, &'static str> {
+    match number_at(table, "port", 1, 65_535, METRICS)? {
+        None => Err(METRICS),
+        Some(port) => match u16::try_from(port) {
+            Ok(port) => Ok(Some(port)),
+            Err(_) => Err(METRICS),
+        },
+    }
+}
+
+/// How many connections a table allows; 10,000 if it says nothing of it.
+pub fn connections_in(table: &Table) -> Result<u64, &'static str> {
+    let what = "is a number from 1 to 1000000";
+    let said = number_at(table, "max_connections", 1, 1_000_000, what)?;
+    Ok(said.unwrap_or(10_000))
+}
+
+/// After how many seconds a table has a connection closed that is idle, if it does.
+pub fn idle_in(table: &Table) -> Result<Option<u64>, &'static str> {
+    number_at(
+        table,
+        "idle_s",
+        1,
+        86_400_000,
+        "is a number of seconds from 1 to 86400000",
+    )
+}
