@@ -1,18 +1,18 @@
 -- Dialogues that go on.
-use Rattle.std.proofs.Common.{◌≡◌, ◌≢◌, ℕ, ◌≤◌, List, [], ◌∷◌, ◌++◌, Option, None, Some, refl, sym, ◌∙◌, subst, arith, Bool, true, false, cond, ap, is_none, unwrap_or, append_assoc, ◌+◌}
+use Rattle.std.proofs.Common.{◌≡◌, ℕ, List, [], ◌∷◌, ◌++◌, Option, None, Some, refl, sym, ◌∙◌, subst, arith, cond, ap, is_none, unwrap_or, append_assoc}
 use Rattle.std.proofs.lemmas.Grind.{flat_map-append}
 use Rattle.std.proofs.lemmas.List.{append-nil, append_cancel_right}
 use Rattle.std.proofs.lemmas.List.Sums.{sum_by-append}
-use Rattle.std.specs.Io.KnownBytes.{Appends, Consumes, Keeps}
+use Rattle.std.specs.Io.KnownBytes.{Consumes}
 use Rattle.std.specs.Option.{option_map_or}
 use Rattle.audit_model.specs.declared.event.Outcome.{Outcome}
 use Rattle.audit_model.specs.declared.input.Conn.{Conn}
-use Rattle.cache_run.proofs.devices.Sending.{appends_more, askings_more, consumes_more, readings_more, same_appends, same_consumes}
+use Rattle.cache_run.proofs.devices.Sending.{appends_more, askings_more, readings_more}
 use Rattle.cache_run.proofs.driver.Exchanges.{chain-more}
 use Rattle.cache_run.specs.Devices.Sent.{SentBut}
 use Rattle.cache_run.specs.Devices.Sources.{Asking, Askings, Readings}
-use Rattle.cache_run.specs.Driver.Drives.{Outside, Rest, Talks, asked_of, late_of, lost_of, no_rest}
-use Rattle.cache_run.specs.Driver.Exchanges.{Chain, Exchange, Hands, Outs, asks_of, askings_in, bytes_of, moments_in, pieces_in, replies_in, told_of, untaken_in}
+use Rattle.cache_run.specs.Driver.Drives.{Rest, Talks, asked_of, late_of, lost_of}
+use Rattle.cache_run.specs.Driver.Exchanges.{Chain, Exchange, Outs, asks_of, askings_in, bytes_of, moments_in, pieces_in, replies_in, told_of}
 use Rattle.cache_run.specs.declared.driver.host.Host.{Ghosts as Ways}
 use Rattle.cache_link.specs.Dialogues.{Aside, Comes, ComesBehind, HavePassed, Station, Dialogue, Interlude, Wire}
 

@@ -1,15 +1,15 @@
 -- Connections that are served: what a step of a turn leaves.
-use Rattle.std.proofs.Common.{◌≡◌, ◌≢◌, ℕ, ◌≤◌, List, [], ◌∷◌, ◌++◌, Option, None, Some, refl, sym, ◌∙◌, subst, arith, Bool, true, false, ap, append_assoc, ◌⊎◌, inl, inr, Result, Ok, Err}
+use Rattle.std.proofs.Common.{◌≡◌, ◌≢◌, ℕ, List, [], ◌∷◌, ◌++◌, Option, None, Some, refl, sym, ◌∙◌, subst, arith, Bool, true, false, ap, append_assoc, ◌⊎◌, inl, inr, Ok, Err}
 use Rattle.std.proofs.lemmas.List.{append-nil}
 use Rattle.std.specs.Option.{option_map_or}
-use Rattle.std.specs.Io.KnownBytes.{Appends, Consumes, IsAtEnd, Keeps}
+use Rattle.std.specs.Io.KnownBytes.{Consumes}
 use Rattle.audit_model.specs.declared.event.Outcome.{Outcome}
 use Rattle.audit_model.specs.declared.input.Conn.{Conn}
-use Rattle.cache_run.proofs.devices.Sending.{appends_more, consumes_more, same_appends, same_consumes}
+use Rattle.cache_run.proofs.devices.Sending.{consumes_more, same_appends, same_consumes}
 use Rattle.cache_run.specs.Devices.Sent.{SentBut}
 use Rattle.cache_run.specs.Driver.Driven.{ComesTo as DriverComesTo, Finished, Stopped, Underway, unfed}
 use Rattle.cache_run.specs.Driver.Drives.{Outside, Rest, Talks, lost_of, no_rest}
-use Rattle.cache_run.specs.Driver.Exchanges.{Exchange, HaveClosed, Outs, asks_of, pieces_in, told_of}
+use Rattle.cache_run.specs.Driver.Exchanges.{HaveClosed, Outs, asks_of, pieces_in, told_of}
 use Rattle.cache_run.specs.Driver.Causes.{Because}
 use Rattle.cache_run.specs.declared.devices.errors.RunError.{RunError}
 use Rattle.cache_run.specs.declared.devices.errors.RunError.TheVariants.{Moment, OutOfMemory, Read, UsedUp, Write}
@@ -18,7 +18,7 @@ use Rattle.cache_run.specs.declared.driver.driving.Progress.TheVariants.{More, O
 use Rattle.cache_run.specs.declared.driver.host.Host.{Ghosts as Ways}
 use Rattle.cache_run.specs.declared.driver.session.Footing.TheVariants.{Closed, Ready}
 use Rattle.cache_run.specs.declared.driver.session.Session.{Session}
-use Rattle.cache_link.specs.Dialogues.{ComesBehind, Dialogue, Interlude, Station, Wire}
+use Rattle.cache_link.specs.Dialogues.{Dialogue, Interlude, Station, Wire}
 use Rattle.cache_link.specs.Served.{Fetched, HasJustOpened, IsAlike, IsAnswered, IsBroken, IsGoing, IsServed}
 use Rattle.cache_link.specs.Patience.{device}
 use Rattle.cache_link.specs.declared.link.Link.{Link}

@@ -42,11 +42,11 @@ abbrev pub BreaksDown : {T : Type 0} → (was is : Patient T) → Type 0
 BreaksDown was is = HasFailed was.broken is.broken
 
 -- a read of it would have had to wait in between, unless its count was full
-abbrev pub Waits : {T : Type 0} → (was is : Patient T) → Type 0
-Waits was is = HasFailed was.waited is.waited
+abbrev pub HasWaited : {T : Type 0} → (was is : Patient T) → Type 0
+HasWaited was is = HasFailed was.waited is.waited
 
 -- bytes may have been written to it in between
-pub record Grows {T : Type 0} (contents : T → Option (List ℕ)) (was is : Patient T) : Type 0 where
+pub record WritesOn {T : Type 0} (contents : T → Option (List ℕ)) (was is : Patient T) : Type 0 where
   pub later : was.broken ≤ is.broken
   pub more : List ℕ
   pub wrote : Appends (contents (device was)) (contents (device is)) more

@@ -4,7 +4,7 @@ ghost use Rattle.cache_run.specs.Devices.Sources.{HasToldLate};
 ghost use Rattle.cache_run.specs.Devices.Sent.{SentBut};
 ghost use Rattle.cache_run.specs.Driver.Causes.{Because};
 ghost use Rattle.cache_run.specs.Driver.Driven.{ClosesAfter};
-ghost use Rattle.cache_link.specs.Patience.{BreaksDown, Grows, is_broken_by};
+ghost use Rattle.cache_link.specs.Patience.{BreaksDown, WritesOn, is_broken_by};
 ghost use Rattle.cache_link.specs.Reports.{HearsOf, Hears, report_after, report_with};
 ghost use Rattle.cache_link.specs.Served.{Attends, Fetched, IsAlike, HasJustOpened, Proceeds, Works, WritesFirst, TakesTurn, station, wire};
 
@@ -199,7 +199,7 @@ impl Link {
             (wire I.remaining O.contents reader.new writer.new) }
         ensures why { IfErr result (Because (BreaksDown reader.old reader.new)
             (BreaksDown writer.old writer.new) (Unit {0}) (HasToldLate K.reads tools.new.clock)) }
-        ensures grows { Grows O.contents writer.old writer.new }
+        ensures writes { WritesOn O.contents writer.old writer.new }
         ensures hears { Hears I.remaining self.old.report self.new.report reader.old reader.new
             × (result ≡ Ok Next.Input → self.new.report ≡ Report.Nothing) }
     {

@@ -29,10 +29,10 @@ pub returns-clause-goes : goal.returns-clause-goes
 returns-clause-goes g c = λ start before a x others. c.work.ensures.goes start a (served-sent g.H.Host g.K.Clock.reads g.D.Loader.loads c.requires.shared start a c.args.self.now _ _ c.write_to.new.self _ c.write_to.ensures.sent (served-later g.H.Host g.K.Clock.reads g.D.Loader.loads c.requires.shared start a c.args.self.now before _ _ others x))
 
 pub returns-clause-why : goal.returns-clause-why
-returns-clause-why g c = why-map c.work.result (λ broke. broke) (failed_after _ _ _ c.write_to.ensures.later c.work.ensures.grows.later) (λ used. used) (λ late. late) c.work.ensures.why
+returns-clause-why g c = why-map c.work.result (λ broke. broke) (failed_after _ _ _ c.write_to.ensures.later c.work.ensures.writes.later) (λ used. used) (λ late. late) c.work.ensures.why
 
 pub returns-clause-first : goal.returns-clause-first
-returns-clause-first g c = inl (appends-first g.O.Write.contents c.args.writer.now c.write_to.new.writer c.work.new.writer c.write_to.new.self _ c.write_to.ensures.sent (c.in_ok-write_to.ensures.all c.if-not-branch.false) c.work.ensures.grows)
+returns-clause-first g c = inl (appends-first g.O.Write.contents c.args.writer.now c.write_to.new.writer c.work.new.writer c.write_to.new.self _ c.write_to.ensures.sent (c.in_ok-write_to.ensures.all c.if-not-branch.false) c.work.ensures.writes)
 
 pub returns-in_err-write_to-clause-first : goal.returns-in_err-write_to-clause-first
 returns-in_err-write_to-clause-first g c = inr (refl, refl)

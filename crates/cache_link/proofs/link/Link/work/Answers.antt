@@ -4,7 +4,7 @@ use Rattle.cache_link.specs.Served.{IsServed, wire}
 use Rattle.cache_link.specs.declared.link.Next.TheVariants.{Input, Room, Over}
 use Rattle.cache_link.proofs.Dialogues.{same-together}
 use Rattle.cache_link.proofs.Hearing.{hears-then}
-use Rattle.cache_link.proofs.Patience.{grows-sent}
+use Rattle.cache_link.proofs.Patience.{writes-sent}
 use Rattle.cache_link.proofs.Serving.{broken-sent, not-ok, served-alike, served-broken, served-sent}
 use Rattle.cache_link.proofs.link.Link.work.Goals as goal
 
@@ -33,17 +33,17 @@ returns-clause-goes g c = λ start a x.
     (sym (same-together c.serve-served.new.place c.serve-served.new.place c.serve-served.new.tools.clock c.put_away.new.tools.clock c.serve-served.new.tools.loader c.put_away.new.tools.loader refl c.put_away.ensures.same.0 c.put_away.ensures.same.1)) served in
     (there, λ done. record { served = there; over = c.next.ensures.over (search rules); written = c.put_away.ensures.link.backlog ∙ c.in_ok-written.ensures.all c.if-not-branch.false })
 
-pub returns-in_err-served-clause-grows : goal.returns-in_err-served-clause-grows
-returns-in_err-served-clause-grows g c = grows-sent _ _ _ _ _ c.write_to-written.ensures.later c.write_to-written.ensures.sent
+pub returns-in_err-served-clause-writes : goal.returns-in_err-served-clause-writes
+returns-in_err-served-clause-writes g c = writes-sent _ _ _ _ _ c.write_to-written.ensures.later c.write_to-written.ensures.sent
 
-pub returns-in_err-written-clause-grows : goal.returns-in_err-written-clause-grows
-returns-in_err-written-clause-grows g c = grows-sent _ _ _ _ _ c.write_to-written.ensures.later c.write_to-written.ensures.sent
+pub returns-in_err-written-clause-writes : goal.returns-in_err-written-clause-writes
+returns-in_err-written-clause-writes g c = writes-sent _ _ _ _ _ c.write_to-written.ensures.later c.write_to-written.ensures.sent
 
-pub returns-then-not-branch-clause-grows : goal.returns-then-not-branch-clause-grows
-returns-then-not-branch-clause-grows g c = grows-sent _ _ _ _ _ c.write_to-written.ensures.later c.write_to-written.ensures.sent
+pub returns-then-not-branch-clause-writes : goal.returns-then-not-branch-clause-writes
+returns-then-not-branch-clause-writes g c = writes-sent _ _ _ _ _ c.write_to-written.ensures.later c.write_to-written.ensures.sent
 
-pub returns-clause-grows : goal.returns-clause-grows
-returns-clause-grows g c = grows-sent _ _ _ _ _ c.write_to-written.ensures.later c.write_to-written.ensures.sent
+pub returns-clause-writes : goal.returns-clause-writes
+returns-clause-writes g c = writes-sent _ _ _ _ _ c.write_to-written.ensures.later c.write_to-written.ensures.sent
 
 pub returns-in_err-served-clause-hears : goal.returns-in_err-served-clause-hears
 returns-in_err-served-clause-hears g c =
