@@ -1,4 +1,5 @@
 pub mod Steady
 mod Accessed
+mod Beginning
 mod Covered
 pub mod Seen
