@@ -1,8 +1,8 @@
--- How a call begins by the turn that is under way, and how a compute call begins.
-use Rattle.std.proofs.Common.{◌≡◌, ◌==◌, ℕ, Bool, true, false, Option, Some, None, Result, Ok, Err, IfOk, OnOk, OnErr, refl, sym, ap, ◌∙◌, subst, inr, option_map, if◌then◌else◌}
+-- How a call begins, by the turn that is under way.
+use Rattle.std.proofs.Common.{◌≡◌, ◌==◌, ℕ, Bool, true, false, Option, Some, None, Result, Ok, Err, IfOk, OnOk, OnErr, refl, sym, ap, ◌∙◌, subst, inr, option_map, if◌then◌else◌, true≢false}
 use Rattle.std.proofs.lemmas.Bool.{eq-eqb}
 use Rattle.front_parts.specs.Places.Turning.{BeginsIn}
-use Rattle.front_reference.specs.Fronts.{Front, passed, turn_of}
+use Rattle.front_reference.specs.Fronts.{Front, passed, same_kind, turn_of}
 use Rattle.front_reference.specs.Turns.{found_or, wait_or_lead}
 use Rattle.front_reference.specs.declared.data.At.{At}
 use Rattle.front_reference.specs.declared.data.OpenTurn.{OpenTurn}
@@ -12,8 +12,9 @@ use Rattle.front_reference.specs.declared.data.TurnStart.{TurnStart}
 use Rattle.front_reference.specs.declared.data.TurnStart.TheVariants as state
 use Rattle.front_reference.specs.declared.errors.CacheError.{CacheError}
 use Rattle.front_state.specs.Beginning.{BeginsBy}
-use Rattle.front_state.specs.Calls.{Ways}
-use Rattle.sync_desk.specs.Drawing.{ComputesAsDrawn, EndsUnstarted, GivesUp, HasStarted, LooksUpAsDrawn, StartsAsDrawn, compute_start}
+use Rattle.front_state.specs.Calls.{LooksUpIn, Ways, hash_in, visible_in}
+use Rattle.front_state.proofs.Steady.{begun_found}
+use Rattle.sync_desk.specs.Drawing.{BeginsAsDrawn, ComputesAsDrawn, EndsUnstarted, GivesUp, HasStarted, IsDrawn, LooksUpAsDrawn, StartsAsDrawn, compute_start}
 use Rattle.sync_desk.specs.Slots.Waiting.{ChangesAt, IsPutAt, SlotsByNumber, changed, ended, opened, slot_at}
 use Rattle.sync_desk.specs.declared.slots.slot.Ending.TheVariants.{GivenUp}
 use Rattle.sync_desk.specs.declared.turns.ComputeStart.{ComputeStart}
@@ -46,6 +47,20 @@ module _ {K V P S R : Type 0} (ways : Ways K V P S R) (key : K) (hash : ℕ) (at
   starts_by_turn kinds.With begins = making kinds.With begins
   starts_by_turn kinds.Optionally begins = making kinds.Optionally begins
   starts_by_turn kinds.Try begins = making kinds.Try begins
+
+-- a call that makes a value, and finds it where no more can wait
+module _ {K V P S R : Type 0} (ways : Ways K V P S R) (key : K) (at : At) (Ignores : V → Bool → Type 0) (old mid new : Front K V P S R) (same : mid ≡ old) (drawn : IsDrawn old at) (asked : (v : V) → visible_in ways mid at.now key ≡ Some v → Ignores v false) where
+  found : (kind : TurnKind) (value : V) → Some value ≡ visible_in ways mid at.now key → LooksUpIn ways key at mid new → BeginsIn ways kind key (hash_in ways mid key) at Ignores mid new (state.Found value)
+  found kind value is looks = begun_found ways mid new kind key (hash_in ways mid key) at.now at.step Ignores false value asked is looks
+
+  by_kind : (kind : TurnKind) (value : V) → same_kind kind kinds.Compute ≡ false → Some value ≡ visible_in ways mid at.now key → LooksUpIn ways key at mid new → BeginsBy ways kind key (hash_in ways mid key) at Ignores mid new (state.Found value)
+  by_kind kinds.Compute value makes is looks = absurd (true≢false makes)
+  by_kind kinds.With value makes is looks = found kinds.With value is looks
+  by_kind kinds.Optionally value makes is looks = found kinds.Optionally value is looks
+  by_kind kinds.Try value makes is looks = found kinds.Try value is looks
+
+  pub begins_found : (kind : TurnKind) (value : V) → same_kind kind kinds.Compute ≡ false → Some value ≡ visible_in ways mid at.now key → LooksUpIn ways key at mid new → BeginsAsDrawn ways kind key Ignores old new (state.Found value)
+  begins_found kind value makes is looks = (at, drawn, subst (λ f. BeginsBy ways kind key (hash_in ways f key) at Ignores f new (state.Found value)) same (by_kind kind value makes is looks))
 
 -- a turn that begins and is given up is no longer there
 module _ {V F : Type 0} (number hash : ℕ) (old mid new : SlotsByNumber V F) (begins : IsPutAt number (Some (opened kinds.Compute hash)) old mid) (ends : ChangesAt kinds.Compute number (ended GivenUp) mid new) where

@@ -115,11 +115,11 @@ module _ {K V P S R : Type 0} (ways : Ways K V P S R) where
       × GivesUp number mid new
 
   -- a call of a kind begins
-  abbrev pub BeginsAsDrawn : {A : Type 0} → TurnKind → K → (Ignores : V → Bool → Type 0)
-      → Front K V P S R → Front K V P S R → Start A V → Type 0
+  abbrev pub BeginsAsDrawn : TurnKind → K → (Ignores : V → Bool → Type 0) → Front K V P S R
+      → Front K V P S R → TurnStart V → Type 0
   BeginsAsDrawn kind key Ignores old new start =
       (at : At) × IsDrawn old at
-      × BeginsBy ways kind key (hash_in ways old key) at Ignores old new (state_start start)
+      × BeginsBy ways kind key (hash_in ways old key) at Ignores old new start
 
   -- the turn of a key's compute call that is under way is waited for, or one begins
   abbrev pub StartsAsDrawn : K → Front K V P S R → Front K V P S R → TurnStart V → Type 0

@@ -1,5 +1,5 @@
 //! Turns: leading, waiting, and how they end.
-ghost use Rattle.std.specs.Prelude.{◌≡◌, ◌⊎◌, ◌+◌, true, Option, None, Some, Ok, IfOk, IfErr, OnOk, OnErr, if◌then◌else◌, is_ok, is_some, option_map};
+ghost use Rattle.std.specs.Prelude.{◌≡◌, ◌⊎◌, ◌+◌, true, false, Option, None, Some, Ok, IfOk, IfErr, OnOk, OnErr, if◌then◌else◌, is_ok, is_some, option_map};
 ghost use Rattle.std.specs.Fn.{FnOnceReturnsAt};
 ghost use Rattle.std.specs.Result.{IsErrOf};
 ghost use Rattle.engine_reference.specs.Calls.{removal_rooms};
@@ -8,11 +8,12 @@ ghost use Rattle.front_reference.specs.Fronts.{turn_at, turn_of};
 ghost use Rattle.front_reference.specs.declared.data.Made.TheVariants as makes;
 ghost use Rattle.front_reference.specs.declared.errors.CacheError.TheVariants as errors;
 ghost use Rattle.front_reference.specs.declared.data.TurnKind.TheVariants as kinds;
-ghost use Rattle.front_state.specs.Calls.{IsCauseIn, hash_in};
+ghost use Rattle.front_reference.specs.declared.data.TurnStart.TheVariants.{Found};
+ghost use Rattle.front_state.specs.Calls.{IsCauseIn, hash_in, visible_in};
 ghost use Rattle.sync_desk.specs.Coalescing.{IsMadeOrFound};
 ghost use Rattle.sync_desk.specs.Drawing.{BeginsAsDrawn, CoalescesAsDrawn, ComputesAsDrawn, EndsUnstarted, FinishesAsDrawn, GivesUp, HasStarted, LacksNumbers, LacksSteps, LooksUpAsDrawn, TakesOutAsDrawn, compute_start, state_start, told_by};
 ghost use Rattle.sync_desk.specs.Slots.Endings.{IsExact, fits, suits};
-ghost use Rattle.sync_desk.specs.Slots.Refusals.{IsEndRefusal, IsShortage};
+ghost use Rattle.sync_desk.specs.Slots.Refusals.{IsEndRefusal, IsShortOf, IsShortage};
 ghost use Rattle.sync_desk.specs.Slots.Waiting.{ChangesAt, SlotsStay, changed, ended, hash_of, if_of, seen_with, slot_at, told_of};
 ghost use Rattle.sync_desk.specs.Writing.{noted_if};
 ghost use Rattle.sync_desk.specs.declared.slots.slot.Ending.TheVariants.{Done, GivenUp};
@@ -23,6 +24,7 @@ use crate::slots::{Asked, Ending, SharedName, WaitingName, copy_made};
 use engine_reference::Rules;
 use front_parts::HasWays;
 use front_reference::{At, CacheError, IntoKey, LentKey, Made, Shared, TurnKind, TurnStart};
+use policy_base::Instant;
 use std::alloc::AllocError;
 use std::hash::{BuildHasher, Hash};
 
@@ -68,17 +70,17 @@ impl<
         requires exact { (x y : V) → V.is_clone x y → y ≡ x }
         requires callable { P.IsAlwaysCallable replace_if }
         ensures begins { IfOk result
-            (BeginsAsDrawn ⟦<R as HasWays<K, V, S>>⟧.ways kind (A.named_key asked)
-            (FnOnceReturnsAt P.FnOnce replace_if) self.old.state self.new.state) }
-        ensures err { OnErr result ((self.new.state ≡ self.old.state)
-            × SlotsStay self.old.slots.slots self.new.slots.slots) }
-        ensures writes { self.new.writes ≡ self.old.writes }
-        ensures cause { IfErr result IsShortage }
-        ensures used_up { IsErrOf result errors.UsedUp
-            → LacksNumbers self.old.state self.old.slots.slots }
+            (λ start. BeginsAsDrawn ⟦<R as HasWays<K, V, S>>⟧.ways kind (A.named_key asked)
+            (FnOnceReturnsAt P.FnOnce replace_if) self.old.state self.new.state
+            (state_start start)) }
         ensures turns { IfOk result (λ start. HasStarted kind
             (hash_in ⟦<R as HasWays<K, V, S>>⟧.ways self.old.state (A.named_key asked))
             self.old.slots.slots self.new.slots.slots (state_start start)) }
+        ensures err { OnErr result ((self.new.state ≡ self.old.state)
+            × SlotsStay self.old.slots.slots self.new.slots.slots) }
+        ensures writes { self.new.writes ≡ self.old.writes }
+        ensures cause
+            { IsShortOf (LacksNumbers self.old.state self.old.slots.slots) result }
     {
         let hash = self.state.hash(asked.key());
         let name = LentKey { key: asked.key() };
@@ -96,24 +98,23 @@ impl<
         hash: u64,
         replace_if: P,
     ) -> Result<Start<A, V>, CacheError>
-        requires hashed { hash
-            ≡ hash_in ⟦<R as HasWays<K, V, S>>⟧.ways self.old.state (A.named_key asked) }
-        requires free { turn_of K.eq self.old.state.turns kind (A.named_key asked) ≡ None }
+        requires free { (hash
+            ≡ hash_in ⟦<R as HasWays<K, V, S>>⟧.ways self.old.state (A.named_key asked))
+            × (turn_of K.eq self.old.state.turns kind (A.named_key asked) ≡ None) }
         requires becomes { (a : A) → A.can_become a }
-        requires exact { (x y : V) → V.is_clone x y → y ≡ x }
-        requires callable { P.IsAlwaysCallable replace_if }
+        requires callable { IsExact V.is_clone × P.IsAlwaysCallable replace_if }
         ensures begins { IfOk result
-            (BeginsAsDrawn ⟦<R as HasWays<K, V, S>>⟧.ways kind (A.named_key asked)
-            (FnOnceReturnsAt P.FnOnce replace_if) self.old.state self.new.state) }
-        ensures err { OnErr result ((self.new.state ≡ self.old.state)
-            × SlotsStay self.old.slots.slots self.new.slots.slots) }
-        ensures writes { self.new.writes ≡ self.old.writes }
-        ensures cause { IfErr result IsShortage }
-        ensures used_up { IsErrOf result errors.UsedUp
-            → LacksNumbers self.old.state self.old.slots.slots }
+            (λ start. BeginsAsDrawn ⟦<R as HasWays<K, V, S>>⟧.ways kind (A.named_key asked)
+            (FnOnceReturnsAt P.FnOnce replace_if) self.old.state self.new.state
+            (state_start start)) }
         ensures turns { IfOk result (λ start. HasStarted kind
             (hash_in ⟦<R as HasWays<K, V, S>>⟧.ways self.old.state (A.named_key asked))
             self.old.slots.slots self.new.slots.slots (state_start start)) }
+        ensures err { OnErr result ((self.new.state ≡ self.old.state)
+            × SlotsStay self.old.slots.slots self.new.slots.slots) }
+        ensures writes { self.new.writes ≡ self.old.writes }
+        ensures cause
+            { IsShortOf (LacksNumbers self.old.state self.old.slots.slots) result }
     {
         let Some(at) = self.draw() else {
             return Err(CacheError::UsedUp);
@@ -144,27 +145,29 @@ impl<
         number: u64,
         replace_if: P,
     ) -> Result<Start<A, V>, CacheError>
-        requires hashed { hash
-            ≡ hash_in ⟦<R as HasWays<K, V, S>>⟧.ways self.old.state (A.named_key asked) }
-        requires busy { option_map (λ turn. turn.number)
-            (turn_of K.eq self.old.state.turns kind (A.named_key asked)) ≡ Some number }
-        requires exact { (x y : V) → V.is_clone x y → y ≡ x }
-        requires callable { P.IsAlwaysCallable replace_if }
+        requires busy { (hash
+            ≡ hash_in ⟦<R as HasWays<K, V, S>>⟧.ways self.old.state (A.named_key asked))
+            × (option_map (λ turn. turn.number)
+            (turn_of K.eq self.old.state.turns kind (A.named_key asked)) ≡ Some number) }
+        requires callable { IsExact V.is_clone × P.IsAlwaysCallable replace_if }
         ensures begins { IfOk result
-            (BeginsAsDrawn ⟦<R as HasWays<K, V, S>>⟧.ways kind (A.named_key asked)
-            (FnOnceReturnsAt P.FnOnce replace_if) self.old.state self.new.state) }
-        ensures err { OnErr result ((self.new.state ≡ self.old.state)
-            × SlotsStay self.old.slots.slots self.new.slots.slots) }
-        ensures writes { self.new.writes ≡ self.old.writes }
-        ensures cause { IfErr result IsShortage }
-        ensures used_up { IsErrOf result errors.UsedUp
-            → LacksNumbers self.old.state self.old.slots.slots }
+            (λ start. BeginsAsDrawn ⟦<R as HasWays<K, V, S>>⟧.ways kind (A.named_key asked)
+            (FnOnceReturnsAt P.FnOnce replace_if) self.old.state self.new.state
+            (state_start start)) }
         ensures turns { IfOk result (λ start. HasStarted kind
             (hash_in ⟦<R as HasWays<K, V, S>>⟧.ways self.old.state (A.named_key asked))
             self.old.slots.slots self.new.slots.slots (state_start start)) }
+        ensures err { OnErr result ((self.new.state ≡ self.old.state)
+            × SlotsStay self.old.slots.slots self.new.slots.slots) }
+        ensures writes { self.new.writes ≡ self.old.writes }
+        ensures cause
+            { IsShortOf (LacksNumbers self.old.state self.old.slots.slots) result }
     {
         if !self.slots.can_join(number) {
-            return Err(CacheError::UsedUp);
+            return match self.find_or_refuse(kind, asked.key(), replace_if) {
+                Ok(value) => Ok(Start::Found(value)),
+                Err(refused) => Err(refused),
+            };
         }
         let Some(at) = self.draw() else {
             return Err(CacheError::UsedUp);
@@ -178,6 +181,53 @@ impl<
             }
             Ok(TurnStart::Lead(_)) => unreachable!(),
             Err(refused) => Err(refused),
+        }
+    }
+
+    /// Begins if no more can wait for the turn that is under way.
+    fn find_or_refuse<P: FnOnce(&V) -> bool + Drop>(
+        &mut self,
+        kind: TurnKind,
+        key: &K,
+        replace_if: P,
+    ) -> Result<V, CacheError>
+        requires callable { IsExact V.is_clone × P.IsAlwaysCallable replace_if }
+        ensures begins { IfOk result
+            (λ value. BeginsAsDrawn ⟦<R as HasWays<K, V, S>>⟧.ways kind key.now
+            (FnOnceReturnsAt P.FnOnce replace_if) self.old.state self.new.state (Found value)) }
+        ensures err { OnErr result (self.new.state ≡ self.old.state) }
+        ensures slots { self.new.slots ≡ self.old.slots }
+        ensures writes { self.new.writes ≡ self.old.writes }
+        ensures cause { IfErr result IsShortage }
+    {
+        if kind.is_same(TurnKind::Compute) {
+            return Err(CacheError::UsedUp);
+        }
+        let Some(at) = self.draw() else {
+            return Err(CacheError::UsedUp);
+        };
+        if !self.is_found(key, at.now, replace_if) {
+            return Err(CacheError::UsedUp);
+        }
+        match self.state.get(key, at) {
+            Ok(Some(value)) => Ok(value),
+            Ok(None) => unreachable!(),
+            Err(_) => Err(CacheError::OutOfMemory),
+        }
+    }
+
+    /// Whether a key has a visible value for which `replace_if` returns false.
+    fn is_found<P: FnOnce(&V) -> bool + Drop>(&self, key: &K, now: Instant, replace_if: P) -> bool
+        requires { P.IsAlwaysCallable replace_if }
+        ensures { result ≡ true → IsSome
+            (visible_in ⟦<R as HasWays<K, V, S>>⟧.ways self.now.state now key.now)
+            × ((value : V)
+            → visible_in ⟦<R as HasWays<K, V, S>>⟧.ways self.now.state now key.now ≡ Some value
+            → FnOnceReturnsAt P.FnOnce replace_if value false) }
+    {
+        match self.state.peek(key, now) {
+            Some(value) => !replace_if(value),
+            None => false,
         }
     }
 
@@ -265,12 +315,12 @@ impl<
         requires suits { suits kind made ≡ true }
         ensures told { IsExact V.is_clone → ChangesAt kind number (ended (told_by made result))
             self.old.slots.slots self.new.slots.slots }
-        ensures ends { OnOk result (FinishesAsDrawn ⟦<R as HasWays<K, V, S>>⟧.ways number made
+        ensures ends { OnOk result ((is_some (turn_at self.old.state.turns number) ≡ true)
+            × FinishesAsDrawn ⟦<R as HasWays<K, V, S>>⟧.ways number made
             self.old.state self.new.state) }
         ensures writes { self.new.writes.steps ≡ noted_if (if is_ok result
             then hash_of kind (slot_at number self.old.slots.slots) else None)
             self.new.state.step self.old.writes.steps }
-        ensures known { OnOk result (is_some (turn_at self.old.state.turns number) ≡ true) }
         ensures err { OnErr result (GivesUp number self.old.state self.new.state) }
         ensures cause { IfErr result IsEndRefusal }
         ensures used_up { IsErrOf result errors.UsedUp → LacksSteps 1 self.old.state
@@ -318,12 +368,12 @@ impl<
         requires { fits kind ending ≡ true }
         ensures told { ChangesAt kind number (ended (if is_ok result then ending else GivenUp))
             self.old.slots.slots self.new.slots.slots }
-        ensures ends { OnOk result (FinishesAsDrawn ⟦<R as HasWays<K, V, S>>⟧.ways number made
+        ensures ends { OnOk result ((is_some (turn_at self.old.state.turns number) ≡ true)
+            × FinishesAsDrawn ⟦<R as HasWays<K, V, S>>⟧.ways number made
             self.old.state self.new.state) }
         ensures writes { self.new.writes.steps ≡ noted_if (if is_ok result
             then hash_of kind (slot_at number self.old.slots.slots) else None)
             self.new.state.step self.old.writes.steps }
-        ensures known { OnOk result (is_some (turn_at self.old.state.turns number) ≡ true) }
         ensures err { OnErr result (GivesUp number self.old.state self.new.state) }
         ensures cause { IfErr result IsEndRefusal }
         ensures used_up { IsErrOf result errors.UsedUp → LacksSteps 1 self.old.state
@@ -397,8 +447,9 @@ impl<
 
     /// Ends the compute turn that the caller leads by putting a value. If that is refused, the turn is given up.
     pub fn put(&mut self, number: u64, value: V) -> Result<(), CacheError>
-        ensures ends { OnOk result (FinishesAsDrawn ⟦<R as HasWays<K, V, S>>⟧.ways {F = R.Fault}
-            number (makes.Value value) self.old.state self.new.state) }
+        ensures ends { OnOk result ((is_some (turn_at self.old.state.turns number) ≡ true)
+            × FinishesAsDrawn ⟦<R as HasWays<K, V, S>>⟧.ways {F = R.Fault} number
+            (makes.Value value) self.old.state self.new.state) }
         ensures told { ChangesAt kinds.Compute number (ended GivenUp) self.old.slots.slots
             self.new.slots.slots }
         ensures writes { self.new.writes.steps ≡ noted_if (if is_ok result
@@ -459,9 +510,8 @@ impl<
         ensures writes { self.new.writes.steps ≡ noted_if (if is_ok result then Some
             (hash_in ⟦<R as HasWays<K, V, S>>⟧.ways self.old.state key.now) else None)
             (self.old.state.step + 1) self.old.writes.steps }
-        ensures cause { IfErr result IsShortage }
-        ensures used_up { IsErrOf result errors.UsedUp → LacksSteps 1 self.old.state ⊎ IsCauseIn
-            ⟦<R as HasWays<K, V, S>>⟧.ways (λ _. 1) self.old.state key.now errors.UsedUp }
+        ensures cause { IsShortOf (LacksSteps 1 self.old.state ⊎ IsCauseIn
+            ⟦<R as HasWays<K, V, S>>⟧.ways (λ _. 1) self.old.state key.now errors.UsedUp) result }
     {
         let Some(at) = self.draw() else {
             return Err(CacheError::UsedUp);
