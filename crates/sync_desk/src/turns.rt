@@ -206,7 +206,7 @@ impl<
         let Some(at) = self.draw() else {
             return Err(CacheError::UsedUp);
         };
-        if !self.is_found(key, at.now, replace_if) {
+        if self.finds_none(key, at.now, replace_if) {
             return Err(CacheError::UsedUp);
         }
         match self.state.get(key, at) {
@@ -216,18 +216,21 @@ impl<
         }
     }
 
-    /// Whether a key has a visible value for which `replace_if` returns false.
-    fn is_found<P: FnOnce(&V) -> bool + Drop>(&self, key: &K, now: Instant, replace_if: P) -> bool
+    /// Whether no value of a key is found: none is visible, or `replace_if` returns true for it.
+    fn finds_none<P: FnOnce(&V) -> bool + Drop>(
+        &self,
+        key: &K,
+        now: Instant,
+        replace_if: P,
+    ) -> bool
         requires { P.IsAlwaysCallable replace_if }
-        ensures { result ≡ true → IsSome
-            (visible_in ⟦<R as HasWays<K, V, S>>⟧.ways self.now.state now key.now)
-            × ((value : V)
-            → visible_in ⟦<R as HasWays<K, V, S>>⟧.ways self.now.state now key.now ≡ Some value
-            → FnOnceReturnsAt P.FnOnce replace_if value false) }
+        ensures { result ≡ false → (value : V)
+            × (visible_in ⟦<R as HasWays<K, V, S>>⟧.ways self.now.state now key.now ≡ Some value)
+            × FnOnceReturnsAt P.FnOnce replace_if value false }
     {
         match self.state.peek(key, now) {
-            Some(value) => !replace_if(value),
-            None => false,
+            Some(value) => replace_if(value),
+            None => true,
         }
     }
 
