@@ -50,7 +50,7 @@ module _ {K V P S R : Type 0} (ways : Ways K V P S R) (key : K) (hash : ℕ) (at
 
 -- a call that makes a value, and finds it where no more can wait
 module _ {K V P S R : Type 0} (ways : Ways K V P S R) (key : K) (at : At) (Ignores : V → Bool → Type 0) (old mid new : Front K V P S R) (same : mid ≡ old) (drawn : IsDrawn old at) where
-  Shows : V → Type 0
+  abbrev Shows : V → Type 0
   Shows value = (visible_in ways mid at.now key ≡ Some value) × Ignores value false
 
   asked : (shown : (value : V) × Shows value) (v : V) → visible_in ways mid at.now key ≡ Some v → Ignores v false

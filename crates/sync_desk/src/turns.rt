@@ -79,8 +79,7 @@ impl<
         ensures err { OnErr result ((self.new.state ≡ self.old.state)
             × SlotsStay self.old.slots.slots self.new.slots.slots) }
         ensures writes { self.new.writes ≡ self.old.writes }
-        ensures cause
-            { IsShortOf (LacksNumbers self.old.state self.old.slots.slots) result }
+        ensures cause { IsShortOf (LacksNumbers self.old.state self.old.slots.slots) result }
     {
         let hash = self.state.hash(asked.key());
         let name = LentKey { key: asked.key() };
@@ -113,8 +112,7 @@ impl<
         ensures err { OnErr result ((self.new.state ≡ self.old.state)
             × SlotsStay self.old.slots.slots self.new.slots.slots) }
         ensures writes { self.new.writes ≡ self.old.writes }
-        ensures cause
-            { IsShortOf (LacksNumbers self.old.state self.old.slots.slots) result }
+        ensures cause { IsShortOf (LacksNumbers self.old.state self.old.slots.slots) result }
     {
         let Some(at) = self.draw() else {
             return Err(CacheError::UsedUp);
@@ -160,8 +158,7 @@ impl<
         ensures err { OnErr result ((self.new.state ≡ self.old.state)
             × SlotsStay self.old.slots.slots self.new.slots.slots) }
         ensures writes { self.new.writes ≡ self.old.writes }
-        ensures cause
-            { IsShortOf (LacksNumbers self.old.state self.old.slots.slots) result }
+        ensures cause { IsShortOf (LacksNumbers self.old.state self.old.slots.slots) result }
     {
         if !self.slots.can_join(number) {
             return match self.find_or_refuse(kind, asked.key(), replace_if) {
@@ -217,12 +214,7 @@ impl<
     }
 
     /// Whether no value of a key is found: none is visible, or `replace_if` returns true for it.
-    fn finds_none<P: FnOnce(&V) -> bool + Drop>(
-        &self,
-        key: &K,
-        now: Instant,
-        replace_if: P,
-    ) -> bool
+    fn finds_none<P: FnOnce(&V) -> bool + Drop>(&self, key: &K, now: Instant, replace_if: P) -> bool
         requires { P.IsAlwaysCallable replace_if }
         ensures { result ≡ false → (value : V)
             × (visible_in ⟦<R as HasWays<K, V, S>>⟧.ways self.now.state now key.now ≡ Some value)
@@ -250,10 +242,9 @@ impl<
         ensures used_up { IsErrOf result errors.UsedUp
             → LacksNumbers self.old.state self.old.slots.slots ⊎ LacksSteps 2 self.old.state }
     {
-        let start = self.begin(TurnKind::Compute, SharedName { key }, |_: &V| -> bool {
+        match self.begin(TurnKind::Compute, SharedName { key }, |_: &V| -> bool {
             false
-        });
-        match start {
+        }) {
             Ok(Start::Lead(number)) => self.show_visible(key, number),
             Ok(Start::Wait(number, _)) => Ok(ComputeStart::Wait(number)),
             Ok(Start::Found(_)) => unreachable!(),

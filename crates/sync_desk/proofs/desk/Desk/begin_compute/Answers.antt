@@ -9,7 +9,7 @@ pub returns-in-Ok-Lead-clause-begins : goal.returns-in-Ok-Lead-clause-begins
 returns-in-Ok-Lead-clause-begins g c =
     let ways = ways_by g.R.Rules g.K.PartialEq.eq g.K.Hash.hash_input g.S.BuildHasher g.S.Hasher.Hasher in
     let old = c.args.self.now.state in
-    let mid = c.begin-start.new.self.state in
+    let mid = c.begin.new.self.state in
     let starts = subst (λ start. StartsAsDrawn ways c.args.key.now old mid (state_start start)) c.in-Ok-Lead.field-0-is c.in-Ok-Lead.ensures.begins in
     led ways c.args.key.now c.in-Ok-Lead.number old mid c.show_visible.new.self.state starts c.show_visible.result c.show_visible.ensures.leads
 
@@ -18,7 +18,7 @@ returns-in-Ok-Lead-clause-err g c =
     let ways = ways_by g.R.Rules g.K.PartialEq.eq g.K.Hash.hash_input g.S.BuildHasher g.S.Hasher.Hasher in
     let key = c.args.key.now in
     let old = c.args.self.now in
-    let mid = c.begin-start.new.self in
+    let mid = c.begin.new.self in
     let new = c.show_visible.new.self in
     let hash = hash_in ways old.state key in
     let starts = subst (λ start. StartsAsDrawn ways key old.state mid.state (state_start start)) c.in-Ok-Lead.field-0-is c.in-Ok-Lead.ensures.begins in
