@@ -1,1 +1,3 @@
 mod Suiting
+mod Showing
+mod Covering

@@ -4,3 +4,4 @@ pub use Rattle.sync_desk.specs.Slots.Refusals
 pub use Rattle.moka.specs.Building
 pub mod Turning
 pub mod Accessing
+pub mod Showing

@@ -1,8 +1,12 @@
 //! Building a cache that threads share.
-ghost use Rattle.std.specs.Prelude.{◌≡◌, ◌⊎◌, Option, Some, None, IfErr, OnOk};
+ghost use Rattle.std.specs.Prelude.{◌≡◌, ◌⊎◌, ℕ, List, Option, Some, None, IfErr, IfOk, OnOk, option_map};
+ghost use Rattle.std.specs.Arc.{arc_value};
+ghost use Rattle.std.specs.String.{string_bytes};
+ghost use Rattle.engine_reference.specs.declared.rules.settings.Policy.{Policy};
 ghost use Rattle.moka.specs.Building.{blank, fault_of, segments_fault};
 ghost use Rattle.moka.specs.declared.errors.BuildError.{BuildError};
 ghost use Rattle.moka.specs.declared.errors.BuildError.TheVariants.{OutOfMemory};
+ghost use Rattle.moka_sync.specs.Showing.{ShowsPlan};
 
 use crate::cache::{Cache, SharedCache};
 use engine_reference::{Bundle, Expiry, Predicate, Rules, Weigher};
@@ -27,6 +31,9 @@ pub trait Build<K: Eq + Hash, V>: Sized {
     // what is wrong with what is set, if anything
     ghost fault: { Self → Option BuildError };
 
+    // the name and the settings that the cache shows
+    ghost shown: { Self → Option (List ℕ) → Policy → Type 0 };
+
     /// Builds a cache that hashes keys with std's hasher (without a random seed), created at the moment that its environment gives. If
     /// untrusted clients choose the keys, use `build_with_hasher` with a hasher that they cannot predict.
     /// ```
@@ -39,6 +46,9 @@ pub trait Build<K: Eq + Hash, V>: Sized {
         alloc: Global,
         env: E,
     ) -> Result<SharedCache<K, V, StdHasher, Self::Rules, E, Self::Form>, BuildError>
+        ensures shows { IfOk result (λ cache. shown self
+            (option_map string_bytes (arc_value cache.inner).name)
+            (arc_value cache.inner).policy) }
         ensures sound { OnOk result (fault self ≡ None) }
         ensures cause { IfErr result
             (λ e. (fault self ≡ Some e) ⊎ ((e ≡ OutOfMemory) × (fault self ≡ None))) };
@@ -54,6 +64,9 @@ pub trait Build<K: Eq + Hash, V>: Sized {
         hasher: S,
         env: E,
     ) -> Result<SharedCache<K, V, S, Self::Rules, E, Self::Form>, BuildError>
+        ensures shows { IfOk result (λ cache. shown self
+            (option_map string_bytes (arc_value cache.inner).name)
+            (arc_value cache.inner).policy) }
         ensures sound { OnOk result (fault self ≡ None) }
         ensures cause { IfErr result
             (λ e. (fault self ≡ Some e) ⊎ ((e ≡ OutOfMemory) × (fault self ≡ None))) };
@@ -69,12 +82,15 @@ impl<
     C: Drop,
 > Build<K, V> for CacheBuilder<X, W, P, F, C> {
     ghost use Rattle.moka.specs.Building.{fault_of};
+    ghost use Rattle.moka_sync.specs.Showing.{ShowsPlan};
 
     type Rules = Bundle<X, W, P, F>;
 
     type Form = C;
 
     ghost fault = { λ builder. fault_of builder.plan };
+
+    ghost shown = { λ builder name policy. ShowsPlan builder.plan name policy };
 
     fn build<E: Env + Drop>(
         self,
@@ -114,7 +130,11 @@ impl<K: Eq + Hash + Drop, V: Clone + Drop, E: Env + Drop> SharedCache<
     /// reports no removals.
     /// The only possible error is `OutOfMemory`.
     pub fn new(alloc: Global, max_capacity: u64, env: E) -> Result<Self, BuildError>
-        ensures { IfErr result (λ e. e ≡ OutOfMemory) }
+        ensures shows { IfOk result (λ cache.
+            ShowsPlan (record blank { max_capacity = Some max_capacity })
+            (option_map string_bytes (arc_value cache.inner).name)
+            (arc_value cache.inner).policy) }
+        ensures cause { IfErr result (λ e. e ≡ OutOfMemory) }
     {
         CacheBuilder::new(max_capacity).build(alloc, env)
     }
@@ -144,6 +164,11 @@ impl<K: Eq + Hash + Drop, V: Clone + Drop, E: Env + Drop> SharedCache<
         segments: usize,
         env: E,
     ) -> Result<Self, BuildError>
+        ensures shows { IfOk result (λ cache. ShowsPlan (record blank {
+          max_capacity = Some max_capacity;
+          segments = segments;
+        }) (option_map string_bytes (arc_value cache.inner).name)
+            (arc_value cache.inner).policy) }
         ensures sound { OnOk result (segments_fault segments ≡ None) }
         ensures cause { IfErr result (λ e. (segments_fault segments ≡ Some e)
             ⊎ ((e ≡ OutOfMemory) × (segments_fault segments ≡ None))) }

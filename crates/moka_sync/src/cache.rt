@@ -1,6 +1,9 @@
 //! The cache, and its calls that take the lock once.
-ghost use Rattle.std.specs.Prelude.{◌≡◌, IfErr};
+ghost use Rattle.std.specs.Prelude.{◌≡◌, IfErr, IfOk, option_map};
+ghost use Rattle.std.specs.Arc.{arc_value};
+ghost use Rattle.std.specs.String.{string_bytes};
 ghost use Rattle.front_reference.specs.declared.errors.CacheError.TheVariants as errors;
+ghost use Rattle.front_state.specs.Reading.{ShowsPolicy};
 ghost use Rattle.sync_desk.specs.Slots.Refusals.{IsShortage};
 
 use crate::shared::SharedDesk;
@@ -62,6 +65,11 @@ impl<
     E: Drop,
     C: Drop,
 > Clone for SharedCache<K, V, S, R, E, C> {
+    ghost use Rattle.std.specs.Prelude.{◌≡◌};
+    ghost use Rattle.std.specs.Arc.{arc_value};
+
+    ghost is_clone = { λ old made. arc_value made.inner ≡ arc_value old.inner };
+
     fn clone(&self) -> Result<Self, AllocError> {
         Ok(SharedCache {
             inner: Arc::try_clone(&self.inner)?,
@@ -71,7 +79,10 @@ impl<
 }
 
 /// A copy of a cache's name.
-fn copy_name(alloc: Global, name: Option<&str>) -> Result<Option<String>, AllocError> {
+fn copy_name(alloc: Global, name: Option<&str>) -> Result<Option<String>, AllocError>
+    ensures { IfOk result
+        (λ copy. option_map string_bytes copy ≡ option_map (λ text. text.now) name.entry) }
+{
     match name {
         Some(name) => Ok(Some(String::from_str(alloc, name)?)),
         None => Ok(None),
@@ -91,7 +102,11 @@ impl<
         alloc: Global,
         state: LentState<K, V, S, R, C>,
         env: E,
-    ) -> Result<Self, AllocError> {
+    ) -> Result<Self, AllocError>
+        ensures name { IfOk result (λ cache.
+            option_map string_bytes (arc_value cache.inner).name ≡ state.name) }
+        ensures policy { IfOk result (λ cache. ShowsPolicy state (arc_value cache.inner).policy) }
+    {
         let name = copy_name(alloc, state.name())?;
         let policy = state.policy();
         let inner = Arc::new(
@@ -106,7 +121,10 @@ impl<
     }
 
     /// Returns the name of the cache, if it has one.
-    pub fn name(&self) -> Option<&str> {
+    pub fn name(&self) -> Option<&str>
+        ensures { option_map (λ text. text.now) result
+            ≡ option_map string_bytes (arc_value self.now.inner).name }
+    {
         match &self.inner.name {
             Some(name) => Some(name.as_str()),
             None => None,
@@ -115,7 +133,9 @@ impl<
 
     /// Returns the settings of the cache: the maximum capacity of all segments together, the number of segments (a power of two), and the
     /// times to live and to idle, each at most 2^64 - 2 nanoseconds.
-    pub fn policy(&self) -> Policy {
+    pub fn policy(&self) -> Policy
+        ensures { result ≡ (arc_value self.now.inner).policy }
+    {
         self.inner.policy
     }
 

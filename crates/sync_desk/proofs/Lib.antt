@@ -1,3 +1,4 @@
 pub mod Removing
 pub mod Refusing
 pub mod Telling
+pub mod Computing

@@ -1,23 +1,25 @@
 -- What a call does to the state, at the moment and step that it draws.
-use Rattle.std.specs.Prelude.{◌≡◌, ◌⊎◌, ℕ, ◌+◌, ◌^◌, ◌≤◌, Bool, Option, Some, None, Result, Ok, Err}
+use Rattle.std.specs.Prelude.{◌≡◌, ◌⊎◌, ℕ, ◌+◌, ◌^◌, ◌≤◌, Bool, false, Option, Some, None, Result, Ok, Err}
 use Rattle.engine_reference.specs.Calls.{cleared_by}
 use Rattle.engine_reference.specs.State.{Answers}
 use Rattle.front_parts.specs.Places.Turning.{IsTurnCause}
+use Rattle.front_parts.specs.Wholes.Covering.{SomeLacksTickets}
 use Rattle.front_reference.specs.Fronts.{Front, CallsAll, ComesAfter, turn_at}
 use Rattle.front_reference.specs.Turns.{abandoned, begun_compute}
-use Rattle.front_reference.specs.Wholes.{RunsPart}
+use Rattle.front_reference.specs.Wholes.{DrawsInVain, RunsPart}
 use Rattle.front_reference.specs.declared.data.At.{At}
 use Rattle.front_reference.specs.declared.data.Made.{Made}
 use Rattle.front_reference.specs.declared.data.TurnKind.{TurnKind}
 use Rattle.front_reference.specs.declared.data.TurnStart.{TurnStart}
 use Rattle.front_reference.specs.declared.data.TurnStart.TheVariants as state
+use Rattle.front_reference.specs.declared.errors.CacheError.{CacheError}
 use Rattle.front_reference.specs.declared.errors.CacheError.TheVariants as errors
 use Rattle.front_state.specs.Calls.{CoalescesBy, InsertsIn, LooksUpIn, TakesOutIn, Ways, hash_in, held_value_in, visible_in}
 use Rattle.front_state.specs.Beginning.{BeginsBy}
 use Rattle.front_state.specs.Covering.{CoversAll}
 use Rattle.front_state.specs.Turning.{FinishesBy}
 use Rattle.rand_core.specs.Stream.{Stream}
-use Rattle.sync_desk.specs.Slots.Waiting.{ChangesAt, IsPutAt, SlotsByNumber, joined, opened, slot_at, waiting_at}
+use Rattle.sync_desk.specs.Slots.Waiting.{ChangesAt, IsPutAt, SlotsByNumber, SlotsStay, joined, opened, waiting_at}
 use Rattle.sync_desk.specs.declared.slots.slot.Ending.{Ending}
 use Rattle.sync_desk.specs.declared.slots.slot.Ending.TheVariants.{Done, GivenUp}
 use Rattle.sync_desk.specs.declared.turns.ComputeStart.{ComputeStart}
@@ -63,6 +65,16 @@ module _ {K V P S R : Type 0} where
       (at : At) × IsDrawn old at
       × ((drawn left : Stream) × CoversAll predicate at drawn left first old new)
 
+  -- why a predicate is registered in no segment: there was no memory, the steps or the tickets of a segment are used up, the cache takes
+  -- none, or a segment drew a thousand identifiers that are in use
+  abbrev pub IsCauseToCoverAsDrawn : Front K V P S R → CacheError → Type 0
+  IsCauseToCoverAsDrawn f errors.OutOfMemory = Unit {0}
+  IsCauseToCoverAsDrawn f errors.UsedUp = LacksSteps 1 f ⊎ SomeLacksTickets f.parts
+  IsCauseToCoverAsDrawn f errors.InvalidationClosuresDisabled =
+      f.common.settings.takes_predicates ≡ false
+  IsCauseToCoverAsDrawn f errors.IdsInUse = (drawn left : Stream) × DrawsInVain f.parts drawn left
+  IsCauseToCoverAsDrawn f other = ⊥
+
 -- how a call that makes a value begins, in terms of the state
 abbrev pub state_start : {A V : Type 0} → Start A V → TurnStart V
 state_start (Found value) = state.Found value
@@ -103,11 +115,11 @@ module _ {K V P S R : Type 0} (ways : Ways K V P S R) where
       × GivesUp number mid new
 
   -- a call of a kind begins
-  abbrev pub BeginsAsDrawn : {A : Type 0} → TurnKind → K → (Ignores : V → Bool → Type 0)
-      → Front K V P S R → Front K V P S R → Start A V → Type 0
+  abbrev pub BeginsAsDrawn : TurnKind → K → (Ignores : V → Bool → Type 0) → Front K V P S R
+      → Front K V P S R → TurnStart V → Type 0
   BeginsAsDrawn kind key Ignores old new start =
       (at : At) × IsDrawn old at
-      × BeginsBy ways kind key (hash_in ways old key) at Ignores old new (state_start start)
+      × BeginsBy ways kind key (hash_in ways old key) at Ignores old new start
 
   -- the turn of a key's compute call that is under way is waited for, or one begins
   abbrev pub StartsAsDrawn : K → Front K V P S R → Front K V P S R → TurnStart V → Type 0
@@ -136,12 +148,20 @@ module _ {K V P S R : Type 0} (ways : Ways K V P S R) where
   FinishesAsDrawn number made old new =
       (at : At) × IsDrawn old at × FinishesBy ways number made at old new
 
+-- a compute call that is refused changed nothing, or began a turn and gave it up: it is no longer there
+abbrev pub EndsUnstarted : {K V P S R F : Type 0} → Ways K V P S R → K
+    → (slots left : SlotsByNumber V F) → Front K V P S R → Front K V P S R → Type 0
+EndsUnstarted {K} {V} {P} {S} {R} ways key slots left old new =
+    ((new ≡ old) × SlotsStay slots left)
+    ⊎ ((number : ℕ) × (mid : Front K V P S R) × StartsAsDrawn ways key old mid (state.Lead number)
+    × GivesUp number mid new × IsPutAt number None slots left)
+
 -- What a call does to the turns that are led or waited for.
 module _ {V F : Type 0} where
   -- a call of a kind on a key of this hash waits for a turn, or leads one for which nobody waits
   abbrev pub HasStarted : TurnKind → (hash : ℕ) → (old new : SlotsByNumber V F) → TurnStart V
       → Type 0
-  HasStarted kind hash old new (state.Found value) = (n : ℕ) → slot_at n new ≡ slot_at n old
+  HasStarted kind hash old new (state.Found value) = SlotsStay old new
   HasStarted kind hash old new (state.Wait number) = ChangesAt kind number joined old new
   HasStarted kind hash old new (state.Lead number) =
       IsPutAt number (Some (opened kind hash)) old new

@@ -1,3 +1,4 @@
 pub mod Slots
 pub mod Coalescing
 pub mod Drawing
+pub mod Writing

@@ -1,11 +1,12 @@
 //! Calls that take the lock once.
-ghost use Rattle.std.specs.Prelude.{◌≡◌, ◌⊎◌, Option, IfOk, IfErr, OnOk, OnErr, is_some};
+ghost use Rattle.std.specs.Prelude.{◌≡◌, ◌⊎◌, ◌+◌, Option, Some, None, IfOk, IfErr, OnOk, OnErr, if◌then◌else◌, is_ok, is_some};
 ghost use Rattle.std.specs.Result.{IsErrOf};
 ghost use Rattle.engine_reference.specs.Calls.{removal_rooms};
 ghost use Rattle.front_reference.specs.declared.errors.CacheError.TheVariants as errors;
-ghost use Rattle.front_state.specs.Calls.{IsCauseIn, held_value_in};
+ghost use Rattle.front_state.specs.Calls.{IsCauseIn, hash_in, held_value_in};
 ghost use Rattle.sync_desk.specs.Drawing.{ClearsAsDrawn, InsertsAsDrawn, LacksSteps, LooksUpAsDrawn, RemovesAsDrawn, RunsAsDrawn, SeesAsDrawn};
 ghost use Rattle.sync_desk.specs.Slots.Refusals.{IsShortage};
+ghost use Rattle.sync_desk.specs.Writing.{noted_if};
 
 use crate::desk::Desk;
 use crate::env::Env;
@@ -29,6 +30,7 @@ impl<
             (LooksUpAsDrawn ⟦<R as HasWays<K, V, S>>⟧.ways key.now self.old.state self.new.state) }
         ensures err { OnErr result (self.new.state ≡ self.old.state) }
         ensures slots { self.new.slots ≡ self.old.slots }
+        ensures writes { self.new.writes ≡ self.old.writes }
         ensures cause { IfErr result IsShortage }
         ensures used_up { IsErrOf result errors.UsedUp
             → LacksSteps 1 self.old.state }
@@ -48,6 +50,8 @@ impl<
             × SeesAsDrawn ⟦<R as HasWays<K, V, S>>⟧.ways key.now self.old.state found
             × (result ≡ is_some found) }
         ensures state { self.new.state ≡ self.old.state }
+        ensures slots { self.new.slots ≡ self.old.slots }
+        ensures writes { self.new.writes ≡ self.old.writes }
     {
         let now = self.env.now().max(self.state.last_call().now);
         self.state.contains_key(key, now)
@@ -58,6 +62,10 @@ impl<
         ensures inserts { OnOk result (InsertsAsDrawn ⟦<R as HasWays<K, V, S>>⟧.ways key value
             self.old.state self.new.state) }
         ensures err { OnErr result (self.new.state ≡ self.old.state) }
+        ensures slots { self.new.slots ≡ self.old.slots }
+        ensures writes { self.new.writes.steps ≡ noted_if (if is_ok result
+            then Some (hash_in ⟦<R as HasWays<K, V, S>>⟧.ways self.old.state key) else None)
+            (self.old.state.step + 1) self.old.writes.steps }
         ensures cause { IfErr result IsShortage }
         ensures used_up { IsErrOf result errors.UsedUp
             → LacksSteps 1 self.old.state ⊎ IsCauseIn
@@ -89,6 +97,7 @@ impl<
         ensures removes { OnOk result (RemovesAsDrawn ⟦<R as HasWays<K, V, S>>⟧.ways key.now
             self.old.state self.new.state) }
         ensures slots { self.new.slots ≡ self.old.slots }
+        ensures writes { self.new.writes ≡ self.old.writes }
         ensures err { OnErr result (self.new.state ≡ self.old.state) }
         ensures cause { IfErr result IsShortage }
         ensures used_up { IsErrOf result errors.UsedUp
@@ -107,6 +116,8 @@ impl<
         ensures removes { OnOk result (RemovesAsDrawn ⟦<R as HasWays<K, V, S>>⟧.ways key.now
             self.old.state self.new.state) }
         ensures err { OnErr result (self.new.state ≡ self.old.state) }
+        ensures slots { self.new.slots ≡ self.old.slots }
+        ensures writes { self.new.writes ≡ self.old.writes }
         ensures cause { IfErr result IsShortage }
         ensures used_up { IsErrOf result errors.UsedUp
             → LacksSteps 1 self.old.state ⊎ IsCauseIn
@@ -122,6 +133,8 @@ impl<
     pub fn invalidate_all(&mut self) -> Result<(), CacheError>
         ensures clears { OnOk result (ClearsAsDrawn self.old.state self.new.state) }
         ensures err { OnErr result (self.new.state ≡ self.old.state) }
+        ensures slots { self.new.slots ≡ self.old.slots }
+        ensures writes { self.new.writes ≡ self.old.writes }
         ensures cause { IfErr result
             (λ e. (e ≡ errors.UsedUp) × LacksSteps 1 self.old.state) }
     {
@@ -136,6 +149,8 @@ impl<
     pub fn run_pending_tasks(&mut self) -> Result<(), CacheError>
         ensures runs { OnOk result (RunsAsDrawn R.answers self.old.state self.new.state) }
         ensures err { OnErr result (self.new.state ≡ self.old.state) }
+        ensures slots { self.new.slots ≡ self.old.slots }
+        ensures writes { self.new.writes ≡ self.old.writes }
         ensures cause { IfErr result
             (λ e. (e ≡ errors.UsedUp) × LacksSteps 1 self.old.state) }
     {

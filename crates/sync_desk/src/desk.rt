@@ -2,12 +2,15 @@
 ghost use Rattle.std.specs.Prelude.{◌≡◌, ◌<◌, None, IfSome};
 ghost use Rattle.front_reference.specs.Fronts.{ComesAfter};
 ghost use Rattle.front_reference.specs.Wholes.{total_number, total_weight};
+ghost use Rattle.front_state.specs.Calls.{hash_in};
 ghost use Rattle.sync_desk.specs.Drawing.{IsDrawn, LacksSteps};
+ghost use Rattle.sync_desk.specs.Writing.{last_in};
 
 use crate::env::Env;
 use crate::slots::Slots;
 use crate::writes::Writes;
 use engine_reference::Rules;
+use front_parts::HasWays;
 use front_reference::{At, Shared};
 use front_state::{LentState, Single};
 use std::alloc::Global;
@@ -53,6 +56,7 @@ impl<
         ensures used_up { result ≡ None → LacksSteps 1 self.old.state }
         ensures state { self.new.state ≡ self.old.state }
         ensures slots { self.new.slots ≡ self.old.slots }
+        ensures writes { self.new.writes ≡ self.old.writes }
     {
         let last = self.state.last_call();
         let now = self.env.now().max(last.now);
@@ -62,7 +66,10 @@ impl<
 
     /// Returns the step at which a value of a key, or of another key that shares its place, was last written. If it is the same as before,
     /// so is the visible value, unless there is none any more.
-    pub fn last_write(&self, key: &K) -> u64 {
+    pub fn last_write(&self, key: &K) -> u64
+        ensures { result ≡ last_in (hash_in ⟦<R as HasWays<K, V, S>>⟧.ways self.now.state key.now)
+            self.now.writes.steps }
+    {
         self.writes.last(self.state.hash(key))
     }
 

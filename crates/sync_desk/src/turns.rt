@@ -1,5 +1,5 @@
 //! Turns: leading, waiting, and how they end.
-ghost use Rattle.std.specs.Prelude.{◌≡◌, ◌⊎◌, ◌+◌, true, None, Ok, IfOk, IfErr, OnOk, OnErr, IsSome, if◌then◌else◌, is_ok, is_some};
+ghost use Rattle.std.specs.Prelude.{◌≡◌, ◌⊎◌, ◌+◌, true, false, Option, None, Some, Ok, IfOk, IfErr, OnOk, OnErr, if◌then◌else◌, is_ok, is_some, option_map};
 ghost use Rattle.std.specs.Fn.{FnOnceReturnsAt};
 ghost use Rattle.std.specs.Result.{IsErrOf};
 ghost use Rattle.engine_reference.specs.Calls.{removal_rooms};
@@ -8,12 +8,14 @@ ghost use Rattle.front_reference.specs.Fronts.{turn_at, turn_of};
 ghost use Rattle.front_reference.specs.declared.data.Made.TheVariants as makes;
 ghost use Rattle.front_reference.specs.declared.errors.CacheError.TheVariants as errors;
 ghost use Rattle.front_reference.specs.declared.data.TurnKind.TheVariants as kinds;
-ghost use Rattle.front_state.specs.Calls.{IsCauseIn, hash_in};
+ghost use Rattle.front_reference.specs.declared.data.TurnStart.TheVariants.{Found};
+ghost use Rattle.front_state.specs.Calls.{IsCauseIn, hash_in, visible_in};
 ghost use Rattle.sync_desk.specs.Coalescing.{IsMadeOrFound};
-ghost use Rattle.sync_desk.specs.Drawing.{BeginsAsDrawn, CoalescesAsDrawn, ComputesAsDrawn, FinishesAsDrawn, GivesUp, HasStarted, LacksNumbers, LacksSteps, StartsAsDrawn, TakesOutAsDrawn, compute_start, state_start, told_by};
+ghost use Rattle.sync_desk.specs.Drawing.{BeginsAsDrawn, CoalescesAsDrawn, ComputesAsDrawn, EndsUnstarted, FinishesAsDrawn, GivesUp, HasStarted, LacksNumbers, LacksSteps, LooksUpAsDrawn, TakesOutAsDrawn, compute_start, state_start, told_by};
 ghost use Rattle.sync_desk.specs.Slots.Endings.{IsExact, fits, suits};
-ghost use Rattle.sync_desk.specs.Slots.Refusals.{IsEndRefusal, IsShortage};
-ghost use Rattle.sync_desk.specs.Slots.Waiting.{ChangesAt, changed, ended, if_of, seen_with, slot_at, told_of};
+ghost use Rattle.sync_desk.specs.Slots.Refusals.{IsEndRefusal, IsShortOf, IsShortage};
+ghost use Rattle.sync_desk.specs.Slots.Waiting.{ChangesAt, SlotsStay, changed, ended, hash_of, if_of, seen_with, slot_at, told_of};
+ghost use Rattle.sync_desk.specs.Writing.{noted_if};
 ghost use Rattle.sync_desk.specs.declared.slots.slot.Ending.TheVariants.{Done, GivenUp};
 
 use crate::desk::Desk;
@@ -21,7 +23,8 @@ use crate::env::Env;
 use crate::slots::{Asked, Ending, SharedName, WaitingName, copy_made};
 use engine_reference::Rules;
 use front_parts::HasWays;
-use front_reference::{At, CacheError, IntoKey, Made, Shared, TurnKind, TurnStart};
+use front_reference::{At, CacheError, IntoKey, LentKey, Made, Shared, TurnKind, TurnStart};
+use policy_base::Instant;
 use std::alloc::AllocError;
 use std::hash::{BuildHasher, Hash};
 
@@ -67,19 +70,22 @@ impl<
         requires exact { (x y : V) → V.is_clone x y → y ≡ x }
         requires callable { P.IsAlwaysCallable replace_if }
         ensures begins { IfOk result
-            (BeginsAsDrawn ⟦<R as HasWays<K, V, S>>⟧.ways kind (A.named_key asked)
-            (FnOnceReturnsAt P.FnOnce replace_if) self.old.state self.new.state) }
-        ensures cause { IfErr result IsShortage }
-        ensures used_up { IsErrOf result errors.UsedUp
-            → LacksNumbers self.old.state self.old.slots.slots }
+            (λ start. BeginsAsDrawn ⟦<R as HasWays<K, V, S>>⟧.ways kind (A.named_key asked)
+            (FnOnceReturnsAt P.FnOnce replace_if) self.old.state self.new.state
+            (state_start start)) }
         ensures turns { IfOk result (λ start. HasStarted kind
             (hash_in ⟦<R as HasWays<K, V, S>>⟧.ways self.old.state (A.named_key asked))
             self.old.slots.slots self.new.slots.slots (state_start start)) }
+        ensures err { OnErr result ((self.new.state ≡ self.old.state)
+            × SlotsStay self.old.slots.slots self.new.slots.slots) }
+        ensures writes { self.new.writes ≡ self.old.writes }
+        ensures cause { IsShortOf (LacksNumbers self.old.state self.old.slots.slots) result }
     {
-        if self.state.is_turn_free(kind, asked.key()) {
-            self.find_or_lead(kind, asked, replace_if)
-        } else {
-            self.find_or_wait(kind, asked, replace_if)
+        let hash = self.state.hash(asked.key());
+        let name = LentKey { key: asked.key() };
+        match self.state.turn_number(kind, &name, hash) {
+            Some(number) => self.find_or_wait(kind, asked, hash, number, replace_if),
+            None => self.find_or_lead(kind, asked, hash, replace_if),
         }
     }
 
@@ -88,21 +94,25 @@ impl<
         &mut self,
         kind: TurnKind,
         asked: A,
+        hash: u64,
         replace_if: P,
     ) -> Result<Start<A, V>, CacheError>
-        requires free { turn_of K.eq self.old.state.turns kind (A.named_key asked) ≡ None }
+        requires free { (hash
+            ≡ hash_in ⟦<R as HasWays<K, V, S>>⟧.ways self.old.state (A.named_key asked))
+            × (turn_of K.eq self.old.state.turns kind (A.named_key asked) ≡ None) }
         requires becomes { (a : A) → A.can_become a }
-        requires exact { (x y : V) → V.is_clone x y → y ≡ x }
-        requires callable { P.IsAlwaysCallable replace_if }
+        requires callable { IsExact V.is_clone × P.IsAlwaysCallable replace_if }
         ensures begins { IfOk result
-            (BeginsAsDrawn ⟦<R as HasWays<K, V, S>>⟧.ways kind (A.named_key asked)
-            (FnOnceReturnsAt P.FnOnce replace_if) self.old.state self.new.state) }
-        ensures cause { IfErr result IsShortage }
-        ensures used_up { IsErrOf result errors.UsedUp
-            → LacksNumbers self.old.state self.old.slots.slots }
+            (λ start. BeginsAsDrawn ⟦<R as HasWays<K, V, S>>⟧.ways kind (A.named_key asked)
+            (FnOnceReturnsAt P.FnOnce replace_if) self.old.state self.new.state
+            (state_start start)) }
         ensures turns { IfOk result (λ start. HasStarted kind
             (hash_in ⟦<R as HasWays<K, V, S>>⟧.ways self.old.state (A.named_key asked))
             self.old.slots.slots self.new.slots.slots (state_start start)) }
+        ensures err { OnErr result ((self.new.state ≡ self.old.state)
+            × SlotsStay self.old.slots.slots self.new.slots.slots) }
+        ensures writes { self.new.writes ≡ self.old.writes }
+        ensures cause { IsShortOf (LacksNumbers self.old.state self.old.slots.slots) result }
     {
         let Some(at) = self.draw() else {
             return Err(CacheError::UsedUp);
@@ -110,8 +120,10 @@ impl<
         let Ok(()) = self.slots.reserve() else {
             return Err(CacheError::OutOfMemory);
         };
-        let hash = self.state.hash(asked.key());
-        match self.state.begin(kind, asked, hash, at, replace_if) {
+        match self
+            .state
+            .begin_with_hash(kind, asked, hash, at, replace_if)
+        {
             Ok(TurnStart::Found(value)) => Ok(Start::Found(value)),
             Ok(TurnStart::Lead(number)) => {
                 self.slots.open(kind, number, hash);
@@ -122,50 +134,107 @@ impl<
         }
     }
 
-    /// Begins if a turn is under way.
+    /// Begins if the turn of this number is under way.
     fn find_or_wait<A: Asked<K>, P: FnOnce(&V) -> bool + Drop>(
         &mut self,
         kind: TurnKind,
         asked: A,
+        hash: u64,
+        number: u64,
         replace_if: P,
     ) -> Result<Start<A, V>, CacheError>
-        requires busy { IsSome (turn_of K.eq self.old.state.turns kind (A.named_key asked)) }
-        requires exact { (x y : V) → V.is_clone x y → y ≡ x }
-        requires callable { P.IsAlwaysCallable replace_if }
+        requires busy { (hash
+            ≡ hash_in ⟦<R as HasWays<K, V, S>>⟧.ways self.old.state (A.named_key asked))
+            × (option_map (λ turn. turn.number)
+            (turn_of K.eq self.old.state.turns kind (A.named_key asked)) ≡ Some number) }
+        requires callable { IsExact V.is_clone × P.IsAlwaysCallable replace_if }
         ensures begins { IfOk result
-            (BeginsAsDrawn ⟦<R as HasWays<K, V, S>>⟧.ways kind (A.named_key asked)
-            (FnOnceReturnsAt P.FnOnce replace_if) self.old.state self.new.state) }
-        ensures cause { IfErr result IsShortage }
-        ensures used_up { IsErrOf result errors.UsedUp
-            → LacksNumbers self.old.state self.old.slots.slots }
+            (λ start. BeginsAsDrawn ⟦<R as HasWays<K, V, S>>⟧.ways kind (A.named_key asked)
+            (FnOnceReturnsAt P.FnOnce replace_if) self.old.state self.new.state
+            (state_start start)) }
         ensures turns { IfOk result (λ start. HasStarted kind
             (hash_in ⟦<R as HasWays<K, V, S>>⟧.ways self.old.state (A.named_key asked))
             self.old.slots.slots self.new.slots.slots (state_start start)) }
+        ensures err { OnErr result ((self.new.state ≡ self.old.state)
+            × SlotsStay self.old.slots.slots self.new.slots.slots) }
+        ensures writes { self.new.writes ≡ self.old.writes }
+        ensures cause { IsShortOf (LacksNumbers self.old.state self.old.slots.slots) result }
     {
+        if !self.slots.can_join(number) {
+            return match self.find_or_refuse(kind, asked.key(), replace_if) {
+                Ok(value) => Ok(Start::Found(value)),
+                Err(refused) => Err(refused),
+            };
+        }
         let Some(at) = self.draw() else {
             return Err(CacheError::UsedUp);
         };
-        let key = asked.key();
-        let hash = self.state.hash(key);
-        match self
-            .state
-            .begin(kind, WaitingName { key }, hash, at, replace_if)
-        {
+        let name = WaitingName { key: asked.key() };
+        match self.state.begin_with_hash(kind, name, hash, at, replace_if) {
             Ok(TurnStart::Found(value)) => Ok(Start::Found(value)),
-            Ok(TurnStart::Wait(number)) => match self.slots.join(kind, number) {
-                Ok(()) => Ok(Start::Wait(number, asked)),
-                Err(_) => Err(CacheError::UsedUp),
-            },
+            Ok(TurnStart::Wait(waited)) => {
+                self.slots.join(kind, waited);
+                Ok(Start::Wait(waited, asked))
+            }
             Ok(TurnStart::Lead(_)) => unreachable!(),
             Err(refused) => Err(refused),
         }
     }
 
-    /// Begins a compute call. Returns the turn of this key that is under way, for which the caller waits from now on, or a new one.
+    /// Begins if no more can wait for the turn that is under way.
+    fn find_or_refuse<P: FnOnce(&V) -> bool + Drop>(
+        &mut self,
+        kind: TurnKind,
+        key: &K,
+        replace_if: P,
+    ) -> Result<V, CacheError>
+        requires callable { IsExact V.is_clone × P.IsAlwaysCallable replace_if }
+        ensures begins { IfOk result
+            (λ value. BeginsAsDrawn ⟦<R as HasWays<K, V, S>>⟧.ways kind key.now
+            (FnOnceReturnsAt P.FnOnce replace_if) self.old.state self.new.state (Found value)) }
+        ensures err { OnErr result (self.new.state ≡ self.old.state) }
+        ensures slots { self.new.slots ≡ self.old.slots }
+        ensures writes { self.new.writes ≡ self.old.writes }
+        ensures cause { IfErr result IsShortage }
+    {
+        if kind.is_same(TurnKind::Compute) {
+            return Err(CacheError::UsedUp);
+        }
+        let Some(at) = self.draw() else {
+            return Err(CacheError::UsedUp);
+        };
+        if self.finds_none(key, at.now, replace_if) {
+            return Err(CacheError::UsedUp);
+        }
+        match self.state.get(key, at) {
+            Ok(Some(value)) => Ok(value),
+            Ok(None) => unreachable!(),
+            Err(_) => Err(CacheError::OutOfMemory),
+        }
+    }
+
+    /// Whether no value of a key is found: none is visible, or `replace_if` returns true for it.
+    fn finds_none<P: FnOnce(&V) -> bool + Drop>(&self, key: &K, now: Instant, replace_if: P) -> bool
+        requires { P.IsAlwaysCallable replace_if }
+        ensures { result ≡ false → (value : V)
+            × (visible_in ⟦<R as HasWays<K, V, S>>⟧.ways self.now.state now key.now ≡ Some value)
+            × FnOnceReturnsAt P.FnOnce replace_if value false }
+    {
+        match self.state.peek(key, now) {
+            Some(value) => replace_if(value),
+            None => true,
+        }
+    }
+
+    /// Begins a compute call. Returns the turn of this key that is under way, for which the caller waits from now on, or a new one. If the
+    /// value that it is to be shown is refused, the new turn is given up.
     pub fn begin_compute(&mut self, key: &Shared<K>) -> Result<ComputeStart<V>, CacheError>
         requires exact { (x y : V) → V.is_clone x y → y ≡ x }
         ensures begins { IfOk result (ComputesAsDrawn ⟦<R as HasWays<K, V, S>>⟧.ways key.now
             self.old.state self.new.state) }
+        ensures err { OnErr result (EndsUnstarted ⟦<R as HasWays<K, V, S>>⟧.ways key.now
+            self.old.slots.slots self.new.slots.slots self.old.state self.new.state) }
+        ensures writes { self.new.writes ≡ self.old.writes }
         ensures cause { IfErr result IsShortage }
         ensures turns { IfOk result (λ start. HasStarted kinds.Compute
             (hash_in ⟦<R as HasWays<K, V, S>>⟧.ways self.old.state key.now)
@@ -173,11 +242,31 @@ impl<
         ensures used_up { IsErrOf result errors.UsedUp
             → LacksNumbers self.old.state self.old.slots.slots ⊎ LacksSteps 2 self.old.state }
     {
-        let number = match self.start_compute(key)? {
-            TurnStart::Lead(number) => number,
-            TurnStart::Wait(number) => return Ok(ComputeStart::Wait(number)),
-            TurnStart::Found(_) => unreachable!(),
-        };
+        match self.begin(TurnKind::Compute, SharedName { key }, |_: &V| -> bool {
+            false
+        }) {
+            Ok(Start::Lead(number)) => self.show_visible(key, number),
+            Ok(Start::Wait(number, _)) => Ok(ComputeStart::Wait(number)),
+            Ok(Start::Found(_)) => unreachable!(),
+            Err(refused) => Err(refused),
+        }
+    }
+
+    /// Shows the caller that leads a compute turn the visible value of its key, or gives the turn up.
+    fn show_visible(&mut self, key: &Shared<K>, number: u64) -> Result<ComputeStart<V>, CacheError>
+        requires exact { (x y : V) → V.is_clone x y → y ≡ x }
+        ensures leads { IfOk result (λ start. (seen : Option V)
+            × (start ≡ ComputeStart.Lead number seen)
+            × LooksUpAsDrawn ⟦<R as HasWays<K, V, S>>⟧.ways key.now
+            self.old.state self.new.state seen) }
+        ensures slots { OnOk result (self.new.slots ≡ self.old.slots) }
+        ensures gives_up { OnErr result (GivesUp number self.old.state self.new.state) }
+        ensures told { OnErr result (ChangesAt kinds.Compute number (ended GivenUp)
+            self.old.slots.slots self.new.slots.slots) }
+        ensures writes { self.new.writes ≡ self.old.writes }
+        ensures cause { IfErr result IsShortage }
+        ensures used_up { IsErrOf result errors.UsedUp → LacksSteps 1 self.old.state }
+    {
         match self.get(&**key) {
             Ok(seen) => Ok(ComputeStart::Lead(number, seen)),
             Err(refused) => {
@@ -185,38 +274,6 @@ impl<
                 Err(refused)
             }
         }
-    }
-
-    /// Waits for the turn of a key's compute call that is under way, or leads a new one.
-    fn start_compute(&mut self, key: &Shared<K>) -> Result<TurnStart<V>, CacheError>
-        requires exact { (x y : V) → V.is_clone x y → y ≡ x }
-        ensures starts { IfOk result (StartsAsDrawn ⟦<R as HasWays<K, V, S>>⟧.ways key.now
-            self.old.state self.new.state) }
-        ensures turns { IfOk result (HasStarted kinds.Compute
-            (hash_in ⟦<R as HasWays<K, V, S>>⟧.ways self.old.state key.now)
-            self.old.slots.slots self.new.slots.slots) }
-        ensures step { OnOk result (self.new.state.step ≡ self.old.state.step + 1) }
-        ensures cause { IfErr result IsShortage }
-        ensures used_up { IsErrOf result errors.UsedUp
-            → LacksNumbers self.old.state self.old.slots.slots }
-    {
-        let Some(at) = self.draw() else {
-            return Err(CacheError::UsedUp);
-        };
-        let Ok(()) = self.slots.reserve() else {
-            return Err(CacheError::OutOfMemory);
-        };
-        let hash = self.state.hash(&**key);
-        let name = SharedName { key };
-        let start = self
-            .state
-            .begin(TurnKind::Compute, name, hash, at, |_: &V| -> bool { false })?;
-        match &start {
-            TurnStart::Lead(number) => self.slots.open(TurnKind::Compute, *number, hash),
-            TurnStart::Wait(number) => self.slots.join(TurnKind::Compute, *number)?,
-            TurnStart::Found(_) => {}
-        }
-        Ok(start)
     }
 
     /// Returns what became of a turn that the caller waits for. If it ended, or a clone of what it made is refused, the caller waits no
@@ -233,6 +290,7 @@ impl<
             self.old.slots.slots self.new.slots.slots }
         ensures cause { IfErr result (λ e. e ≡ errors.OutOfMemory) }
         ensures state { self.new.state ≡ self.old.state }
+        ensures writes { self.new.writes ≡ self.old.writes }
     {
         match self.slots.look(kind, number) {
             Ok(ending) => Ok(ending),
@@ -251,9 +309,12 @@ impl<
         requires suits { suits kind made ≡ true }
         ensures told { IsExact V.is_clone → ChangesAt kind number (ended (told_by made result))
             self.old.slots.slots self.new.slots.slots }
-        ensures ends { OnOk result (FinishesAsDrawn ⟦<R as HasWays<K, V, S>>⟧.ways number made
+        ensures ends { OnOk result ((is_some (turn_at self.old.state.turns number) ≡ true)
+            × FinishesAsDrawn ⟦<R as HasWays<K, V, S>>⟧.ways number made
             self.old.state self.new.state) }
-        ensures known { OnOk result (is_some (turn_at self.old.state.turns number) ≡ true) }
+        ensures writes { self.new.writes.steps ≡ noted_if (if is_ok result
+            then hash_of kind (slot_at number self.old.slots.slots) else None)
+            self.new.state.step self.old.writes.steps }
         ensures err { OnErr result (GivesUp number self.old.state self.new.state) }
         ensures cause { IfErr result IsEndRefusal }
         ensures used_up { IsErrOf result errors.UsedUp → LacksSteps 1 self.old.state
@@ -301,9 +362,12 @@ impl<
         requires { fits kind ending ≡ true }
         ensures told { ChangesAt kind number (ended (if is_ok result then ending else GivenUp))
             self.old.slots.slots self.new.slots.slots }
-        ensures ends { OnOk result (FinishesAsDrawn ⟦<R as HasWays<K, V, S>>⟧.ways number made
+        ensures ends { OnOk result ((is_some (turn_at self.old.state.turns number) ≡ true)
+            × FinishesAsDrawn ⟦<R as HasWays<K, V, S>>⟧.ways number made
             self.old.state self.new.state) }
-        ensures known { OnOk result (is_some (turn_at self.old.state.turns number) ≡ true) }
+        ensures writes { self.new.writes.steps ≡ noted_if (if is_ok result
+            then hash_of kind (slot_at number self.old.slots.slots) else None)
+            self.new.state.step self.old.writes.steps }
         ensures err { OnErr result (GivesUp number self.old.state self.new.state) }
         ensures cause { IfErr result IsEndRefusal }
         ensures used_up { IsErrOf result errors.UsedUp → LacksSteps 1 self.old.state
@@ -329,6 +393,9 @@ impl<
         ensures told { ChangesAt kind number (ended ending) self.old.slots.slots
             self.new.slots.slots }
         ensures state { self.new.state ≡ self.old.state }
+        ensures writes { self.new.writes.steps
+            ≡ noted_if (hash_of kind (slot_at number self.old.slots.slots))
+            self.old.state.step self.old.writes.steps }
     {
         if let Some(hash) = self.slots.end(kind, number, ending) {
             let At { step, .. } = self.state.last_call();
@@ -343,6 +410,7 @@ impl<
         ensures known { OnOk result (is_some (turn_at self.old.state.turns number) ≡ true) }
         ensures err { OnErr result (self.new.state ≡ self.old.state) }
         ensures slots { self.new.slots ≡ self.old.slots }
+        ensures writes { self.new.writes ≡ self.old.writes }
         ensures cause { IfErr result IsEndRefusal }
         ensures used_up { IsErrOf result errors.UsedUp → LacksSteps 1 self.old.state
             ⊎ IsFinishCause ⟦<R as HasWays<K, V, S>>⟧.ways number self.old.state errors.UsedUp }
@@ -363,6 +431,7 @@ impl<
         ensures gives_up { GivesUp number self.old.state self.new.state }
         ensures told { ChangesAt kind number (ended GivenUp) self.old.slots.slots
             self.new.slots.slots }
+        ensures writes { self.new.writes ≡ self.old.writes }
     {
         if let Some(at) = self.draw() {
             let _known = self.state.abandon(number, at);
@@ -372,10 +441,14 @@ impl<
 
     /// Ends the compute turn that the caller leads by putting a value. If that is refused, the turn is given up.
     pub fn put(&mut self, number: u64, value: V) -> Result<(), CacheError>
-        ensures ends { OnOk result (FinishesAsDrawn ⟦<R as HasWays<K, V, S>>⟧.ways {F = R.Fault}
-            number (makes.Value value) self.old.state self.new.state) }
+        ensures ends { OnOk result ((is_some (turn_at self.old.state.turns number) ≡ true)
+            × FinishesAsDrawn ⟦<R as HasWays<K, V, S>>⟧.ways {F = R.Fault} number
+            (makes.Value value) self.old.state self.new.state) }
         ensures told { ChangesAt kinds.Compute number (ended GivenUp) self.old.slots.slots
             self.new.slots.slots }
+        ensures writes { self.new.writes.steps ≡ noted_if (if is_ok result
+            then hash_of kinds.Compute (slot_at number self.old.slots.slots) else None)
+            self.new.state.step self.old.writes.steps }
         ensures err { OnErr result (GivesUp number self.old.state self.new.state) }
         ensures cause { IfErr result IsEndRefusal }
         ensures used_up { IsErrOf result errors.UsedUp → LacksSteps 1 self.old.state
@@ -399,6 +472,7 @@ impl<
             self.new.slots.slots }
         ensures takes_out { IfOk result (TakesOutAsDrawn ⟦<R as HasWays<K, V, S>>⟧.ways number
             key.now self.old.state self.new.state) }
+        ensures writes { self.new.writes ≡ self.old.writes }
         ensures err { OnErr result (GivesUp number self.old.state self.new.state) }
         ensures cause { IfErr result IsShortage }
         ensures used_up { IsErrOf result errors.UsedUp → LacksSteps 1 self.old.state ⊎ IsCauseIn
@@ -426,9 +500,12 @@ impl<
             (FnOnceReturnsAt P.FnOnce replace_if) (M.post make) self.old.state self.new.state) }
         ensures answer { IfOk result (λ a. IsMadeOrFound (λ made. M.post make (Ok made)) a.0 a.1) }
         ensures err { OnErr result (self.new.state ≡ self.old.state) }
-        ensures cause { IfErr result IsShortage }
-        ensures used_up { IsErrOf result errors.UsedUp → LacksSteps 1 self.old.state ⊎ IsCauseIn
-            ⟦<R as HasWays<K, V, S>>⟧.ways (λ _. 1) self.old.state key.now errors.UsedUp }
+        ensures slots { self.new.slots ≡ self.old.slots }
+        ensures writes { self.new.writes.steps ≡ noted_if (if is_ok result then Some
+            (hash_in ⟦<R as HasWays<K, V, S>>⟧.ways self.old.state key.now) else None)
+            (self.old.state.step + 1) self.old.writes.steps }
+        ensures cause { IsShortOf (LacksSteps 1 self.old.state ⊎ IsCauseIn
+            ⟦<R as HasWays<K, V, S>>⟧.ways (λ _. 1) self.old.state key.now errors.UsedUp) result }
     {
         let Some(at) = self.draw() else {
             return Err(CacheError::UsedUp);

@@ -1,19 +1,18 @@
 //! Calls on all segments: predicates, notices, and what iterators read.
-ghost use Rattle.std.specs.Prelude.{◌≡◌, ◌⊎◌, ◌≤◌, ℕ, true, false, IfErr, IfOk, MatchOption, OnOk, OnErr, length};
+ghost use Rattle.std.specs.Prelude.{◌≡◌, ◌≤◌, ℕ, true, false, IfErr, IfOk, MatchOption, OnOk, OnErr, length};
 ghost use Rattle.std.specs.Result.{IsErrOf};
 ghost use Rattle.std.specs.String.{string_bytes};
-ghost use Rattle.front_parts.specs.Wholes.Covering.{SomeLacksTickets, id_text};
+ghost use Rattle.front_parts.specs.Wholes.Covering.{id_text};
 ghost use Rattle.front_reference.specs.declared.errors.CacheError.TheVariants as errors;
 ghost use Rattle.front_reference.specs.Wholes.{next_told, without_told};
 ghost use Rattle.front_state.specs.Covering.{keys_in};
-ghost use Rattle.sync_desk.specs.Drawing.{CoversAsDrawn, LacksSteps, SeesAsDrawn};
-ghost use Rattle.sync_desk.specs.Slots.Refusals.{IsCoverRefusal};
+ghost use Rattle.sync_desk.specs.Drawing.{CoversAsDrawn, IsCauseToCoverAsDrawn, IsDrawn, SeesAsDrawn};
 
 use crate::desk::Desk;
 use crate::env::Env;
 use engine_reference::Rules;
 use front_parts::{HasWays, ScanningGet};
-use front_reference::{CacheError, Shared};
+use front_reference::{At, CacheError, Shared};
 use front_state::{PredicateId, Segmented, Single};
 use moka_engine::Notice;
 use std::hash::{BuildHasher, Hash};
@@ -34,18 +33,20 @@ impl<
         ensures covers { IfOk result (λ text. (id : ℕ) × (string_bytes text ≡ id_text id)
             × CoversAsDrawn predicate id self.old.state self.new.state) }
         ensures takes { OnOk result (self.old.state.common.settings.takes_predicates ≡ true) }
+        ensures first { self.old.state.common.settings.takes_predicates ≡ false
+            → IsErrOf result errors.InvalidationClosuresDisabled }
         ensures err { OnErr result (self.new.state ≡ self.old.state) }
-        ensures cause { IfErr result IsCoverRefusal }
-        ensures disabled { IsErrOf result errors.InvalidationClosuresDisabled
-            → self.old.state.common.settings.takes_predicates ≡ false }
-        ensures used_up { IsErrOf result errors.UsedUp
-            → LacksSteps 1 self.old.state ⊎ SomeLacksTickets self.old.state.parts }
+        ensures slots { self.new.slots ≡ self.old.slots }
+        ensures writes { self.new.writes ≡ self.old.writes }
+        ensures cause { IfErr result (IsCauseToCoverAsDrawn self.old.state) }
     {
-        let Some(at) = self.draw() else {
-            return Err(CacheError::UsedUp);
-        };
-        let Desk { state, env, .. } = self;
-        state.invalidate_entries_if(predicate, env, at)
+        match self.draw_to_cover() {
+            Ok(at) => {
+                let Desk { state, env, .. } = self;
+                state.invalidate_entries_if(predicate, env, at)
+            }
+            Err(refused) => Err(refused),
+        }
     }
 }
 
@@ -62,18 +63,20 @@ impl<
         ensures covers { OnOk result ((id : ℕ) × CoversAsDrawn predicate id self.old.state
             self.new.state) }
         ensures takes { OnOk result (self.old.state.common.settings.takes_predicates ≡ true) }
+        ensures first { self.old.state.common.settings.takes_predicates ≡ false
+            → IsErrOf result errors.InvalidationClosuresDisabled }
         ensures err { OnErr result (self.new.state ≡ self.old.state) }
-        ensures cause { IfErr result IsCoverRefusal }
-        ensures disabled { IsErrOf result errors.InvalidationClosuresDisabled
-            → self.old.state.common.settings.takes_predicates ≡ false }
-        ensures used_up { IsErrOf result errors.UsedUp
-            → LacksSteps 1 self.old.state ⊎ SomeLacksTickets self.old.state.parts }
+        ensures slots { self.new.slots ≡ self.old.slots }
+        ensures writes { self.new.writes ≡ self.old.writes }
+        ensures cause { IfErr result (IsCauseToCoverAsDrawn self.old.state) }
     {
-        let Some(at) = self.draw() else {
-            return Err(CacheError::UsedUp);
-        };
-        let Desk { state, env, .. } = self;
-        state.invalidate_entries_if(predicate, env, at)
+        match self.draw_to_cover() {
+            Ok(at) => {
+                let Desk { state, env, .. } = self;
+                state.invalidate_entries_if(predicate, env, at)
+            }
+            Err(refused) => Err(refused),
+        }
     }
 }
 
@@ -85,11 +88,33 @@ impl<
     E: Env + Drop,
     C: Drop,
 > Desk<K, V, S, R, E, C> {
+    /// The moment and step of a call with a predicate. A cache that takes none refuses that first.
+    fn draw_to_cover(&mut self) -> Result<At, CacheError>
+        ensures drawn { IfOk result (IsDrawn self.old.state) }
+        ensures takes { OnOk result (self.old.state.common.settings.takes_predicates ≡ true) }
+        ensures first { self.old.state.common.settings.takes_predicates ≡ false
+            → IsErrOf result errors.InvalidationClosuresDisabled }
+        ensures state { self.new.state ≡ self.old.state }
+        ensures slots { self.new.slots ≡ self.old.slots }
+        ensures writes { self.new.writes ≡ self.old.writes }
+        ensures cause { IfErr result (IsCauseToCoverAsDrawn self.old.state) }
+    {
+        if !self.state.takes_predicates() {
+            return Err(CacheError::InvalidationClosuresDisabled);
+        }
+        match self.draw() {
+            Some(at) => Ok(at),
+            None => Err(CacheError::UsedUp),
+        }
+    }
+
     /// Takes the oldest notice of the first segment that has one.
     pub fn next_notice(&mut self) -> Option<Notice<Shared<K>, V>>
         ensures notice { result ≡ next_told self.old.state.parts }
         ensures taken { self.new.state
             ≡ record self.old.state { parts = without_told self.old.state.parts } }
+        ensures slots { self.new.slots ≡ self.old.slots }
+        ensures writes { self.new.writes ≡ self.old.writes }
     {
         self.state.next_notice()
     }
@@ -114,6 +139,8 @@ impl<
         ensures found { IfOk result
             (SeesAsDrawn ⟦<R as HasWays<K, V, S>>⟧.ways key.now self.old.state) }
         ensures state { self.new.state ≡ self.old.state }
+        ensures slots { self.new.slots ≡ self.old.slots }
+        ensures writes { self.new.writes ≡ self.old.writes }
         ensures cause { IfErr result (λ e. e ≡ errors.OutOfMemory) }
     {
         let now = self.env.now().max(self.state.last_call().now);

@@ -1,5 +1,6 @@
 //! When values were last written.
-ghost use Rattle.std.specs.Prelude.{◌≡◌, ◌%◌, slice_index, slice_set};
+ghost use Rattle.std.specs.Prelude.{◌≡◌, ◌%◌};
+ghost use Rattle.sync_desk.specs.Writing.{last_in, noted_in};
 
 /// The number of places.
 const PLACES: usize = 64;
@@ -20,14 +21,14 @@ impl Writes {
 
     /// Notes that a value of a key with this hash is written.
     pub fn note(&mut self, hash: u64, step: u64)
-        ensures { self.new.steps ≡ slice_set self.old.steps (hash % 64) step }
+        ensures { self.new.steps ≡ noted_in hash step self.old.steps }
     {
         self.steps[place_of(hash)] = step;
     }
 
     /// Returns when a value of a key with this hash was last written; 0 if none was.
     pub fn last(&self, hash: u64) -> u64
-        ensures { result ≡ slice_index self.now.steps (hash % 64) }
+        ensures { result ≡ last_in hash self.now.steps }
     {
         self.steps[place_of(hash)]
     }

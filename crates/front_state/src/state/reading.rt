@@ -40,6 +40,16 @@ impl<K: Eq + Hash, V, S: BuildHasher, R: Rules<K, V>, C> LentState<K, V, S, R, C
         )
     }
 
+    /// Returns whether the cache accepts predicates (`invalidate_entries_if`).
+    /// ```
+    /// assert!(rt; cache.takes_predicates());
+    /// ```
+    pub fn takes_predicates(&self) -> bool
+        ensures { result ≡ self.now.common.settings.takes_predicates }
+    {
+        self.settings.takes_predicates
+    }
+
     /// Returns the number of entries as of the last run of each part, at most 2^64 - 1.
     /// Writes and removals since then are not counted yet, and expired values still are: after `run_pending_tasks` the number is exact.
     /// `count_visible` counts what is visible now.

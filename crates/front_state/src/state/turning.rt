@@ -1,5 +1,5 @@
 //! Turns: calls that make a value, one at a time for a kind and a key.
-ghost use Rattle.std.specs.Prelude.{◌≡◌, true, None, IfOk, IfErr, OnOk, OnErr, is_none, is_some, option_map};
+ghost use Rattle.std.specs.Prelude.{◌≡◌, true, false, None, IfOk, IfErr, OnOk, OnErr, is_none, is_some, option_map};
 ghost use Rattle.std.specs.Fn.{FnOnceReturnsAt};
 ghost use Rattle.engine_reference.specs.Scanning.{NotesLookUp};
 ghost use Rattle.front_reference.specs.Fronts.{CallsPart, ComesAfter, part_by_hash, passed, turn_at, turn_of};
@@ -7,6 +7,7 @@ ghost use Rattle.front_reference.specs.Turns.{abandoned, begun_compute, with_tur
 ghost use Rattle.front_reference.specs.declared.data.Op.TheVariants as op;
 ghost use Rattle.front_reference.specs.declared.data.TurnKind.TheVariants as turns;
 ghost use Rattle.front_reference.specs.declared.errors.CacheError.TheVariants.{UnknownTurn};
+ghost use Rattle.front_parts.specs.Access.Answering.{passes_none};
 ghost use Rattle.front_parts.specs.Places.Calls.{IsAskedFirst, hash_in, seen_of};
 ghost use Rattle.front_parts.specs.Places.Turning.{BeginsIn, EndsTurnOf, FinishesBy, IsFinishCause, IsTurnCause, Leads, WaitsOrLeads};
 ghost use Rattle.front_state.specs.Beginning.{BeginsBy};
@@ -14,7 +15,9 @@ ghost use Rattle.front_state.specs.Beginning.{BeginsBy};
 use crate::state::LentState;
 use engine_reference::{Hashes, Names, Rules};
 use front_parts::{HasWays, insert_or_back_at, look_at, make_turn, note_at, place_of};
-use front_reference::{At, CacheError, IntoKey, LentKey, Made, Shared, TurnKind, TurnStart};
+use front_reference::{
+    At, CacheError, IntoKey, LentKey, Made, OwnedKey, Shared, TurnKind, TurnStart,
+};
 use policy_base::Instant;
 use std::alloc::AllocError;
 use std::hash::{BuildHasher, Hash};
@@ -33,8 +36,13 @@ impl<K: Eq + Hash, V, S: BuildHasher, R: Rules<K, V>, C> LentState<K, V, S, R, C
         self.turn_number(kind, &LentKey { key }, hash).is_none()
     }
 
-    /// The number of the turn of a kind and a key.
-    fn turn_number<Q: Names<Shared<K>>>(&self, kind: TurnKind, key: &Q, hash: u64) -> Option<u64>
+    /// Returns the number of the turn of a kind and a key that is under way, for what names the key, and its hash.
+    pub fn turn_number<Q: Names<Shared<K>>>(
+        &self,
+        kind: TurnKind,
+        key: &Q,
+        hash: u64,
+    ) -> Option<u64>
         requires { hash ≡ hash_in ⟦<R as HasWays<K, V, S>>⟧.ways self.now (Q.named_key key.now) }
         ensures { result
             ≡ option_map (λ t. t.number) (turn_of K.eq self.now.turns kind (Q.named_key key.now)) }
@@ -256,16 +264,48 @@ impl<K: Eq + Hash, V, S: BuildHasher, R: Rules<K, V>, C> LentState<K, V, S, R, C
         }
     }
 
-    /// Begins a call that waits for others of its kind and key. One that makes a value is answered the visible value, of which it is a use, unless `replace_if` says yes of it; else, and where it is a compute call, which looks nothing up, the turn of its kind and key that is under way, or a new one, which the caller leads.
-    /// The key is made only where a turn begins. A compute call never asks `replace_if`.
+    /// Begins a call that waits for others of its kind and key. One that makes a value is answered the visible value, of which it is a use; else, and where it is a compute call, which looks nothing up, the turn of its kind and key that is under way, or a new one, which the caller leads.
     /// ```
-    /// match cache.begin(TurnKind::With, OwnedKey { key: 7, alloc }, hash, at, |_| false)? {
+    /// match cache.begin(TurnKind::With, 7, at)? {
     ///     TurnStart::Found(value) => show(value),
     ///     TurnStart::Wait(turn) => wait_for(turn),
     ///     TurnStart::Lead(turn) => load(turn),
     /// }
     /// ```
-    pub fn begin<Q: IntoKey<Shared<K>>, P: FnOnce(&V) -> bool + Drop>(
+    pub fn begin(&mut self, kind: TurnKind, key: K, at: At) -> Result<TurnStart<V>, CacheError>
+    where
+        K: Drop,
+        V: Clone + Drop,
+        requires exact { (x y : V) → V.is_clone x y → y ≡ x }
+        requires follows { ComesAfter at.now at.step self.old }
+        ensures begins { IfOk result (BeginsBy ⟦<R as HasWays<K, V, S>>⟧.ways kind key
+            (hash_in ⟦<R as HasWays<K, V, S>>⟧.ways self.old key) at passes_none self.old self.new) }
+        ensures err { OnErr result (self.new ≡ self.old) }
+        ensures cause { IfErr result (IsTurnCause self.old.next_turn) }
+    {
+        let hash = self.hash(&key);
+        let name = OwnedKey {
+            key,
+            alloc: self.alloc,
+        };
+        self.begin_with_hash(
+            kind,
+            name,
+            hash,
+            at,
+            |_: &V| -> bool
+                ensures { result ≡ false }
+            { false },
+        )
+    }
+
+    /// Like `begin`, with what names a key, and its hash. A visible value of which `replace_if` says yes counts as none.
+    /// The key is made only where a turn begins. A compute call never asks `replace_if`.
+    /// ```
+    /// let hash = cache.hash(&name);
+    /// cache.begin_with_hash(TurnKind::Try, ClonedKey { key: &name, alloc }, hash, at, |v| v.is_old())?;
+    /// ```
+    pub fn begin_with_hash<Q: IntoKey<Shared<K>>, P: FnOnce(&V) -> bool + Drop>(
         &mut self,
         kind: TurnKind,
         name: Q,

@@ -276,7 +276,7 @@ fn perform_turn(alloc: Global, state: &mut Numbers, at: At, call: Call) -> Resul
     match call {
         Call::InsertNamed(key, value) => insert_named(alloc, state, at, key, value),
         Call::OrInsert(key, value, answer) => or_insert(alloc, state, at, key, value, answer),
-        Call::Begin(kind, key, start) => begin(alloc, state, at, kind, key, start),
+        Call::Begin(kind, key, start) => begin(state, at, kind, key, start),
         Call::Finish(number, value, answer) => {
             let made: Made<u64, ()> = Made::Value(value);
             match state.finish(number, made, at) {
@@ -329,7 +329,6 @@ fn insert_named(
 }
 
 fn begin(
-    alloc: Global,
     state: &mut Numbers,
     at: At,
     kind: TurnKind,
@@ -338,9 +337,7 @@ fn begin(
 ) -> Result<bool, CacheError>
     requires { ComesAfter at.now at.step state.old }
 {
-    let hash = state.hash(&key);
-    let name = ClonedKey { key: &key, alloc };
-    let answer = state.begin(kind, name, hash, at, |_| false)?;
+    let answer = state.begin(kind, key, at)?;
     Ok(start_of(answer) == start)
 }
 

@@ -1,5 +1,6 @@
 -- Why calls of a shared cache are refused.
-use Rattle.std.specs.Prelude.{◌≡◌, ◌⊎◌}
+use Rattle.std.specs.Prelude.{◌≡◌, ◌⊎◌, Result, IfErr}
+use Rattle.std.specs.Result.{IsErrOf}
 use Rattle.front_reference.specs.declared.errors.CacheError.{CacheError}
 use Rattle.front_reference.specs.declared.errors.CacheError.TheVariants.{OutOfMemory, InvalidationClosuresDisabled, IdsInUse, UsedUp, UnknownTurn, Abandoned}
 
@@ -8,6 +9,10 @@ abbrev pub IsShortage : CacheError → Type 0
 IsShortage OutOfMemory = Unit {0}
 IsShortage UsedUp = Unit {0}
 IsShortage other = ⊥
+
+-- a call that is refused lacks memory or numbers; if numbers, these are used up
+abbrev pub IsShortOf : {T : Type 0} → (Lacks : Type 0) → Result T CacheError → Type 0
+IsShortOf Lacks result = IfErr result IsShortage × (IsErrOf result UsedUp → Lacks)
 
 -- a turn does not end: for lack of memory or numbers, or because it is not under way
 abbrev pub IsEndRefusal : CacheError → Type 0

@@ -44,6 +44,10 @@ module _ {V F : Type 0} where
   if_of kind (Some turn) = if same_kind turn.kind kind then Some turn else None
   if_of kind None = None
 
+  -- the hash of a turn's key, if it is of a kind
+  abbrev pub hash_of : TurnKind → Option (Turn V F) → Option ℕ
+  hash_of kind turn = option_map (λ t. t.hash) (if_of kind turn)
+
   -- what those that wait for a turn are told: its ending, or that it was given up if there is none
   abbrev pub told_of : Option (Turn V F) → Ending V F
   told_of (Some turn) = turn.ending
@@ -81,6 +85,10 @@ module _ {V F : Type 0} where
   changed kind becomes (Some turn) =
       if same_kind turn.kind kind then becomes turn else Some turn
   changed kind becomes None = None
+
+  -- every turn stays
+  abbrev pub SlotsStay : (old new : SlotsByNumber V F) → Type 0
+  SlotsStay old new = (n : ℕ) → slot_at n new ≡ slot_at n old
 
   -- the turn with a number is this, and the others stay
   abbrev pub IsPutAt : (number : ℕ) → Option (Turn V F) → (old new : SlotsByNumber V F) → Type 0

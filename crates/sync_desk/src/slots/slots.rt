@@ -1,16 +1,15 @@
 //! Who waits for which turn, and how it ended.
-ghost use Rattle.std.specs.Prelude.{◌≡◌, ◌<◌, ◌≤◌, ◌+◌, ◌-◌, ◌^◌, ◌==◌, ◌&&◌, if◌then◌else◌, ℕ, true, false, nat_eq, nat_lt, Some, None, option_map, IfOk, IfErr, IfSome, OnOk, OnErr};
+ghost use Rattle.std.specs.Prelude.{◌≡◌, ◌<◌, ◌≤◌, ◌+◌, ◌-◌, ◌^◌, ◌==◌, ◌&&◌, if◌then◌else◌, true, false, nat_eq, nat_lt, Some, None, option_map, IfOk, IfErr, IfSome, OnOk, OnErr};
 ghost use Rattle.std.specs.Option.{option_map_or};
 ghost use Rattle.std.specs.HashMap.{IsEmpty, spare};
 ghost use Rattle.front_reference.specs.Fronts.{same_kind};
 ghost use Rattle.front_reference.specs.declared.data.TurnKind.{TurnKind};
-ghost use Rattle.front_reference.specs.declared.errors.CacheError.TheVariants as errors;
 ghost use Rattle.sync_desk.specs.Slots.Endings.{IsExact, fits, is_underway, suits};
-ghost use Rattle.sync_desk.specs.Slots.Waiting.{ChangesAt, IsPutAt, ended, if_of, joined, opened, seen_with, slot_at, told_of, turn_in, waiting_at, with_one_less};
+ghost use Rattle.sync_desk.specs.Slots.Waiting.{ChangesAt, IsPutAt, SlotsStay, ended, hash_of, if_of, joined, opened, seen_with, slot_at, told_of, turn_in, waiting_at, with_one_less};
 ghost use Rattle.sync_desk.specs.declared.slots.slot.Ending.TheVariants.{Underway};
 
 use crate::slots::slot::{Ending, TurnSlot};
-use front_reference::{CacheError, Made, TurnKind};
+use front_reference::{Made, TurnKind};
 use std::alloc::{AllocError, Global};
 use std::collections::HashMap;
 
@@ -52,23 +51,13 @@ impl<V: Drop, F: Drop> TurnSlot<V, F> {
     }
 
     /// One more waits, if it is of this kind.
-    fn join(&mut self, kind: TurnKind) -> Result<(), CacheError>
-        ensures joins { OnOk result (Some (turn_in self.new)
-            ≡ (if same_kind self.old.kind kind then joined (turn_in self.old)
-            else Some (turn_in self.old))) }
-        ensures err { OnErr result (self.new ≡ self.old) }
-        ensures cause { IfErr result
-            (λ e. (e ≡ errors.UsedUp) × (2 ^ 64 ≤ self.old.waiting + 1)) }
+    fn join(&mut self, kind: TurnKind)
+        requires { self.old.waiting + 1 < 2 ^ 64 }
+        ensures { Some (turn_in self.new) ≡ (if same_kind self.old.kind kind
+            then joined (turn_in self.old) else Some (turn_in self.old)) }
     {
-        if !self.is(kind) {
-            return Ok(());
-        }
-        match self.waiting.checked_add(1) {
-            Some(waiting) => {
-                self.waiting = waiting;
-                Ok(())
-            }
-            None => Err(CacheError::UsedUp),
+        if self.is(kind) {
+            self.waiting += 1;
         }
     }
 }
@@ -117,7 +106,7 @@ impl<V: Drop, F: Drop> Slots<V, F> {
     /// Makes room for one turn more.
     pub fn reserve(&mut self) -> Result<(), AllocError>
         ensures room { OnOk result (0 < spare self.new.slots) }
-        ensures same { (n : ℕ) → slot_at n self.new.slots ≡ slot_at n self.old.slots }
+        ensures same { SlotsStay self.old.slots self.new.slots }
     {
         self.slots.reserve(1)
     }
@@ -138,16 +127,24 @@ impl<V: Drop, F: Drop> Slots<V, F> {
         };
     }
 
-    /// One more waits for a turn.
-    pub fn join(&mut self, kind: TurnKind, number: u64) -> Result<(), CacheError>
-        ensures joins { OnOk result (ChangesAt kind number joined self.old.slots self.new.slots) }
-        ensures err { OnErr result ((n : ℕ) → slot_at n self.new.slots ≡ slot_at n self.old.slots) }
-        ensures cause { IfErr result
-            (λ e. (e ≡ errors.UsedUp) × (2 ^ 64 ≤ waiting_at number self.old.slots + 1)) }
+    /// Whether one more can be counted among those that wait for a turn.
+    pub fn can_join(&self, number: u64) -> bool
+        ensures room { result ≡ true → waiting_at number self.now.slots + 1 < 2 ^ 64 }
+        ensures full { result ≡ false → 2 ^ 64 ≤ waiting_at number self.now.slots + 1 }
     {
-        match self.slots.get_mut(&number) {
-            Some(slot) => slot.join(kind),
-            None => Ok(()),
+        match self.slots.get(&number) {
+            Some(slot) => slot.waiting < u64::MAX,
+            None => true,
+        }
+    }
+
+    /// One more waits for a turn, whose count has room.
+    pub fn join(&mut self, kind: TurnKind, number: u64)
+        requires { waiting_at number self.old.slots + 1 < 2 ^ 64 }
+        ensures { ChangesAt kind number joined self.old.slots self.new.slots }
+    {
+        if let Some(slot) = self.slots.get_mut(&number) {
+            slot.join(kind);
         }
     }
 
@@ -165,8 +162,7 @@ impl<V: Drop, F: Drop> Slots<V, F> {
     /// Ends a turn, which is kept only if some wait for it. Returns the hash of its key, if there is a turn of this kind.
     pub fn end(&mut self, kind: TurnKind, number: u64, ending: Ending<V, F>) -> Option<u64>
         requires { fits kind ending ≡ true }
-        ensures hash { result
-            ≡ option_map (λ turn. turn.hash) (if_of kind (slot_at number self.old.slots)) }
+        ensures hash { result ≡ hash_of kind (slot_at number self.old.slots) }
         ensures ends { ChangesAt kind number (ended ending) self.old.slots self.new.slots }
     {
         let (hash, waited) = match self.slots.get_mut(&number) {
