@@ -206,8 +206,8 @@ module _ {keeps : Bool} {WentOut : ℕ → ℕ → List ℕ → Type 0} {Unfit :
 
 module _ {C : Type 0} {spaces : C → List Shown} {untaken : C → Conn → List ℕ} {keeps : Bool} where
   -- a load was settled
-  pub comes-settled : {conn : Conn} {wants : Bool} {given : Given} {h k : Tally} (load moment : ℕ) (asking : Asking) → SeatSettles keeps (HadGoneOut spaces) IsUnfit (IsReply spaces untaken) conn.namespace moment load asking h k → Gives spaces untaken conn wants given
-      → (doing : Doing) × SettlesBy load moment asking doing × SeatComes keeps (HadGoneOut spaces) IsUnfit (IsReply spaces untaken) conn h (exchange_of doing given) k
+  pub comes-settled : {conn : Conn} {wants : Bool} {given : Given} {h k : Tally} (load moment : ℕ) (asking : Asking) → SeatSettles keeps (HadGoneOut configs spaces) IsUnfit (IsReply configs spaces untaken) conn.namespace moment load asking h k → Gives configs spaces untaken conn wants given
+      → (doing : Doing) × SettlesBy load moment asking doing × SeatComes keeps (HadGoneOut configs spaces) IsUnfit (IsReply configs spaces untaken) conn h (exchange_of doing given) k
   comes-settled load moment asking s gives = (
     Settled s.settling moment,
     record { settling = s.settling; of = s.of; numbered = s.numbered; done = refl },

@@ -9,6 +9,7 @@ use Rattle.std.proofs.lemmas.List.{get_or-map, get_or-set_other, get_or-set_same
 use Rattle.std.proofs.lemmas.Option.{slice_get_within, same_Some}
 use Rattle.std.specs.List.{slice_get}
 use Rattle.std.specs.Prelude.{Result, Ok, Err, IfOk, IsTrue, if◌then◌else◌, OnOk, slice_set}
+use Rattle.audit_model.specs.declared.config.Config.{Config}
 use Rattle.audit_model.specs.declared.input.Conn.{Conn}
 use Rattle.audit_model.specs.declared.input.Input.{Input}
 use Rattle.audit_model.specs.declared.transcript.Note.{Note}
@@ -21,12 +22,14 @@ use Rattle.audit_laws.specs.declared.receipts.receipt.Receipt.{Receipt}
 use Rattle.cache_core.proofs.connections.Getting.{found-at}
 use Rattle.cache_spaces.proofs.Reaching.{reached-more, asked-is, event_of}
 use Rattle.cache_spaces.specs.Calls.{namespace_of}
+use Rattle.cache_spaces.specs.Calls as inputs
 use Rattle.cache_spaces.specs.Journals.{IsReached}
 use Rattle.cache_spaces.specs.Spaces.{Shown, shown_tape}
 use Rattle.cache_shared.specs.Events.{Performs, is_fed, is_output_for, CountsRecord, StandsAfter, IsLastNumber}
 use Rattle.cache_shared.specs.Looked.{Moves}
 use Rattle.cache_shared.specs.Marks.{marks, AllMarked}
 use Rattle.cache_shared.specs.Taken.{TakesInput}
+use Rattle.cache_shared.proofs.Configured.{same-configs}
 use Rattle.cache_shared.specs.Seats.{Counts, GainsReceipt, SameReceipts, receipts_at, receipt_for, Gains, holders, EachOnce, Agree, AgreeBelow, AgreeAll}
 use Rattle.audit_model.specs.declared.input.Input.TheVariants as input
 
@@ -72,11 +75,14 @@ counts Event keeps i (Ok output) count later before after journals counted gains
 counts Event keeps i (Err e) count later before after journals counted gains same fit = tt
 
 -- where the service stands then
-pub one-further : {C : Type 0} (keeps : Bool) (spaces : C → List Shown) (journals : C → List Transcript) (i : Input) (output : Output) (old new : C) (n m : ℕ)
-    → StandsAfter keeps spaces journals n old → Performs i output (spaces old) (spaces new) → (keeps ≡ true → CountsRecord (journals old) (journals new)) → m ≡ n + 1
-    → StandsAfter keeps spaces journals m new
-one-further keeps spaces journals i output old new n m stands taken counts is = subst (λ k. StandsAfter keeps spaces journals k new) (sym is) (record {
-  reached = ∥∥₁_map stands.reached (reached-more shown_tape i output (spaces old) (spaces new) n taken);
+pub one-further : {C : Type 0} (keeps : Bool) (configs : List Config) (spaces : C → List Shown) (journals : C → List Transcript) (i : Input) (output : Output) (old new : C) (n m : ℕ)
+    → StandsAfter keeps configs spaces journals n old → Performs i output (spaces old) (spaces new) → (keeps ≡ true → CountsRecord (journals old) (journals new)) → m ≡ n + 1
+    → StandsAfter keeps configs spaces journals m new
+one-further keeps configs spaces journals i output old new n m stands taken counts is = subst (λ k. StandsAfter keeps configs spaces journals k new) (sym is) (record {
+  reached = record {
+    led = ∥∥₁_map stands.reached.led (reached-more shown_tape i output (spaces old) (spaces new) n taken);
+    configured = same-configs (inputs.Performs shown_tape i output) (namespace_of i) (spaces old) (spaces new) (λ was is p. p.stays.config) taken ∙ stands.reached.configured;
+  };
   counted = λ kept. counts kept ∙ ap (λ k. k + 1) (stands.counted kept);
 })
 
