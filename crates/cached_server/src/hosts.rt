@@ -106,6 +106,13 @@ fn host_all<L: Seating + Send + Sync + 'static, W: Shown, E: Shown, R: Machine>(
     Ok(())
 }
 
+/// The configurations of these namespaces.
+fn configs_in(alloc: Global, spaces: &[HostedNamespace]) -> Result<Vec<Config>, AllocError>
+    ensures { IfOk result (λ configs. configs.items ≡ map (λ space. space.config) spaces.now) }
+{
+    spaces.iter().map(|space| space.config).collect(alloc)
+}
+
 /// The service of these namespaces, made at moment 0. Its generator is one that no stranger can foresee: its seed comes from the machine's
 /// random source.
 fn make_core<R: Machine>(hall: &Hall<R>, spaces: &[HostedNamespace]) -> Result<Service, Ending>
@@ -119,7 +126,7 @@ fn make_core<R: Machine>(hall: &Hall<R>, spaces: &[HostedNamespace]) -> Result<S
         .fill_bytes(&mut seed)
         .map_err(|error| Ending::machine("the random source", error))?;
     let generator = Xoshiro256PlusPlus::from_seed(seed);
-    let configs: Vec<Config> = spaces.iter().map(|space| space.config).collect(hall.alloc)?;
+    let configs = configs_in(hall.alloc, spaces)?;
     match Service::new(hall.alloc, &configs, generator, Instant { nanos: 0 }) {
         Ok(core) => Ok(core),
         Err(_) => Err(Ending::from(Fault::OutOfMemory)),
