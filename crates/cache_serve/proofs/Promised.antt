@@ -296,7 +296,7 @@ module _ {H C D : Type 0} (keeps : Bool) (WentOut : ℕ → ℕ → List ℕ →
   drove-loaded (Err e) d = let all = asked-all d.0 d.1 in (all.0, all.1)
 
 -- what was written
-module _ {H C D X : Type 0} (keeps : Bool) (WentOut : ℕ → ℕ → List ℕ → Type 0) (Unfit : Outcome → Type 0) (spaces : X → List Shown) (untaken : X → Conn → List ℕ) (tally : H → Tally) (reads : C → ℕ → C → Type 0) (loads : D → List ℕ → Option Outcome → D → Type 0)
+module _ {H C D X : Type 0} (keeps : Bool) (WentOut : ℕ → ℕ → List ℕ → Type 0) (Unfit : Outcome → Type 0) (configs : List Config) (spaces : X → List Shown) (untaken : X → Conn → List ℕ) (tally : H → Tally) (reads : C → ℕ → C → Type 0) (loads : D → List ℕ → Option Outcome → D → Type 0)
     (namespace : ℕ) (h k : H) (a b : Outside C D) where
   abbrev IsReply : Conn → List ℕ → Type 0
   IsReply conn text = ∥ WereUntaken configs spaces untaken conn text ∥₁
@@ -328,7 +328,7 @@ rested p q (inl is) = subst (λ (r : Seat _ _). SeatRests (tally p) (tally r)) (
 rested p q (inr rests) = rests
 
 -- nothing was written
-pub rested-wrote : {X : Type 0} (keeps : Bool) (spaces : X → List Shown) (untaken : X → Conn → List ℕ) (namespace : ℕ) (h k : Tally) (contents : Option (List ℕ)) → SeatRests h k
+pub rested-wrote : {X : Type 0} (keeps : Bool) (configs : List Config) (spaces : X → List Shown) (untaken : X → Conn → List ℕ) (namespace : ℕ) (h k : Tally) (contents : Option (List ℕ)) → SeatRests h k
     → Serves configs spaces untaken namespace (BeginsOrIdles keeps namespace h.receipts k.receipts) h.count k.count 3 contents contents []
 rested-wrote keeps configs spaces untaken namespace h k contents rests = let same = rests.count in record {
   conn = record { namespace = namespace; number = 0 };

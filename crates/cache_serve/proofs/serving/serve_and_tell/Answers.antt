@@ -10,7 +10,7 @@ use Rattle.cache_serve.proofs.Promised.{attended, ended-because, rested, rested-
 use Rattle.cache_serve.proofs.serving.serve_and_tell.Goals as goal
 
 pub returns-in_default-clause-wrote : goal.returns-in_default-clause-wrote
-returns-in_default-clause-wrote g c = let seat = c.args.seat.now in ([], [], refl, rested-wrote g.C.Shareable.KEEPS _ _ _ (tally seat) (tally seat) _ (rested seat seat (inl refl)))
+returns-in_default-clause-wrote g c = let seat = c.args.seat.now in ([], [], refl, rested-wrote g.C.Shareable.KEEPS _ _ _ _ (tally seat) (tally seat) _ (rested seat seat (inl refl)))
 
 pub returns-in_default-clause-asked : goal.returns-in_default-clause-asked
 returns-in_default-clause-asked g c = λ kept. (record { namespace = c.args.namespace; number = 0 }, inr (record { same = λ n. refl; unread = refl; untold = refl; unasked = refl }))
@@ -18,7 +18,7 @@ returns-in_default-clause-asked g c = λ kept. (record { namespace = c.args.name
 pub returns-in_err-session-clause-wrote : goal.returns-in_err-session-clause-wrote
 returns-in_err-session-clause-wrote g c =
     let p = err_from_is_err_and c.from_residual.result c.from_residual.ensures.1 in
-    rw p.1 ([], [], refl, rested-wrote g.C.Shareable.KEEPS _ _ _ (tally c.args.seat.now) (tally c.open.new.place) _ (rested c.args.seat.now c.open.new.place c.in_err-session.ensures.rests))
+    rw p.1 ([], [], refl, rested-wrote g.C.Shareable.KEEPS _ _ _ _ (tally c.args.seat.now) (tally c.open.new.place) _ (rested c.args.seat.now c.open.new.place c.in_err-session.ensures.rests))
 
 pub returns-in_err-session-clause-asked : goal.returns-in_err-session-clause-asked
 returns-in_err-session-clause-asked g c = λ kept.
