@@ -4,6 +4,7 @@ use Rattle.std.specs.List.{slice_index_or}
 use Rattle.std.specs.Option.{option_map}
 use Rattle.std.specs.declared.alloc.Global.{Global}
 use Rattle.std.proofs.lemmas.List.Elements.{Contains-get_or}
+use Rattle.audit_model.specs.declared.config.Config.{Config}
 use Rattle.audit_model.specs.declared.input.Conn.{Conn}
 use Rattle.audit_model.specs.declared.input.LoadId.{LoadId}
 use Rattle.cache_serve.specs.Served.{AreOut}
@@ -11,13 +12,13 @@ use Rattle.cache_serve.specs.Sitting.{IsReply}
 use Rattle.cache_shared.specs.Looked.{WereOut, WereUntaken}
 use Rattle.cache_spaces.specs.Spaces.{Shown}
 
-module _ {C : Type 0} (spaces : C → List Shown) where
+module _ {C : Type 0} (configs : List Config) (spaces : C → List Shown) where
   -- each of the loads that one taking gave
-  pub are-out : (n : ℕ) (loads : Option (Vec (LoadId × List ℕ) Global)) → IfSome loads (λ loads. WereOut spaces n loads.items) → IfSome (option_map (λ loads. loads.items) loads) (AreOut spaces n)
+  pub are-out : (n : ℕ) (loads : Option (Vec (LoadId × List ℕ) Global)) → IfSome loads (λ loads. WereOut configs spaces n loads.items) → IfSome (option_map (λ loads. loads.items) loads) (AreOut configs spaces n)
   are-out n None out = out
   are-out n (Some loads) out = λ k d lt. ∣ record { loads = loads.items; out = out; load = (slice_index_or loads.items k d).0; among = Contains-get_or loads.items k d lt; same = refl } ∣₁
 
   -- the text that one taking gave
-  pub is-reply : (untaken : C → Conn → List ℕ) (conn : Conn) (text : Option (Vec ℕ Global)) → IfSome text (λ text. WereUntaken spaces untaken conn text.items) → IfSome (option_map (λ text. text.items) text) (IsReply spaces untaken conn)
+  pub is-reply : (untaken : C → Conn → List ℕ) (conn : Conn) (text : Option (Vec ℕ Global)) → IfSome text (λ text. WereUntaken configs spaces untaken conn text.items) → IfSome (option_map (λ text. text.items) text) (IsReply configs spaces untaken conn)
   is-reply untaken conn None taken = taken
   is-reply untaken conn (Some text) taken = ∣ taken ∣₁

@@ -8,6 +8,7 @@ use Rattle.std.proofs.lemmas.Grind.{flat_map-append}
 use Rattle.std.proofs.lemmas.List.{append-nil, length-map}
 use Rattle.std.proofs.lemmas.List.Elements.{All-append, All-cons, All-nil}
 use Rattle.std.proofs.lemmas.List.Folds.{flat_map-map}
+use Rattle.audit_model.specs.declared.config.Config.{Config}
 use Rattle.audit_model.specs.declared.event.Outcome.{Outcome}
 use Rattle.audit_model.specs.declared.input.Conn.{Conn}
 use Rattle.audit_model.specs.declared.input.Input.TheVariants as input
@@ -295,13 +296,13 @@ module _ {H C D : Type 0} (keeps : Bool) (WentOut : ℕ → ℕ → List ℕ →
   drove-loaded (Err e) d = let all = asked-all d.0 d.1 in (all.0, all.1)
 
 -- what was written
-module _ {H C D X : Type 0} (keeps : Bool) (WentOut : ℕ → ℕ → List ℕ → Type 0) (Unfit : Outcome → Type 0) (spaces : X → List Shown) (untaken : X → Conn → List ℕ) (tally : H → Tally) (reads : C → ℕ → C → Type 0) (loads : D → List ℕ → Option Outcome → D → Type 0)
+module _ {H C D X : Type 0} (keeps : Bool) (WentOut : ℕ → ℕ → List ℕ → Type 0) (Unfit : Outcome → Type 0) (configs : List Config) (spaces : X → List Shown) (untaken : X → Conn → List ℕ) (tally : H → Tally) (reads : C → ℕ → C → Type 0) (loads : D → List ℕ → Option Outcome → D → Type 0)
     (namespace : ℕ) (h k : H) (a b : Outside C D) where
   abbrev IsReply : Conn → List ℕ → Type 0
-  IsReply conn text = ∥ WereUntaken spaces untaken conn text ∥₁
+  IsReply conn text = ∥ WereUntaken configs spaces untaken conn text ∥₁
 
   abbrev Wrote : ℕ → List ℕ → Type 0
-  Wrote spared rest = Serves spaces untaken namespace (BeginsOrIdles keeps namespace (tally h).receipts (tally k).receipts) (tally h).count (tally k).count spared a.contents b.contents rest
+  Wrote spared rest = Serves configs spaces untaken namespace (BeginsOrIdles keeps namespace (tally h).receipts (tally k).receipts) (tally h).count (tally k).count spared a.contents b.contents rest
 
   wrote : (drops : List Settling) (d : Drove keeps WentOut Unfit IsReply tally reads loads namespace h k a b drops) (spared : ℕ) → length drops + 3 ≤ spared → Wrote spared d.rest.unsent
   wrote drops d spared most = let few = counted keeps WentOut Unfit IsReply tally reads loads namespace h k a b drops d in record {
@@ -327,9 +328,9 @@ rested p q (inl is) = subst (λ (r : Seat _ _). SeatRests (tally p) (tally r)) (
 rested p q (inr rests) = rests
 
 -- nothing was written
-pub rested-wrote : {X : Type 0} (keeps : Bool) (spaces : X → List Shown) (untaken : X → Conn → List ℕ) (namespace : ℕ) (h k : Tally) (contents : Option (List ℕ)) → SeatRests h k
-    → Serves spaces untaken namespace (BeginsOrIdles keeps namespace h.receipts k.receipts) h.count k.count 3 contents contents []
-rested-wrote keeps spaces untaken namespace h k contents rests = let same = rests.count in record {
+pub rested-wrote : {X : Type 0} (keeps : Bool) (configs : List Config) (spaces : X → List Shown) (untaken : X → Conn → List ℕ) (namespace : ℕ) (h k : Tally) (contents : Option (List ℕ)) → SeatRests h k
+    → Serves configs spaces untaken namespace (BeginsOrIdles keeps namespace h.receipts k.receipts) h.count k.count 3 contents contents []
+rested-wrote keeps configs spaces untaken namespace h k contents rests = let same = rests.count in record {
   conn = record { namespace = namespace; number = 0 };
   here = refl;
   asked = λ kept. inr rests.same;
@@ -341,26 +342,26 @@ rested-wrote keeps spaces untaken namespace h k contents rests = let same = rest
 
 -- ---- what serving a connection promises
 
-module _ {C L R W K D : Type 0} {G : Ledgers L} (spaces : C → List Shown) (untaken : C → Conn → List ℕ) (keeps : Bool) (remaining : R → Option (List ℕ)) (contents : W → Option (List ℕ)) (reads : K → ℕ → K → Type 0) (loads : D → List ℕ → Option Outcome → D → Type 0) (namespace : ℕ)
+module _ {C L R W K D : Type 0} {G : Ledgers L} (configs : List Config) (spaces : C → List Shown) (untaken : C → Conn → List ℕ) (keeps : Bool) (remaining : R → Option (List ℕ)) (contents : W → Option (List ℕ)) (reads : K → ℕ → K → Type 0) (loads : D → List ℕ → Option Outcome → D → Type 0) (namespace : ℕ)
     (p q : Seat L G) (reader reader' : Watched R) (writer writer' : Watched W) (clock clock' : K) (loader loader' : D) where
   pub record Promises (outcome : Result (Unit {0}) RunError) : Type 0 where
-    pub wrote : WritesAll keeps spaces untaken contents loads namespace outcome p q writer writer' loader loader'
-    pub asked : AsksAll keeps spaces remaining reads loads namespace outcome p q reader reader' clock clock' loader loader'
+    pub wrote : WritesAll keeps configs spaces untaken contents loads namespace outcome p q writer writer' loader loader'
+    pub asked : AsksAll keeps configs spaces remaining reads loads namespace outcome p q reader reader' clock clock' loader loader'
     pub loaded : HasAskedSome loads loader loader'
 
   -- it was opened, it came to an end or an error, and was closed
-  pub attended : (s t : Session) (start m : Seat L G) (middle : D) (ended : Result Progress RunError) (outcome result : Result (Unit {0}) RunError) → sitting.Opens spaces untaken keeps namespace s.conn p start → t.conn ≡ s.conn
-      → ComesTo false (sitting.Comes spaces untaken keeps) (sitting.Closes spaces untaken keeps) reads loads start (around remaining contents reader writer clock loader) ended t m (around remaining contents reader' writer' clock' middle)
-      → outcome ≡ outcome_by ended → ClosesAfter (sitting.Closes spaces untaken keeps) (sitting.Drops spaces untaken keeps) loads outcome t m q middle loader' → result ≡ outcome → Promises result
+  pub attended : (s t : Session) (start m : Seat L G) (middle : D) (ended : Result Progress RunError) (outcome result : Result (Unit {0}) RunError) → sitting.Opens configs spaces untaken keeps namespace s.conn p start → t.conn ≡ s.conn
+      → ComesTo false (sitting.Comes configs spaces untaken keeps) (sitting.Closes configs spaces untaken keeps) reads loads start (around remaining contents reader writer clock loader) ended t m (around remaining contents reader' writer' clock' middle)
+      → outcome ≡ outcome_by ended → ClosesAfter (sitting.Closes configs spaces untaken keeps) (sitting.Drops configs spaces untaken keeps) loads outcome t m q middle loader' → result ≡ outcome → Promises result
   attended s t start m middle ended outcome result opened same comes is closes so =
       let a = around remaining contents reader writer clock loader in
       let b = around remaining contents reader' writer' clock' loader' in
-      let drives = driven keeps (HadGoneOut spaces) IsUnfit (sitting.IsReply spaces untaken) tally reads loads namespace p q a b t start m middle ended (subst (λ conn. sitting.Opens spaces untaken keeps namespace conn p start) (sym same) opened) comes
-      (subst (λ (o : Result (Unit {0}) RunError). ClosesAfter (sitting.Closes spaces untaken keeps) (sitting.Drops spaces untaken keeps) loads o t m q middle loader') is closes) in
+      let drives = driven keeps (HadGoneOut configs spaces) IsUnfit (sitting.IsReply configs spaces untaken) tally reads loads namespace p q a b t start m middle ended (subst (λ conn. sitting.Opens configs spaces untaken keeps namespace conn p start) (sym same) opened) comes
+      (subst (λ (o : Result (Unit {0}) RunError). ClosesAfter (sitting.Closes configs spaces untaken keeps) (sitting.Drops configs spaces untaken keeps) loads o t m q middle loader') is closes) in
       subst Promises (sym (so ∙ is)) (record {
-        wrote = drove-wrote keeps (HadGoneOut spaces) IsUnfit spaces untaken tally reads loads namespace p q a b (outcome_by ended) drives;
-        asked = drove-asked keeps (HadGoneOut spaces) IsUnfit (sitting.IsReply spaces untaken) tally reads loads namespace p q a b (outcome_by ended) drives;
-        loaded = drove-loaded keeps (HadGoneOut spaces) IsUnfit (sitting.IsReply spaces untaken) tally reads loads namespace p q a b (outcome_by ended) drives;
+        wrote = drove-wrote keeps (HadGoneOut configs spaces) IsUnfit configs spaces untaken tally reads loads namespace p q a b (outcome_by ended) drives;
+        asked = drove-asked keeps (HadGoneOut configs spaces) IsUnfit (sitting.IsReply configs spaces untaken) tally reads loads namespace p q a b (outcome_by ended) drives;
+        loaded = drove-loaded keeps (HadGoneOut configs spaces) IsUnfit (sitting.IsReply configs spaces untaken) tally reads loads namespace p q a b (outcome_by ended) drives;
       })
 
 -- ---- causes

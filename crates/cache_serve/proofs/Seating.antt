@@ -5,6 +5,7 @@ use Rattle.std.proofs.lemmas.List.{append-nil, map-append}
 use Rattle.std.proofs.lemmas.List.Elements.{All-append, All-cons, All-nil}
 use Rattle.std.proofs.lemmas.List.Sums.{sum_by-cons}
 use Rattle.std.specs.List.{flat_map, slice_index_or, All, concat}
+use Rattle.audit_model.specs.declared.config.Config.{Config}
 use Rattle.audit_model.specs.declared.event.Outcome.{Outcome}
 use Rattle.audit_model.specs.declared.input.Conn.{Conn}
 use Rattle.audit_model.specs.declared.input.Input.{Input}
@@ -204,10 +205,10 @@ module _ {keeps : Bool} {WentOut : ℕ → ℕ → List ℕ → Type 0} {Unfit :
 
 -- ---- exchanges
 
-module _ {C : Type 0} {spaces : C → List Shown} {untaken : C → Conn → List ℕ} {keeps : Bool} where
+module _ {C : Type 0} {configs : List Config} {spaces : C → List Shown} {untaken : C → Conn → List ℕ} {keeps : Bool} where
   -- a load was settled
-  pub comes-settled : {conn : Conn} {wants : Bool} {given : Given} {h k : Tally} (load moment : ℕ) (asking : Asking) → SeatSettles keeps (HadGoneOut spaces) IsUnfit (IsReply spaces untaken) conn.namespace moment load asking h k → Gives spaces untaken conn wants given
-      → (doing : Doing) × SettlesBy load moment asking doing × SeatComes keeps (HadGoneOut spaces) IsUnfit (IsReply spaces untaken) conn h (exchange_of doing given) k
+  pub comes-settled : {conn : Conn} {wants : Bool} {given : Given} {h k : Tally} (load moment : ℕ) (asking : Asking) → SeatSettles keeps (HadGoneOut configs spaces) IsUnfit (IsReply configs spaces untaken) conn.namespace moment load asking h k → Gives configs spaces untaken conn wants given
+      → (doing : Doing) × SettlesBy load moment asking doing × SeatComes keeps (HadGoneOut configs spaces) IsUnfit (IsReply configs spaces untaken) conn h (exchange_of doing given) k
   comes-settled load moment asking s gives = (
     Settled s.settling moment,
     record { settling = s.settling; of = s.of; numbered = s.numbered; done = refl },

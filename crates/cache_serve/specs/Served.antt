@@ -2,6 +2,7 @@
 use Rattle.std.specs.Prelude.{◌≡◌, ℕ, ◌+◌, ◌≤◌, List, length, Option, Bool, true, [], Vec, Result, ◌⊎◌, MatchResult}
 use Rattle.std.specs.List.{All, concat, Contains}
 use Rattle.std.specs.declared.alloc.Global.{Global}
+use Rattle.audit_model.specs.declared.config.Config.{Config}
 use Rattle.audit_model.specs.declared.event.Outcome.{Outcome}
 use Rattle.audit_model.specs.declared.input.Conn.{Conn}
 use Rattle.audit_model.specs.declared.input.LoadId.{LoadId}
@@ -19,38 +20,40 @@ use Rattle.cache_shared.specs.declared.seat.Seat.{Seat}
 use Rattle.cache_shared.specs.declared.seat.Seating.{Ghosts as Ledgers}
 use Rattle.cache_serve.specs.Asked.{Grows, Opens, ServesConnection, ServesConnectionOrNot}
 
-module _ {C : Type 0} (spaces : C → List Shown) (untaken : C → Conn → List ℕ) where
+module _ {C : Type 0} (configs : List Config) (spaces : C → List Shown)
+    (untaken : C → Conn → List ℕ) where
   -- Texts were taken, and written one after the other, except for the rest. They are the replies of one connection of this namespace, each
-  -- taken from a service to which some journals that obey lead. There is at least one for each input that the seat counts, less the number
-  -- that is spared. This was asked for the connection.
+  -- taken from a service of these configurations to which some journals that obey lead. There is at least one for each input that the seat
+  -- counts, less the number that is spared. This was asked for the connection.
   pub record Serves (namespace : ℕ) (Asked : Conn → Type 0) (inputs later spared : ℕ)
       (before after : Option (List ℕ)) (rest : List ℕ) : Type 0 where
     pub conn : Conn
     pub here : conn.namespace ≡ namespace
     pub asked : Asked conn
     pub texts : List (List ℕ)
-    pub taken : All (λ text. ∥ WereUntaken spaces untaken conn text ∥₁) texts
+    pub taken : All (λ text. ∥ WereUntaken configs spaces untaken conn text ∥₁) texts
     pub counted : later ≤ inputs + length texts + spared
     pub sent : SentBut rest (concat texts) before after
 
 -- Loads that had been sent, with their keys.
 
--- At some moment, in a service to which some journals that obey lead, the load with this number was among those of the namespace that had
--- been sent and not taken, with this key.
-pub record WasOut {C : Type 0} (spaces : C → List Shown) (namespace number : ℕ)
-    (key : List ℕ) : Type 0 where
+-- At some moment, in a service of these configurations to which some journals that obey lead, the load with this number was among those of
+-- the namespace that had been sent and not taken, with this key.
+pub record WasOut {C : Type 0} (configs : List Config) (spaces : C → List Shown)
+    (namespace number : ℕ) (key : List ℕ) : Type 0 where
   pub loads : List (LoadId × List ℕ)
-  pub out : WereOut spaces namespace loads
+  pub out : WereOut configs spaces namespace loads
   pub load : LoadId
   pub among : Contains loads (load, key)
   pub same : number ≡ load.number
 
-abbrev pub HadGoneOut : {C : Type 0} → (C → List Shown) → ℕ → ℕ → List ℕ → Type 0
-HadGoneOut spaces namespace number key = ∥ WasOut spaces namespace number key ∥₁
+abbrev pub HadGoneOut : {C : Type 0} → List Config → (C → List Shown) → ℕ → ℕ → List ℕ → Type 0
+HadGoneOut configs spaces namespace number key = ∥ WasOut configs spaces namespace number key ∥₁
 
 -- each of these loads had been sent
-abbrev pub AreOut : {C : Type 0} → (C → List Shown) → ℕ → List (LoadId × List ℕ) → Type 0
-AreOut spaces namespace loads = EachOut (HadGoneOut spaces namespace) loads
+abbrev pub AreOut : {C : Type 0} → List Config → (C → List Shown) → ℕ
+    → List (LoadId × List ℕ) → Type 0
+AreOut configs spaces namespace loads = EachOut (HadGoneOut configs spaces namespace) loads
 
 -- The result of serving a connection.
 
@@ -71,31 +74,31 @@ BeginsOrIdles keeps namespace before after conn =
 -- Texts that were replies of a connection of this namespace were written, except for the end of the last one after an error: one for each
 -- input that was counted, less three, and after an error also less one for each load for which the loader was asked.
 abbrev pub WritesAll : {C L W D X E : Type 0} → {G : Ledgers L} → (keeps : Bool)
-    → (C → List Shown) → (C → Conn → List ℕ) → (W → Option (List ℕ))
+    → List Config → (C → List Shown) → (C → Conn → List ℕ) → (W → Option (List ℕ))
     → (D → List ℕ → Option Outcome → D → Type 0) → ℕ → Result X E
     → Seat L G → Seat L G → Watched W → Watched W → D → D → Type 0
-WritesAll keeps spaces untaken contents loads namespace result seat seat' writer writer' d e =
-    MatchResult result
-    (λ x. Serves spaces untaken namespace
+WritesAll keeps configs spaces untaken contents loads namespace r seat seat' writer writer' d e =
+    MatchResult r
+    (λ x. Serves configs spaces untaken namespace
     (BeginsOrIdles keeps namespace seat.receipts.items seat'.receipts.items) seat.count
     seat'.count 3 (contents (device writer)) (contents (device writer')) [])
     (λ err. (rest : List ℕ) × (asks : List Asking) × Askings loads d asks e
-    × Serves spaces untaken namespace
+    × Serves configs spaces untaken namespace
     (BeginsOrIdles keeps namespace seat.receipts.items seat'.receipts.items) seat.count
     seat'.count (length asks + 3) (contents (device writer)) (contents (device writer')) rest)
 
 -- if receipts are kept, those that the seat gains are of what was done for a connection of this namespace
 abbrev pub AsksAll : {C L R K D X E : Type 0} → {G : Ledgers L} → (keeps : Bool)
-    → (C → List Shown) → (R → Option (List ℕ)) → (K → ℕ → K → Type 0)
+    → List Config → (C → List Shown) → (R → Option (List ℕ)) → (K → ℕ → K → Type 0)
     → (D → List ℕ → Option Outcome → D → Type 0) → ℕ → Result X E
     → Seat L G → Seat L G → Watched R → Watched R → K → K → D → D → Type 0
-AsksAll keeps spaces remaining reads loads namespace result seat seat' reader reader' k l d e =
+AsksAll keeps configs spaces remaining reads loads namespace r seat seat' reader reader' k l d e =
     keeps ≡ true
-    → MatchResult result
-    (λ x. (conn : Conn) × ServesConnection (HadGoneOut spaces) IsUnfit reads
+    → MatchResult r
+    (λ x. (conn : Conn) × ServesConnection (HadGoneOut configs spaces) IsUnfit reads
     loads seat.receipts.items seat'.receipts.items (remaining (device reader))
     (remaining (device reader')) k l d e namespace conn [])
     (λ err. (conn : Conn)
-    × ServesConnectionOrNot (HadGoneOut spaces) IsUnfit reads loads seat.receipts.items
+    × ServesConnectionOrNot (HadGoneOut configs spaces) IsUnfit reads loads seat.receipts.items
     seat'.receipts.items (remaining (device reader)) (remaining (device reader')) k l d e
     namespace conn)

@@ -3,6 +3,7 @@ use Rattle.std.proofs.Common.{◌∙◌, ap, arith, inl, inr}
 use Rattle.std.specs.Prelude.{◌≡◌, ℕ, ◌+◌, ◌-◌, ◌^◌, ◌≤◌, Bool, true, false, List, [], ◌∷◌, ◌++◌, Option, Some, None, IfSome, Result, Ok, Err, Vec}
 use Rattle.std.specs.Option.{option_map}
 use Rattle.std.specs.declared.alloc.Global.{Global}
+use Rattle.audit_model.specs.declared.config.Config.{Config}
 use Rattle.audit_model.specs.declared.event.Outcome.{Outcome}
 use Rattle.audit_model.specs.declared.input.Conn.{Conn}
 use Rattle.audit_model.specs.declared.input.Input.{Input}
@@ -44,48 +45,49 @@ TakesIfGiven keeps i (Ok (Some x)) h k = SeatTakes keeps i h k
 TakesIfGiven keeps i (Ok None) h k = SeatRests h k
 TakesIfGiven keeps i (Err e) h k = SeatRests h k
 
-module _ {C : Type 0} (spaces : C → List Shown) (untaken : C → Conn → List ℕ) where
+module _ {C : Type 0} (configs : List Config) (spaces : C → List Shown)
+    (untaken : C → Conn → List ℕ) where
   -- the text was the replies of the connection
   abbrev pub IsReply : Conn → List ℕ → Type 0
-  IsReply conn text = ∥ WereUntaken spaces untaken conn text ∥₁
+  IsReply conn text = ∥ WereUntaken configs spaces untaken conn text ∥₁
 
   -- The texts were replies of the connection, and the loads had been sent; they are given only if they were requested.
   pub record Gives (conn : Conn) (wants_loads : Bool) (given : Given) : Type 0 where
     pub text : IfSome (option_map (λ text. text.items) given.replies) (IsReply conn)
     pub out : IfSome (option_map (λ loads. loads.items) given.loads)
-        (AreOut spaces conn.namespace)
+        (AreOut configs spaces conn.namespace)
     pub suits : Suits false wants_loads given
 
   module _ {L : Type 0} {G : Ledgers L} (keeps : Bool) where
     -- in terms of a seat
     abbrev pub Opens : ℕ → Conn → Seat L G → Seat L G → Type 0
     Opens namespace conn p q =
-        SeatOpens keeps (HadGoneOut spaces) IsUnfit IsReply namespace conn (tally p)
+        SeatOpens keeps (HadGoneOut configs spaces) IsUnfit IsReply namespace conn (tally p)
         (tally q)
 
     abbrev pub Comes : Conn → Seat L G → Exchange → Seat L G → Type 0
     Comes conn p exchange q =
-        SeatComes keeps (HadGoneOut spaces) IsUnfit IsReply conn (tally p) exchange
+        SeatComes keeps (HadGoneOut configs spaces) IsUnfit IsReply conn (tally p) exchange
         (tally q)
 
     abbrev pub Closes : Conn → Seat L G → Seat L G → Type 0
     Closes conn p q =
-        SeatCloses keeps (HadGoneOut spaces) IsUnfit IsReply conn (tally p) (tally q)
+        SeatCloses keeps (HadGoneOut configs spaces) IsUnfit IsReply conn (tally p) (tally q)
 
     abbrev pub Drops : Conn → Outs → Seat L G → List Asking → Seat L G → Type 0
     Drops conn hand p askings q =
-        SeatDrops keeps (HadGoneOut spaces) IsUnfit IsReply conn hand (tally p) askings
+        SeatDrops keeps (HadGoneOut configs spaces) IsUnfit IsReply conn hand (tally p) askings
         (tally q)
 
     -- whatever the key, a load was settled by what the loader returned
     abbrev pub Settles : ℕ → ℕ → Option Outcome → ℕ → Seat L G → Seat L G → Type 0
     Settles namespace load said moment p q =
-        (key : List ℕ) → SeatSettles keeps (HadGoneOut spaces) IsUnfit IsReply namespace moment load (record { key = key; answer = said }) (tally p) (tally q)
+        (key : List ℕ) → SeatSettles keeps (HadGoneOut configs spaces) IsUnfit IsReply namespace moment load (record { key = key; answer = said }) (tally p) (tally q)
 
     -- this happened at moment 0, whatever the service refuses
     abbrev pub SettlesLate : ℕ → ℕ → Option Outcome → Seat L G → Seat L G → Type 0
     SettlesLate namespace load said p q =
-        (key : List ℕ) → SeatSettles keeps (HadGoneOut spaces) (λ outcome. Unit {0}) IsReply namespace 0 load (record { key = key; answer = said }) (tally p) (tally q)
+        (key : List ℕ) → SeatSettles keeps (HadGoneOut configs spaces) (λ outcome. Unit {0}) IsReply namespace 0 load (record { key = key; answer = said }) (tally p) (tally q)
 
     -- a loader was asked for the load by this key, and it was settled like this
     abbrev pub DropsOne : {D : Type 0} → (D → List ℕ → Option Outcome → D → Type 0) → ℕ → ℕ → List ℕ

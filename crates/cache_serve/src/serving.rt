@@ -55,9 +55,9 @@ pub fn serve<L: Seating, C: Shareable, I: Read, O: Write, K: Clock, D: Loader, R
     clock: &mut K,
     loader: &mut D,
 ) -> Result<(), RunError>
-    ensures wrote { WritesAll C.KEEPS C.spaces C.untaken O.contents D.loads namespace
+    ensures wrote { WritesAll C.KEEPS L.configs C.spaces C.untaken O.contents D.loads namespace
         result seat.old seat.new writer.old writer.new loader.old loader.new }
-    ensures asked { AsksAll C.KEEPS C.spaces I.remaining K.reads D.loads namespace result
+    ensures asked { AsksAll C.KEEPS L.configs C.spaces I.remaining K.reads D.loads namespace result
         seat.old seat.new reader.old reader.new clock.old clock.new loader.old loader.new }
     ensures count { seat.old.count ≤ seat.new.count }
     ensures read { IsErrOf result RunError.Read
@@ -105,9 +105,9 @@ pub fn serve_and_tell<
     loader: &mut D,
     teller: &mut T,
 ) -> Result<(), RunError>
-    ensures wrote { WritesAll C.KEEPS C.spaces C.untaken O.contents D.loads namespace
+    ensures wrote { WritesAll C.KEEPS L.configs C.spaces C.untaken O.contents D.loads namespace
         result seat.old seat.new writer.old writer.new loader.old loader.new }
-    ensures asked { AsksAll C.KEEPS C.spaces I.remaining K.reads D.loads namespace result
+    ensures asked { AsksAll C.KEEPS L.configs C.spaces I.remaining K.reads D.loads namespace result
         seat.old seat.new reader.old reader.new clock.old clock.new loader.old loader.new }
     ensures count { seat.old.count ≤ seat.new.count }
     ensures read { IsErrOf result RunError.Read

@@ -76,8 +76,8 @@ impl<'a, L: Seating, C: Shareable, T: Teller, R: Wait> Sitting<'a, L, C, T, R> {
 
     /// Gives what is owed, and counts the reply bytes.
     fn give(&mut self, owed: Owed, held: bool, wants_loads: bool) -> Given
-        ensures { (conn : Conn) → Owes C.spaces C.untaken conn wants_loads owed
-            → Gives C.spaces C.untaken conn wants_loads result }
+        ensures { (conn : Conn) → Owes L.configs C.spaces C.untaken conn wants_loads owed
+            → Gives L.configs C.spaces C.untaken conn wants_loads result }
     {
         if let Some(text) = &owed.replies {
             self.replied = self.replied.saturating_add(text.len());
@@ -100,7 +100,7 @@ impl<'a, L: Seating, C: Shareable, T: Teller, R: Wait> Sitting<'a, L, C, T, R> {
         wants_loads: bool,
     ) -> Result<Given, ServiceError>
         ensures taken { OnOk result (SeatTakes C.KEEPS input (tally seat.old) (tally seat.new)) }
-        ensures given { IfOk result (Gives C.spaces C.untaken conn wants_loads) }
+        ensures given { IfOk result (Gives L.configs C.spaces C.untaken conn wants_loads) }
         ensures rests { OnErr result (SeatRests (tally seat.old) (tally seat.new)) }
         ensures late { IfErr result (λ e. e ≡ ServiceError.Moment → IsLate input) }
         ensures unfit { IfErr result (λ e. is_of_outcome e ≡ true → IsUnfitAnswer input) }
@@ -119,7 +119,7 @@ impl<'a, L: Seating, C: Shareable, T: Teller, R: Wait> Sitting<'a, L, C, T, R> {
 
     /// What a connection is owed; notes are reported.
     fn take_owed(&mut self, conn: Conn, wants_loads: bool) -> Given
-        ensures { Gives C.spaces C.untaken conn wants_loads result }
+        ensures { Gives L.configs C.spaces C.untaken conn wants_loads result }
     {
         let notes = &mut self.notes;
         let owed = self.shared.take_owed(self.rt, conn, wants_loads, notes);
@@ -139,7 +139,7 @@ impl<'a, L: Seating, C: Shareable, T: Teller, R: Wait> Sitting<'a, L, C, T, R> {
         ensures taken { TakesIfGiven C.KEEPS (give_up_input conn.namespace moment load) result
             (tally seat.old) (tally seat.new) }
         ensures given { IfOk result
-            (λ given. IfSome given (Gives C.spaces C.untaken conn wants_loads)) }
+            (λ given. IfSome given (Gives L.configs C.spaces C.untaken conn wants_loads)) }
         ensures why { IfErr result
             (Stops (2 ^ 64 - 1 ≤ seat.new.count) (2 ^ 63 ≤ moment)) }
     {
@@ -174,11 +174,11 @@ impl<'a, L: Seating, C: Shareable, T: Teller, R: Wait> Sitting<'a, L, C, T, R> {
         moment: u64,
         wants_loads: bool,
     ) -> Result<Option<Given>, RunError>
-        ensures settled { Settles C.spaces C.untaken C.KEEPS conn.namespace load said
+        ensures settled { Settles L.configs C.spaces C.untaken C.KEEPS conn.namespace load said
             moment seat.old seat.new }
         ensures rests { OnErr result (SeatRests (tally seat.old) (tally seat.new)) }
         ensures given { IfOk result
-            (λ given. IfSome given (Gives C.spaces C.untaken conn wants_loads)) }
+            (λ given. IfSome given (Gives L.configs C.spaces C.untaken conn wants_loads)) }
         ensures why { IfErr result
             (Stops (2 ^ 64 - 1 ≤ seat.new.count) (2 ^ 63 ≤ moment)) }
     {
@@ -220,7 +220,7 @@ impl<'a, L: Seating, C: Shareable, T: Teller, R: Wait> Sitting<'a, L, C, T, R> {
         key: &[u8],
         loader: &mut D,
     )
-        ensures { DropsOne C.spaces C.untaken C.KEEPS D.loads conn.namespace load key.now
+        ensures { DropsOne L.configs C.spaces C.untaken C.KEEPS D.loads conn.namespace load key.now
             seat.old seat.new loader.old loader.new }
     {
         let said = loader.load(key);
@@ -237,7 +237,7 @@ impl<'a, L: Seating, C: Shareable, T: Teller, R: Wait> Sitting<'a, L, C, T, R> {
         loads: &[(LoadId, Bytes)],
         loader: &mut D,
     )
-        ensures { DropsBy C.spaces C.untaken C.KEEPS D.loads conn loads.now seat.old
+        ensures { DropsBy L.configs C.spaces C.untaken C.KEEPS D.loads conn loads.now seat.old
             seat.new loader.old loader.new }
     {
         for place in 0..loads.len() {
@@ -252,13 +252,13 @@ impl<L: Seating, C: Shareable, T: Teller, R: Wait> Host for Sitting<'_, L, C, T,
 
     ghost LENT = { false };
 
-    ghost opens = { Opens C.spaces C.untaken C.KEEPS };
+    ghost opens = { Opens L.configs C.spaces C.untaken C.KEEPS };
 
     ghost knows = { λ conn seat. Unit {0} };
 
     ghost fits = { IsShortPiece };
 
-    ghost came = { Comes C.spaces C.untaken C.KEEPS };
+    ghost came = { Comes L.configs C.spaces C.untaken C.KEEPS };
 
     ghost rests = { λ p q. SeatRests (tally p) (tally q) };
 
@@ -266,9 +266,9 @@ impl<L: Seating, C: Shareable, T: Teller, R: Wait> Host for Sitting<'_, L, C, T,
 
     ghost exhausts = { λ before after. 2 ^ 64 - 1 ≤ after };
 
-    ghost closes = { Closes C.spaces C.untaken C.KEEPS };
+    ghost closes = { Closes L.configs C.spaces C.untaken C.KEEPS };
 
-    ghost drops = { Drops C.spaces C.untaken C.KEEPS };
+    ghost drops = { Drops L.configs C.spaces C.untaken C.KEEPS };
 
     fn open(&mut self, place: &mut Seat<L>, namespace: u64) -> Result<Conn, RunError> {
         match self.shared.step(self.rt, place, Input::Open { namespace }) {

@@ -1,5 +1,5 @@
 //! Services, and inputs of them.
-ghost use Rattle.std.specs.Prelude.{true, false, IfSome};
+ghost use Rattle.std.specs.Prelude.{◌∷◌, [], true, false, IfSome};
 ghost use Rattle.cache_shared.specs.Recordings.{bare_spaces, no_journals, journals_in, spaces_in};
 ghost use Rattle.cache_shared.specs.Events.{StandsAfter};
 
@@ -27,7 +27,7 @@ pub const START: Instant = Instant { nanos: 0 };
 
 /// A new service of one plain namespace that keeps no journal.
 pub fn make_live(alloc: Global) -> Option<Service>
-    ensures { IfSome result (StandsAfter false bare_spaces no_journals 0) }
+    ensures { IfSome result (StandsAfter false (PLAIN ∷ []) bare_spaces no_journals 0) }
 {
     match Service::new(alloc, &[PLAIN], Xoshiro256PlusPlus::seed_from_u64(1), START) {
         Ok(core) => Some(core),
@@ -37,7 +37,7 @@ pub fn make_live(alloc: Global) -> Option<Service>
 
 /// One that keeps its journal.
 pub fn make_recorded(alloc: Global) -> Option<RecordedService>
-    ensures { IfSome result (StandsAfter true spaces_in journals_in 0) }
+    ensures { IfSome result (StandsAfter true (PLAIN ∷ []) spaces_in journals_in 0) }
 {
     match RecordedService::new(alloc, &[PLAIN], Xoshiro256PlusPlus::seed_from_u64(1), START) {
         Ok(core) => Some(core),

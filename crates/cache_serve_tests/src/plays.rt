@@ -50,7 +50,7 @@ fn share<L: Seating, C: Shareable>(
     blank: Blank,
     parts: u64,
 ) -> Option<SharedService<L, C>>
-    requires empty { StandsAfter C.KEEPS C.spaces C.journals 0 core }
+    requires empty { StandsAfter C.KEEPS L.configs C.spaces C.journals 0 core }
     requires name { blank.name ≡ L.name }
     requires parts { (blank.parts ≡ L.parts) × (L.all ≡ L.parts) × (parts ≡ L.parts) }
 {
@@ -214,7 +214,7 @@ where
         + Send
         + Sync
         + 'static,
-    requires empty { StandsAfter false bare_spaces no_journals 0 core }
+    requires empty { StandsAfter false L.configs bare_spaces no_journals 0 core }
     requires name { blank.name ≡ L.name }
     requires parts { (blank.parts ≡ L.parts) × (L.all ≡ L.parts) × (parts ≡ L.parts) }
 {
@@ -302,7 +302,7 @@ fn play_recorded<L, R>(
 where
     L: Seating + Send + Sync + 'static,
     R: Threads + Wait + Clock + Sync,
-    requires empty { StandsAfter true spaces_in journals_in 0 core }
+    requires empty { StandsAfter true L.configs spaces_in journals_in 0 core }
     requires name { blank.name ≡ L.name }
     requires parts { (blank.parts ≡ L.parts) × (L.all ≡ L.parts) × (parts ≡ L.parts) }
 {

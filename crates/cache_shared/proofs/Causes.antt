@@ -176,7 +176,7 @@ used_up_step i e count spaces same (inr (inr refused)) = let k = kind_refused is
 
 -- ---- at some moment
 
-module _ {C : Type 0} (spaces : C → List Shown) (i : Input) (e : ServiceError) (count : ℕ) (held : HeldAtSomeMoment spaces (RefusesStep i e count)) where
+module _ {C : Type 0} (configs : List Config) (spaces : C → List Shown) (i : Input) (e : ServiceError) (count : ℕ) (held : HeldAtSomeMoment configs spaces (RefusesStep i e count)) where
   pub late_held : e ≡ error.Moment → IsLate i
   late_held same = late_step i e count (spaces held.core) same held.fact
 

@@ -1,3 +1,4 @@
+pub mod Configured
 pub mod Performing
 pub mod Stepping
 pub mod Moving

@@ -27,7 +27,8 @@ use Rattle.cache_spaces.specs.Recorded.{GainsRecord, Recorded, gained_in, record
 use Rattle.cache_spaces.specs.Spaces.{Shown, Space, shown, notices_of}
 use Rattle.cache_spaces.specs.declared.stepping.Refusal.{Refusal}
 use Rattle.cache_shared.specs.Recordings.{bare_spaces, no_journals, journals_in, spaces_in}
-use Rattle.cache_shared.specs.Events.{CountsRecord, StandsAfter, KeepsStanding}
+use Rattle.cache_shared.specs.Events.{CountsRecord, StandsAfter, KeepsStanding, configs_of}
+use Rattle.cache_shared.proofs.Configured.{configs-new, configs-shown}
 use Rattle.cache_lines.specs.Tape.Taped.{Taped}
 use Rattle.audit_model.specs.declared.transcript.Note.{Note}
 use Rattle.audit_model.specs.declared.input.ServiceError.TheVariants as error
@@ -95,14 +96,23 @@ counts-none configs generator made spaces new = count-empty made (journals_of sp
     sym x.2 ∙ ap (λ (t : Taped). t.journal) (same_Some x.0.tape (blank_tape made) (new.each k config.0 x.0 config.1 x.1).taped))
 
 -- services just made, without inputs
-pub unused-kept : (configs : List Config) (generator : List ℕ) (made : Instant) (recorded : Recorded) → AreNew kept_by (Some (blank_tape made)) recorded.spaces configs generator made.nanos → StandsAfter true spaces_in journals_in 0 recorded
+pub unused-kept : (configs : List Config) (generator : List ℕ) (made : Instant) (recorded : Recorded) → AreNew kept_by (Some (blank_tape made)) recorded.spaces configs generator made.nanos → StandsAfter true configs spaces_in journals_in 0 recorded
 unused-kept configs generator made recorded new = record {
-  reached = ∣ reached-shown kept_by recorded.spaces 0 (reached-none kept_by (Some (blank_tape made)) configs generator made recorded.spaces new) ∣₁;
+  reached = record {
+    led = ∣ reached-shown kept_by recorded.spaces 0 (reached-none kept_by (Some (blank_tape made)) configs generator made recorded.spaces new) ∣₁;
+    configured = configs-shown kept_by recorded.spaces ∙ configs-new kept_by (Some (blank_tape made)) recorded.spaces configs generator made.nanos new;
+  };
   counted = λ kept. counts-none configs generator made recorded.spaces new;
 }
 
-pub unused-bare : (spaces : List BareSpace) → ∥ IsReached spaces 0 ∥₁ → StandsAfter false bare_spaces no_journals 0 spaces
-unused-bare spaces none = record { reached = ∥∥₁_map none (reached-shown bare_tape spaces 0); counted = λ kept. refl }
+pub unused-bare : (configs : List Config) (generator : List ℕ) (made : ℕ) (spaces : List BareSpace) → AreNew bare_tape None spaces configs generator made → ∥ IsReached spaces 0 ∥₁ → StandsAfter false configs bare_spaces no_journals 0 spaces
+unused-bare configs generator made spaces new none = record {
+  reached = record {
+    led = ∥∥₁_map none (reached-shown bare_tape spaces 0);
+    configured = configs-shown bare_tape spaces ∙ configs-new bare_tape None spaces configs generator made new;
+  };
+  counted = λ kept. refl;
+}
 
 -- loads that are taken leave the journals
 pub loads-leave : (n : ℕ) (old new : List (Space Taped)) (r : Result (Vec (LoadId × List ℕ) Global) ServiceError) → IfOk r (λ loads. At old new n (λ was is. TakesLoads was is loads.items)) → OnErr r (new ≡ old)
@@ -130,7 +140,7 @@ untold-refused n old (Err e) refused = inl (refused.0, subst (λ k. k ≤ n) (sy
 
 -- where the namespaces are as they were, the service stands where it did
 keeps : (old new : Recorded) → new.spaces ≡ old.spaces → KeepsStanding spaces_in journals_in old new
-keeps old new same = (ap journals_of same, λ n w. subst (λ spaces. ∥ IsReached (map (shown kept_by) spaces) n ∥₁) (sym same) w)
+keeps old new same = (ap journals_of same, λ n w. subst (λ spaces. ∥ IsReached (map (shown kept_by) spaces) n ∥₁) (sym same) w, ap (λ spaces. configs_of (map (shown kept_by) spaces)) same)
 
 pub keeps-standing : {A E : Type 0} (r : Result A E) (old new : Recorded) → OnOk r (new.spaces ≡ old.spaces) → OnErr r (new ≡ old) → KeepsStanding spaces_in journals_in old new
 keeps-standing (Ok a) old new taken same = keeps old new taken

@@ -8,7 +8,8 @@ use Rattle.std.proofs.lemmas.Bool.{eq-eqb}
 use Rattle.std.proofs.lemmas.List.{get_or-map, get_or-set_other, get_or-set_same, length-map, map-set, append-nil}
 use Rattle.std.proofs.lemmas.Option.{slice_get_within, same_Some}
 use Rattle.std.specs.List.{slice_get}
-use Rattle.std.specs.Prelude.{Result, Ok, Err, IfOk, IsTrue, if◌then◌else◌, OnOk, slice_set}
+use Rattle.std.specs.Prelude.{Result, Ok, Err, IfErr, IfOk, IsTrue, if◌then◌else◌, OnOk, slice_set}
+use Rattle.audit_model.specs.declared.config.Config.{Config}
 use Rattle.audit_model.specs.declared.input.Conn.{Conn}
 use Rattle.audit_model.specs.declared.input.Input.{Input}
 use Rattle.audit_model.specs.declared.transcript.Note.{Note}
@@ -21,12 +22,14 @@ use Rattle.audit_laws.specs.declared.receipts.receipt.Receipt.{Receipt}
 use Rattle.cache_core.proofs.connections.Getting.{found-at}
 use Rattle.cache_spaces.proofs.Reaching.{reached-more, asked-is, event_of}
 use Rattle.cache_spaces.specs.Calls.{namespace_of}
+use Rattle.cache_spaces.specs.Calls as inputs
 use Rattle.cache_spaces.specs.Journals.{IsReached}
 use Rattle.cache_spaces.specs.Spaces.{Shown, shown_tape}
-use Rattle.cache_shared.specs.Events.{Performs, is_fed, is_output_for, CountsRecord, StandsAfter, IsLastNumber}
-use Rattle.cache_shared.specs.Looked.{Moves}
+use Rattle.cache_shared.specs.Events.{Performs, is_fed, is_output_for, CountsRecord, StandsAfter, IsLastNumber, IsReachedFrom}
+use Rattle.cache_shared.specs.Looked.{HappenedAtSomeMoment, HeldAtSomeMoment, Moves}
 use Rattle.cache_shared.specs.Marks.{marks, AllMarked}
 use Rattle.cache_shared.specs.Taken.{TakesInput}
+use Rattle.cache_shared.proofs.Configured.{same-configs}
 use Rattle.cache_shared.specs.Seats.{Counts, GainsReceipt, SameReceipts, receipts_at, receipt_for, Gains, holders, EachOnce, Agree, AgreeBelow, AgreeAll}
 use Rattle.audit_model.specs.declared.input.Input.TheVariants as input
 
@@ -72,11 +75,14 @@ counts Event keeps i (Ok output) count later before after journals counted gains
 counts Event keeps i (Err e) count later before after journals counted gains same fit = tt
 
 -- where the service stands then
-pub one-further : {C : Type 0} (keeps : Bool) (spaces : C → List Shown) (journals : C → List Transcript) (i : Input) (output : Output) (old new : C) (n m : ℕ)
-    → StandsAfter keeps spaces journals n old → Performs i output (spaces old) (spaces new) → (keeps ≡ true → CountsRecord (journals old) (journals new)) → m ≡ n + 1
-    → StandsAfter keeps spaces journals m new
-one-further keeps spaces journals i output old new n m stands taken counts is = subst (λ k. StandsAfter keeps spaces journals k new) (sym is) (record {
-  reached = ∥∥₁_map stands.reached (reached-more shown_tape i output (spaces old) (spaces new) n taken);
+pub one-further : {C : Type 0} (keeps : Bool) (configs : List Config) (spaces : C → List Shown) (journals : C → List Transcript) (i : Input) (output : Output) (old new : C) (n m : ℕ)
+    → StandsAfter keeps configs spaces journals n old → Performs i output (spaces old) (spaces new) → (keeps ≡ true → CountsRecord (journals old) (journals new)) → m ≡ n + 1
+    → StandsAfter keeps configs spaces journals m new
+one-further keeps configs spaces journals i output old new n m stands taken counts is = subst (λ k. StandsAfter keeps configs spaces journals k new) (sym is) (record {
+  reached = record {
+    led = ∥∥₁_map stands.reached.led (reached-more shown_tape i output (spaces old) (spaces new) n taken);
+    configured = same-configs (inputs.Performs shown_tape i output) (namespace_of i) (spaces old) (spaces new) (λ was is p. p.stays.config) taken ∙ stands.reached.configured;
+  };
   counted = λ kept. counts kept ∙ ap (λ k. k + 1) (stands.counted kept);
 })
 
@@ -168,3 +174,16 @@ module _ {X : Type 0} where
 -- none
 pub moves-none : (behind notes : List Note) → Moves behind behind notes notes
 moves-none behind notes = record { moved = []; gained = sym (append-nil behind); left = refl }
+
+-- What is said once the lock is let go.
+
+module _ {C A E : Type 0} (configs : List Config) (spaces : C → List Shown) where
+  -- of what was given
+  pub happened : (Fact : A → C → C → Type 0) (r : Result A E) (old new : C) (events : ℕ) → IsReachedFrom configs (spaces old) events → IfOk r (λ x. Fact x old new) → IfOk r (λ x. HappenedAtSomeMoment configs spaces (Fact x))
+  happened Fact (Ok x) old new events reached fact = record { old = old; new = new; events = events; reached = reached; fact = fact }
+  happened Fact (Err e) old new events reached fact = fact
+
+  -- of a refusal
+  pub held : (Fact : E → List Shown → Type 0) (r : Result A E) (core : C) (events : ℕ) → IsReachedFrom configs (spaces core) events → IfErr r (λ e. Fact e (spaces core)) → IfErr r (λ e. HeldAtSomeMoment configs spaces (Fact e))
+  held Fact (Ok x) core events reached fact = fact
+  held Fact (Err e) core events reached fact = record { core = core; events = events; reached = reached; fact = fact }

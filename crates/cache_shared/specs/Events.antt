@@ -1,5 +1,5 @@
 -- What inputs do to a service, and where it stands.
-use Rattle.std.specs.Prelude.{◌≡◌, ℕ, ◌+◌, ◌^◌, ◌-◌, ◌≤◌, ◌==◌, Bool, true, false, List, length, Some, is_some, ◌⊎◌}
+use Rattle.std.specs.Prelude.{◌≡◌, ℕ, ◌+◌, ◌^◌, ◌-◌, ◌≤◌, ◌==◌, Bool, true, false, List, length, map, Some, is_some, ◌⊎◌}
 use Rattle.std.specs.List.{slice_get}
 use Rattle.audit_model.specs.Belongs.{refusal_of_outcome}
 use Rattle.audit_model.specs.declared.config.Config.{Config}
@@ -15,7 +15,7 @@ use Rattle.cache_spaces.specs.Calls.{At, Refuses}
 use Rattle.cache_spaces.specs.Calls as inputs
 use Rattle.cache_spaces.specs.Calls.{RefusedInput, namespace_of}
 use Rattle.cache_spaces.specs.Journals.{IsReached, IsWhereItWas, record_count}
-use Rattle.cache_spaces.specs.Spaces.{Shown, shown_tape}
+use Rattle.cache_spaces.specs.Spaces.{Shown, config_of, shown_tape}
 
 -- the input's event happened in its namespace
 abbrev pub Performs : Input → Output → List Shown → List Shown → Type 0
@@ -29,16 +29,28 @@ CountsRecord old new = record_count new ≡ record_count old + 1
 abbrev pub TakesNothing : {C : Type 0} → (old new : C) → (events later : ℕ) → Type 0
 TakesNothing old new events later = (new ≡ old) × (later ≡ events)
 
--- no input was taken: the journals are as they were, and where journals led before, others with as many records lead now
+-- the configurations of the namespaces, in their order
+abbrev pub configs_of : List Shown → List Config
+configs_of spaces = map config_of spaces
+
+-- Some journals with this many records lead to these namespaces, whose configurations are these.
+pub record IsReachedFrom (configs : List Config) (spaces : List Shown) (events : ℕ) : Type 0 where
+  pub led : ∥ IsReached spaces events ∥₁
+  pub configured : configs_of spaces ≡ configs
+
+-- no input was taken: the journals are as they were, where journals led before, others with as many records lead now, and the configurations
+-- are the same
 abbrev pub KeepsStanding : {C : Type 0} → (C → List Shown) → (C → List Transcript) → (old new : C)
     → Type 0
 KeepsStanding spaces journals old new =
     (journals new ≡ journals old) × IsWhereItWas (spaces old) (spaces new)
+    × (configs_of (spaces new) ≡ configs_of (spaces old))
 
--- Some journals with this many records lead to where the service stands; if it keeps journals, its own have as many.
-pub record StandsAfter {C : Type 0} (keeps : Bool) (spaces : C → List Shown)
+-- Some journals with this many records lead to where the service stands, which has these configurations; if it keeps journals, its own have
+-- as many.
+pub record StandsAfter {C : Type 0} (keeps : Bool) (configs : List Config) (spaces : C → List Shown)
     (journals : C → List Transcript) (events : ℕ) (core : C) : Type 0 where
-  pub reached : ∥ IsReached (spaces core) events ∥₁
+  pub reached : IsReachedFrom configs (spaces core) events
   pub counted : keeps ≡ true → record_count (journals core) ≡ events
 
 -- the number of the last record of the namespace's journal, if it has one

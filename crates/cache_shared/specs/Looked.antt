@@ -1,12 +1,13 @@
 -- What a look at a shared service saw, and what nobody had taken then.
 use Rattle.std.specs.Prelude.{◌≡◌, ◌⊎◌, ℕ, List, ◌++◌, Bool, true, false, Option, [], Some, None, IfSome, IsNone}
 use Rattle.std.specs.Option.{option_to_list}
+use Rattle.audit_model.specs.declared.config.Config.{Config}
 use Rattle.audit_model.specs.declared.input.Conn.{Conn}
 use Rattle.audit_model.specs.declared.input.LoadId.{LoadId}
 use Rattle.audit_model.specs.declared.input.ServiceError.{ServiceError}
 use Rattle.audit_model.specs.declared.transcript.Note.{Note}
 use Rattle.cache_spaces.specs.Calls.{InSpace, IsOpened, IsUnknown}
-use Rattle.cache_spaces.specs.Journals.{IsReached}
+use Rattle.cache_shared.specs.Events.{IsReachedFrom}
 use Rattle.cache_spaces.specs.Spaces.{Shown, Space, outgoing_of, closing_of, is_waiting_for}
 use Rattle.cache_shared.specs.declared.turning.Owed.{Owed}
 use Rattle.audit_model.specs.declared.input.ServiceError.TheVariants as error
@@ -16,77 +17,70 @@ abbrev pub RefusesCopy : {T : Type 0} → Space T → ℕ → ServiceError → T
 RefusesCopy space number e =
     IsUnknown space number e ⊎ (IsOpened space number × (e ≡ error.OutOfMemory))
 
--- At some moment, in a service to which some journals that obey lead, these were the replies of the connection that were not taken.
-pub record WereUntaken {C : Type 0} (spaces : C → List Shown) (untaken : C → Conn → List ℕ)
-    (conn : Conn) (text : List ℕ) : Type 0 where
-  pub core : C
-  pub events : ℕ
-  pub reached : ∥ IsReached (spaces core) events ∥₁
-  pub same : text ≡ untaken core conn
-
--- At some moment, in a service to which some journals that obey lead, these were the loads of the namespace that had been sent and not
--- taken, with their keys, in the order in which they were sent.
-pub record WereOut {C : Type 0} (spaces : C → List Shown) (namespace : ℕ)
-    (loads : List (LoadId × List ℕ)) : Type 0 where
-  pub core : C
-  pub events : ℕ
-  pub reached : ∥ IsReached (spaces core) events ∥₁
-  pub out : InSpace (spaces core) namespace (λ space. loads ≡ outgoing_of space)
-
--- What a look at a shared service saw.
-
--- At some moment, in a service to which some journals that obey lead, this was true of its namespaces.
-pub record HeldAtSomeMoment {C : Type 0} (spaces : C → List Shown) (Fact : List Shown → Type 0) :
-    Type 0 where
-  pub core : C
-  pub events : ℕ
-  pub reached : ∥ IsReached (spaces core) events ∥₁
-  pub fact : Fact (spaces core)
-
--- At some moment, in a service to which some journals that obey lead, this was true of it and of what a call made of it.
-pub record HappenedAtSomeMoment {C : Type 0} (spaces : C → List Shown) (Fact : C → C → Type 0) :
-    Type 0 where
-  pub old : C
-  pub new : C
-  pub events : ℕ
-  pub reached : ∥ IsReached (spaces old) events ∥₁
-  pub fact : Fact old new
-
--- At some moment, in a service to which some journals that obey lead, this was the oldest note of the namespace that was reported and not
--- taken; none if there was none.
-pub record WasOldestNote {C : Type 0} (spaces : C → List Shown) (untold : C → ℕ → List Note)
-    (namespace : ℕ) (note : Option Note) : Type 0 where
-  pub core : C
-  pub events : ℕ
-  pub reached : ∥ IsReached (spaces core) events ∥₁
-  pub rest : List Note
-  pub same : untold core namespace ≡ option_to_list note ++ rest
-  pub none : IsNone note → untold core namespace ≡ []
-
 -- the oldest of some notes were appended to others, in order
 pub record Moves (behind behind' notes notes' : List Note) : Type 0 where
   pub moved : List Note
   pub gained : behind' ≡ behind ++ moved
   pub left : notes ≡ moved ++ notes'
 
--- At some moment, in a service to which some journals that obey lead, the oldest notes of the namespace that were reported and not taken
--- were appended to others, in order.
-pub record WereMoved {C : Type 0} (spaces : C → List Shown) (untold : C → ℕ → List Note)
-    (namespace : ℕ) (behind behind' : List Note) : Type 0 where
-  pub core : C
-  pub events : ℕ
-  pub reached : ∥ IsReached (spaces core) events ∥₁
-  pub left : List Note
-  pub moved : Moves behind behind' (untold core namespace) left
+-- What was so at some moment, in a service of these configurations to which some journals that obey lead.
+module _ {C : Type 0} (configs : List Config) (spaces : C → List Shown) where
+  -- these were the replies of the connection that were not taken
+  pub record WereUntaken (untaken : C → Conn → List ℕ) (conn : Conn) (text : List ℕ) : Type 0 where
+    pub core : C
+    pub events : ℕ
+    pub reached : IsReachedFrom configs (spaces core) events
+    pub same : text ≡ untaken core conn
 
--- What a connection is owed: its replies, and the loads of its namespace, which are there only if they are requested, were there at some
--- moment, and so were the reason for which it is closed and the load for which it waits.
-pub record Owes {C : Type 0} (spaces : C → List Shown) (untaken : C → Conn → List ℕ) (conn : Conn)
-    (wants_loads : Bool) (owed : Owed) : Type 0 where
-  pub replies : IfSome owed.replies (λ text. WereUntaken spaces untaken conn text.items)
-  pub loads : IfSome owed.loads (λ loads. WereOut spaces conn.namespace loads.items)
-  pub unwanted : wants_loads ≡ false → owed.loads ≡ None
-  pub closed : IfSome owed.closing (λ closing. HeldAtSomeMoment spaces (λ spaces.
-      InSpace spaces conn.namespace (λ space. closing_of space conn.number ≡ Some closing)))
-  pub waits : owed.waits ≡ true → HeldAtSomeMoment spaces (λ spaces.
-      InSpace spaces conn.namespace (λ space. is_waiting_for space conn.number ≡ true))
+  -- these were the loads of the namespace that had been sent and not taken, with their keys, in the order in which they were sent
+  pub record WereOut (namespace : ℕ) (loads : List (LoadId × List ℕ)) : Type 0 where
+    pub core : C
+    pub events : ℕ
+    pub reached : IsReachedFrom configs (spaces core) events
+    pub out : InSpace (spaces core) namespace (λ space. loads ≡ outgoing_of space)
+
+  -- this was true of its namespaces
+  pub record HeldAtSomeMoment (Fact : List Shown → Type 0) : Type 0 where
+    pub core : C
+    pub events : ℕ
+    pub reached : IsReachedFrom configs (spaces core) events
+    pub fact : Fact (spaces core)
+
+  -- this was true of it and of what a call made of it
+  pub record HappenedAtSomeMoment (Fact : C → C → Type 0) : Type 0 where
+    pub old : C
+    pub new : C
+    pub events : ℕ
+    pub reached : IsReachedFrom configs (spaces old) events
+    pub fact : Fact old new
+
+  -- this was the oldest note of the namespace that was reported and not taken; none if there was none
+  pub record WasOldestNote (untold : C → ℕ → List Note) (namespace : ℕ) (note : Option Note) :
+      Type 0 where
+    pub core : C
+    pub events : ℕ
+    pub reached : IsReachedFrom configs (spaces core) events
+    pub rest : List Note
+    pub same : untold core namespace ≡ option_to_list note ++ rest
+    pub none : IsNone note → untold core namespace ≡ []
+
+  -- the oldest notes of the namespace that were reported and not taken were appended to others, in order
+  pub record WereMoved (untold : C → ℕ → List Note) (namespace : ℕ) (behind behind' : List Note) :
+      Type 0 where
+    pub core : C
+    pub events : ℕ
+    pub reached : IsReachedFrom configs (spaces core) events
+    pub left : List Note
+    pub moved : Moves behind behind' (untold core namespace) left
+
+  -- What a connection is owed: its replies, and the loads of its namespace, which are there only if they are requested, were there, and so
+  -- were the reason for which it is closed and the load for which it waits, each at a moment of its own.
+  pub record Owes (untaken : C → Conn → List ℕ) (conn : Conn) (wants_loads : Bool) (owed : Owed) :
+      Type 0 where
+    pub replies : IfSome owed.replies (λ text. WereUntaken untaken conn text.items)
+    pub loads : IfSome owed.loads (λ loads. WereOut conn.namespace loads.items)
+    pub unwanted : wants_loads ≡ false → owed.loads ≡ None
+    pub closed : IfSome owed.closing (λ closing. HeldAtSomeMoment (λ spaces.
+        InSpace spaces conn.namespace (λ space. closing_of space conn.number ≡ Some closing)))
+    pub waits : owed.waits ≡ true → HeldAtSomeMoment (λ spaces.
+        InSpace spaces conn.namespace (λ space. is_waiting_for space conn.number ≡ true))

@@ -23,7 +23,7 @@ pub struct BookedService<L: Seating, C: Shareable> {
     rest: Share<L>,
     left: u64,
     parts: u64,
-    ghost stands: { StandsAfter C.KEEPS C.spaces C.journals book.total core },
+    ghost stands: { StandsAfter C.KEEPS L.configs C.spaces C.journals book.total core },
     ghost spare: { rest.parts ≡ left },
     ghost idle: { rest.amount ≡ 0 },
     ghost whole: { parts ≡ L.all },
@@ -42,7 +42,7 @@ pub struct Finished<C: Shareable> {
 impl<L: Seating, C: Shareable> BookedService<L, C> {
     /// A service without seats, over a service without inputs. Its ledger is cut into `parts`, one for each seat.
     pub fn new(core: C, blank: Blank, parts: u64) -> BookedService<L, C>
-        requires empty { StandsAfter C.KEEPS C.spaces C.journals 0 core }
+        requires empty { StandsAfter C.KEEPS L.configs C.spaces C.journals 0 core }
         requires name { blank.name ≡ L.name }
         requires parts { (blank.parts ≡ L.parts) × (L.all ≡ L.parts) × (parts ≡ L.parts) }
         ensures { result.core ≡ core }
@@ -231,7 +231,7 @@ impl<L: Seating, C: Shareable> BookedService<L, C> {
         requires none { receipts.items ≡ [] }
         requires room { vec_len seats ≤ vec_capacity receipts }
         ensures service { result.service ≡ self.core }
-        ensures stands { StandsAfter C.KEEPS C.spaces C.journals
+        ensures stands { StandsAfter C.KEEPS L.configs C.spaces C.journals
             (sum_by (λ seat. seat.count) seats.items) result.service }
         ensures receipts { result.receipts.items ≡ map (λ seat. seat.receipts) seats.items }
     {
@@ -256,8 +256,9 @@ impl<L: Seating, C: Shareable> BookedService<L, C> {
     pub fn take_output(&mut self, conn: Conn) -> Result<Vec<u8>, ServiceError>
         ensures all { IfOk result (λ text. MovesReplies C.spaces C.untaken C.untold self.old.core
             self.new.core conn text.items) }
-        ensures taken { IfOk result (λ text. WereUntaken C.spaces C.untaken conn text.items) }
-        ensures refused { IfErr result (λ e. HeldAtSomeMoment C.spaces (λ spaces.
+        ensures taken { IfOk result
+            (λ text. WereUntaken L.configs C.spaces C.untaken conn text.items) }
+        ensures refused { IfErr result (λ e. HeldAtSomeMoment L.configs C.spaces (λ spaces.
             Refuses spaces conn.namespace e (λ space. RefusesCopy space conn.number e))) }
         ensures unchanged { OnErr result (self.new.core ≡ self.old.core) }
     {
@@ -268,8 +269,8 @@ impl<L: Seating, C: Shareable> BookedService<L, C> {
     pub fn take_loads(&mut self, namespace: u64) -> Result<Vec<(LoadId, Bytes)>, ServiceError>
         ensures all { IfOk result (λ loads. MovesLoads C.spaces C.untaken C.untold self.old.core
             self.new.core namespace loads.items) }
-        ensures taken { IfOk result (λ loads. WereOut C.spaces namespace loads.items) }
-        ensures refused { IfErr result (λ e. HeldAtSomeMoment C.spaces
+        ensures taken { IfOk result (λ loads. WereOut L.configs C.spaces namespace loads.items) }
+        ensures refused { IfErr result (λ e. HeldAtSomeMoment L.configs C.spaces
             (λ spaces. (e ≡ ServiceError.NoNamespace) × (length spaces ≤ namespace))) }
         ensures unchanged { OnErr result (self.new.core ≡ self.old.core) }
     {

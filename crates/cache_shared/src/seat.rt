@@ -1,5 +1,6 @@
 //! What each thread holds.
-ghost use Rattle.std.specs.Prelude.{◌≡◌, ℕ, ◌<◌, [], vec_len, OnOk};
+ghost use Rattle.std.specs.Prelude.{◌≡◌, ℕ, ◌<◌, List, [], vec_len, OnOk};
+ghost use Rattle.audit_model.specs.declared.config.Config.{Config};
 ghost use Rattle.cache_shared.specs.Seats.{SameReceipts, receipts_at};
 ghost use Rattle.cache_spaces.specs.Calls.{namespace_of};
 
@@ -13,10 +14,15 @@ use std::sync::ledger::{Ledger, Share};
 pub trait Seating: Ledger {
     /// All its parts.
     ghost all: { ℕ };
+
+    /// The configurations of the service's namespaces, in their order.
+    ghost configs: { List Config };
 }
 
 impl Seating for Brand {
     ghost all = { 0 };
+
+    ghost configs = { [] };
 }
 
 /// What a thread, or a connection, uses to pass its inputs: a count of those that were accepted, and, if the service keeps journals, a

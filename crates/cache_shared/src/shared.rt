@@ -55,7 +55,7 @@ impl<L: Seating, C: Shareable> SharedService<L, C> {
         blank: Blank,
         parts: u64,
     ) -> Result<SharedService<L, C>, (C, Blank)>
-        requires empty { StandsAfter C.KEEPS C.spaces C.journals 0 core }
+        requires empty { StandsAfter C.KEEPS L.configs C.spaces C.journals 0 core }
         requires name { blank.name ≡ L.name }
         requires parts { (blank.parts ≡ L.parts) × (L.all ≡ L.parts) × (parts ≡ L.parts) }
         ensures back { IfErr result (λ both. (both.0 ≡ core) × (both.1 ≡ blank)) }
@@ -101,9 +101,9 @@ impl<L: Seating, C: Shareable> SharedService<L, C> {
         ensures back { IfErr result (λ refusal. refusal.input ≡ input) }
         ensures unchanged { OnErr result ((seat.new.count ≡ seat.old.count)
             × SameReceipts seat.old.receipts.items seat.new.receipts.items) }
-        ensures taken { IfOk result (λ output. HappenedAtSomeMoment C.spaces (λ old new.
+        ensures taken { IfOk result (λ output. HappenedAtSomeMoment L.configs C.spaces (λ old new.
             TakesInput C.spaces C.untaken C.untold input output old new)) }
-        ensures refused { IfErr result (λ refusal. HeldAtSomeMoment C.spaces
+        ensures refused { IfErr result (λ refusal. HeldAtSomeMoment L.configs C.spaces
             (RefusesStep input refusal.error seat.old.count)) }
         ensures used_up { IfErr result
             (λ refusal. refusal.error ≡ ServiceError.UsedUp → seat.old.count ≡ 2 ^ 64 - 1) }
@@ -124,7 +124,7 @@ impl<L: Seating, C: Shareable> SharedService<L, C> {
         seats: Vec<Seat<L>>,
     ) -> Result<Finished<C>, (SharedService<L, C>, Vec<Seat<L>>)>
         requires ledger { L.all ≡ L.parts }
-        ensures stands { IfOk result (λ finished. StandsAfter C.KEEPS C.spaces C.journals
+        ensures stands { IfOk result (λ finished. StandsAfter C.KEEPS L.configs C.spaces C.journals
             (sum_by (λ seat. seat.count) seats.items) finished.service) }
         ensures receipts { IfOk result
             (λ finished. finished.receipts.items ≡ map (λ seat. seat.receipts) seats.items) }
@@ -150,10 +150,11 @@ impl<L: Seating, C: Shareable> SharedService<L, C> {
     /// Returns `NoNamespace`, then `NoConnection`, then `OutOfMemory` if the core copies replies; then they come the
     /// next time.
     pub fn take_output(&self, rt: &impl Wait, conn: Conn) -> Result<Vec<u8>, ServiceError>
-        ensures all { IfOk result (λ text. HappenedAtSomeMoment C.spaces (λ old new.
+        ensures all { IfOk result (λ text. HappenedAtSomeMoment L.configs C.spaces (λ old new.
             MovesReplies C.spaces C.untaken C.untold old new conn text.items)) }
-        ensures taken { IfOk result (λ text. WereUntaken C.spaces C.untaken conn text.items) }
-        ensures refused { IfErr result (λ e. HeldAtSomeMoment C.spaces (λ spaces.
+        ensures taken { IfOk result
+            (λ text. WereUntaken L.configs C.spaces C.untaken conn text.items) }
+        ensures refused { IfErr result (λ e. HeldAtSomeMoment L.configs C.spaces (λ spaces.
             Refuses spaces conn.namespace e (λ space. RefusesCopy space conn.number e))) }
     {
         self.inner().booked.lock(rt).take_output(conn)
@@ -176,18 +177,18 @@ impl<L: Seating, C: Shareable> SharedService<L, C> {
         ensures counted { IfOk result (λ turn. Counts C.KEEPS input turn.output seat.old.count
             seat.new.count seat.old.receipts.items seat.new.receipts.items) }
         ensures owed { IfOk result
-            (λ turn. Owes C.spaces C.untaken conn wants_loads turn.owed) }
+            (λ turn. Owes L.configs C.spaces C.untaken conn wants_loads turn.owed) }
         ensures back { IfErr result (λ refusal. refusal.input ≡ input) }
         ensures unchanged { OnErr result ((seat.new.count ≡ seat.old.count)
             × SameReceipts seat.old.receipts.items seat.new.receipts.items) }
-        ensures taken { IfOk result (λ turn. HappenedAtSomeMoment C.spaces
+        ensures taken { IfOk result (λ turn. HappenedAtSomeMoment L.configs C.spaces
             (λ old new. TakesTurn C.spaces C.untaken C.untold old new conn input turn
             notes.old.items notes.new.items)) }
-        ensures refused { IfErr result (λ refusal. HeldAtSomeMoment C.spaces
+        ensures refused { IfErr result (λ refusal. HeldAtSomeMoment L.configs C.spaces
             (RefusesStep input refusal.error seat.old.count)) }
         ensures used_up { IfErr result
             (λ refusal. refusal.error ≡ ServiceError.UsedUp → seat.old.count ≡ 2 ^ 64 - 1) }
-        ensures moved { WereMoved C.spaces C.untold conn.namespace notes.old.items
+        ensures moved { WereMoved L.configs C.spaces C.untold conn.namespace notes.old.items
             notes.new.items }
     {
         let inner = self.inner();
@@ -208,10 +209,10 @@ impl<L: Seating, C: Shareable> SharedService<L, C> {
         wants_loads: bool,
         notes: &mut Vec<Note>,
     ) -> Owed
-        ensures all { HappenedAtSomeMoment C.spaces (λ old new. MovesAll C.spaces C.untaken C.untold
-            old new conn result notes.old.items notes.new.items) }
-        ensures owed { Owes C.spaces C.untaken conn wants_loads result }
-        ensures moved { WereMoved C.spaces C.untold conn.namespace notes.old.items
+        ensures all { HappenedAtSomeMoment L.configs C.spaces (λ old new. MovesAll C.spaces
+            C.untaken C.untold old new conn result notes.old.items notes.new.items) }
+        ensures owed { Owes L.configs C.spaces C.untaken conn wants_loads result }
+        ensures moved { WereMoved L.configs C.spaces C.untold conn.namespace notes.old.items
             notes.new.items }
     {
         self.inner()
@@ -229,9 +230,9 @@ impl<L: Seating, C: Shareable> SharedService<L, C> {
         namespace: u64,
         notes: &mut Vec<Note>,
     ) -> Result<(), ServiceError>
-        ensures moved { WereMoved C.spaces C.untold namespace notes.old.items
+        ensures moved { WereMoved L.configs C.spaces C.untold namespace notes.old.items
             notes.new.items }
-        ensures refused { IfErr result (λ e. HeldAtSomeMoment C.spaces
+        ensures refused { IfErr result (λ e. HeldAtSomeMoment L.configs C.spaces
             (λ spaces. Refuses spaces namespace e (λ space. e ≡ ServiceError.OutOfMemory))) }
     {
         self.inner().booked.lock(rt).take_notices(namespace, notes)
@@ -244,10 +245,10 @@ impl<L: Seating, C: Shareable> SharedService<L, C> {
         rt: &impl Wait,
         namespace: u64,
     ) -> Result<Vec<(LoadId, Bytes)>, ServiceError>
-        ensures all { IfOk result (λ loads. HappenedAtSomeMoment C.spaces (λ old new.
+        ensures all { IfOk result (λ loads. HappenedAtSomeMoment L.configs C.spaces (λ old new.
             MovesLoads C.spaces C.untaken C.untold old new namespace loads.items)) }
-        ensures taken { IfOk result (λ loads. WereOut C.spaces namespace loads.items) }
-        ensures refused { IfErr result (λ e. HeldAtSomeMoment C.spaces
+        ensures taken { IfOk result (λ loads. WereOut L.configs C.spaces namespace loads.items) }
+        ensures refused { IfErr result (λ e. HeldAtSomeMoment L.configs C.spaces
             (λ spaces. (e ≡ ServiceError.NoNamespace) × (length spaces ≤ namespace))) }
     {
         self.inner().booked.lock(rt).take_loads(namespace)
@@ -257,11 +258,11 @@ impl<L: Seating, C: Shareable> SharedService<L, C> {
     /// and leaves no receipt.
     /// Returns `NoNamespace`, then `OutOfMemory` if the core copies notes; then it comes the next time.
     pub fn next_notice(&self, rt: &impl Wait, namespace: u64) -> Result<Option<Note>, ServiceError>
-        ensures all { IfOk result (λ note. HappenedAtSomeMoment C.spaces (λ old new.
+        ensures all { IfOk result (λ note. HappenedAtSomeMoment L.configs C.spaces (λ old new.
             MovesNote C.spaces C.untaken C.untold old new namespace note)) }
         ensures note { IfOk result
-            (λ note. WasOldestNote C.spaces C.untold namespace note) }
-        ensures refused { IfErr result (λ e. HeldAtSomeMoment C.spaces
+            (λ note. WasOldestNote L.configs C.spaces C.untold namespace note) }
+        ensures refused { IfErr result (λ e. HeldAtSomeMoment L.configs C.spaces
             (λ spaces. Refuses spaces namespace e (λ space. e ≡ ServiceError.OutOfMemory))) }
     {
         self.inner().booked.lock(rt).core.next_notice(namespace)
@@ -269,9 +270,9 @@ impl<L: Seating, C: Shareable> SharedService<L, C> {
 
     /// Returns why a connection is closed, or `None` while it is open, in one hold of the lock. Returns `NoNamespace`, then `NoConnection`.
     pub fn closed(&self, rt: &impl Wait, conn: Conn) -> Result<Option<Closing>, ServiceError>
-        ensures closing { IfOk result (λ closing. HeldAtSomeMoment C.spaces (λ spaces.
+        ensures closing { IfOk result (λ closing. HeldAtSomeMoment L.configs C.spaces (λ spaces.
             InSpace spaces conn.namespace (λ space. closing ≡ closing_of space conn.number))) }
-        ensures refused { IfErr result (λ e. HeldAtSomeMoment C.spaces
+        ensures refused { IfErr result (λ e. HeldAtSomeMoment L.configs C.spaces
             (λ spaces. Refuses spaces conn.namespace e (λ space. IsUnknown space conn.number e))) }
     {
         self.inner().booked.lock(rt).core.closed(conn)
@@ -279,9 +280,9 @@ impl<L: Seating, C: Shareable> SharedService<L, C> {
 
     /// Returns whether a `LOAD` of a connection waits for its load, in one hold of the lock. Returns `NoNamespace`, then `NoConnection`.
     pub fn waiting(&self, rt: &impl Wait, conn: Conn) -> Result<bool, ServiceError>
-        ensures waits { IfOk result (λ waits. HeldAtSomeMoment C.spaces (λ spaces.
+        ensures waits { IfOk result (λ waits. HeldAtSomeMoment L.configs C.spaces (λ spaces.
             InSpace spaces conn.namespace (λ space. waits ≡ is_waiting_for space conn.number))) }
-        ensures refused { IfErr result (λ e. HeldAtSomeMoment C.spaces
+        ensures refused { IfErr result (λ e. HeldAtSomeMoment L.configs C.spaces
             (λ spaces. Refuses spaces conn.namespace e (λ space. IsUnknown space conn.number e))) }
     {
         self.inner().booked.lock(rt).core.waiting(conn)
@@ -309,7 +310,7 @@ fn close_if_all<L: Seating, C: Shareable>(
 ) -> Result<Finished<C>, Vec<Seat<L>>>
     requires ledger { L.all ≡ L.parts }
     requires full { IsSome slot.old }
-    ensures stands { IfOk result (λ finished. StandsAfter C.KEEPS C.spaces C.journals
+    ensures stands { IfOk result (λ finished. StandsAfter C.KEEPS L.configs C.spaces C.journals
         (sum_by (λ seat. seat.count) seats.items) finished.service) }
     ensures receipts { IfOk result
         (λ finished. finished.receipts.items ≡ map (λ seat. seat.receipts) seats.items) }

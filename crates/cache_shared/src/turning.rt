@@ -52,7 +52,7 @@ impl<L: Seating, C: Shareable> BookedService<L, C> {
         ensures taken { IfOk result (λ turn. TakesTurn C.spaces C.untaken C.untold self.old.core
             self.new.core conn input turn notes.old.items notes.new.items) }
         ensures owed { IfOk result
-            (λ turn. Owes C.spaces C.untaken conn wants_loads turn.owed) }
+            (λ turn. Owes L.configs C.spaces C.untaken conn wants_loads turn.owed) }
         ensures refused { IfErr result (λ refusal. RefusesStep input refusal.error seat.old.count
             (C.spaces self.old.core)) }
         ensures used_up { IfErr result
@@ -63,7 +63,7 @@ impl<L: Seating, C: Shareable> BookedService<L, C> {
             × SameReceipts seat.old.receipts.items seat.new.receipts.items
             × (notes.new ≡ notes.old)) }
         ensures back { IfErr result (λ refusal. refusal.input ≡ input) }
-        ensures moved { WereMoved C.spaces C.untold conn.namespace notes.old.items
+        ensures moved { WereMoved L.configs C.spaces C.untold conn.namespace notes.old.items
             notes.new.items }
     {
         let output = self.step(alloc, seat, input)?;
@@ -76,8 +76,8 @@ impl<L: Seating, C: Shareable> BookedService<L, C> {
     pub fn take_owed(&mut self, conn: Conn, wants_loads: bool, notes: &mut Vec<Note>) -> Owed
         ensures all { MovesAll C.spaces C.untaken C.untold self.old.core self.new.core conn result
             notes.old.items notes.new.items }
-        ensures owed { Owes C.spaces C.untaken conn wants_loads result }
-        ensures moved { WereMoved C.spaces C.untold conn.namespace notes.old.items
+        ensures owed { Owes L.configs C.spaces C.untaken conn wants_loads result }
+        ensures moved { WereMoved L.configs C.spaces C.untold conn.namespace notes.old.items
             notes.new.items }
     {
         // Notes that are not taken for lack of memory stay.
@@ -97,7 +97,7 @@ impl<L: Seating, C: Shareable> BookedService<L, C> {
         ensures all { MatchOption result (self.new.core ≡ self.old.core)
             (λ loads. MovesLoads C.spaces C.untaken C.untold self.old.core self.new.core namespace
             loads.items) }
-        ensures taken { IfSome result (λ loads. WereOut C.spaces namespace loads.items) }
+        ensures taken { IfSome result (λ loads. WereOut L.configs C.spaces namespace loads.items) }
         ensures unwanted { wants_loads ≡ false → result ≡ None }
     {
         if !wants_loads {
@@ -114,7 +114,8 @@ impl<L: Seating, C: Shareable> BookedService<L, C> {
         ensures all { MatchOption result (self.new.core ≡ self.old.core)
             (λ text. MovesReplies C.spaces C.untaken C.untold self.old.core self.new.core conn
             text.items) }
-        ensures taken { IfSome result (λ text. WereUntaken C.spaces C.untaken conn text.items) }
+        ensures taken { IfSome result
+            (λ text. WereUntaken L.configs C.spaces C.untaken conn text.items) }
     {
         match self.take_output(conn) {
             Ok(text) => Some(text),
@@ -135,7 +136,7 @@ impl<L: Seating, C: Shareable> BookedService<L, C> {
             namespace }
         ensures all { OnOk result ((C.untold self.new.core namespace ≡ [])
             ⊎ (vec_len notes.new ≡ vec_capacity notes.old)) }
-        ensures refused { IfErr result (λ e. HeldAtSomeMoment C.spaces
+        ensures refused { IfErr result (λ e. HeldAtSomeMoment L.configs C.spaces
             (λ spaces. Refuses spaces namespace e (λ space. e ≡ ServiceError.OutOfMemory))) }
     {
         let room = notes.capacity() - notes.len();

@@ -1,5 +1,5 @@
 //! A thread for each namespace, and one that writes what they tell.
-ghost use Rattle.std.specs.Prelude.{◌≡◌, ◌⊎◌, false, IfOk, IfErr};
+ghost use Rattle.std.specs.Prelude.{◌≡◌, ◌⊎◌, false, map, IfOk, IfErr};
 ghost use Rattle.cache_shared.specs.Recordings.{bare_spaces, no_journals};
 ghost use Rattle.cache_shared.specs.Events.{StandsAfter};
 
@@ -74,7 +74,7 @@ fn host_all<L: Seating + Send + Sync + 'static, W: Shown, E: Shown, R: Machine>(
     listeners: Vec<TcpListener>,
     scribe: Scribe<W, E>,
 ) -> Result<(), Ending>
-    requires empty { StandsAfter false bare_spaces no_journals 0 core }
+    requires empty { StandsAfter false L.configs bare_spaces no_journals 0 core }
     requires name { blank.name ≡ L.name }
     requires parts { (blank.parts ≡ L.parts) × (L.all ≡ L.parts) × (L.parts ≡ 4294967296) }
     ensures { IfErr result
@@ -106,10 +106,18 @@ fn host_all<L: Seating + Send + Sync + 'static, W: Shown, E: Shown, R: Machine>(
     Ok(())
 }
 
+/// The configurations of these namespaces.
+fn configs_in(alloc: Global, spaces: &[HostedNamespace]) -> Result<Vec<Config>, AllocError>
+    ensures { IfOk result (λ configs. configs.items ≡ map (λ space. space.config) spaces.now) }
+{
+    spaces.iter().map(|space| space.config).collect(alloc)
+}
+
 /// The service of these namespaces, made at moment 0. Its generator is one that no stranger can foresee: its seed comes from the machine's
 /// random source.
 fn make_core<R: Machine>(hall: &Hall<R>, spaces: &[HostedNamespace]) -> Result<Service, Ending>
-    ensures empty { IfOk result (StandsAfter false bare_spaces no_journals 0) }
+    ensures empty { IfOk result (StandsAfter false (map (λ space. space.config) spaces.now)
+        bare_spaces no_journals 0) }
     ensures err { IfErr result
         (λ e. (e.fault ≡ Fault.CannotListen) ⊎ (e.fault ≡ Fault.OutOfMemory)) }
 {
@@ -118,7 +126,7 @@ fn make_core<R: Machine>(hall: &Hall<R>, spaces: &[HostedNamespace]) -> Result<S
         .fill_bytes(&mut seed)
         .map_err(|error| Ending::machine("the random source", error))?;
     let generator = Xoshiro256PlusPlus::from_seed(seed);
-    let configs: Vec<Config> = spaces.iter().map(|space| space.config).collect(hall.alloc)?;
+    let configs = configs_in(hall.alloc, spaces)?;
     match Service::new(hall.alloc, &configs, generator, Instant { nanos: 0 }) {
         Ok(core) => Ok(core),
         Err(_) => Err(Ending::from(Fault::OutOfMemory)),

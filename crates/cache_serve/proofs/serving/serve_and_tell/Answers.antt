@@ -10,7 +10,7 @@ use Rattle.cache_serve.proofs.Promised.{attended, ended-because, rested, rested-
 use Rattle.cache_serve.proofs.serving.serve_and_tell.Goals as goal
 
 pub returns-in_default-clause-wrote : goal.returns-in_default-clause-wrote
-returns-in_default-clause-wrote g c = let seat = c.args.seat.now in ([], [], refl, rested-wrote g.C.Shareable.KEEPS _ _ _ (tally seat) (tally seat) _ (rested seat seat (inl refl)))
+returns-in_default-clause-wrote g c = let seat = c.args.seat.now in ([], [], refl, rested-wrote g.C.Shareable.KEEPS _ _ _ _ (tally seat) (tally seat) _ (rested seat seat (inl refl)))
 
 pub returns-in_default-clause-asked : goal.returns-in_default-clause-asked
 returns-in_default-clause-asked g c = λ kept. (record { namespace = c.args.namespace; number = 0 }, inr (record { same = λ n. refl; unread = refl; untold = refl; unasked = refl }))
@@ -18,7 +18,7 @@ returns-in_default-clause-asked g c = λ kept. (record { namespace = c.args.name
 pub returns-in_err-session-clause-wrote : goal.returns-in_err-session-clause-wrote
 returns-in_err-session-clause-wrote g c =
     let p = err_from_is_err_and c.from_residual.result c.from_residual.ensures.1 in
-    rw p.1 ([], [], refl, rested-wrote g.C.Shareable.KEEPS _ _ _ (tally c.args.seat.now) (tally c.open.new.place) _ (rested c.args.seat.now c.open.new.place c.in_err-session.ensures.rests))
+    rw p.1 ([], [], refl, rested-wrote g.C.Shareable.KEEPS _ _ _ _ (tally c.args.seat.now) (tally c.open.new.place) _ (rested c.args.seat.now c.open.new.place c.in_err-session.ensures.rests))
 
 pub returns-in_err-session-clause-asked : goal.returns-in_err-session-clause-asked
 returns-in_err-session-clause-asked g c = λ kept.
@@ -30,7 +30,7 @@ returns-in_err-session-clause-asked g c = λ kept.
 
 pub loop-turn-init : goal.loop-turn-init
 loop-turn-init g c = record {
-  goes = fresh-underway false (Comes g.C.Shareable.spaces g.C.Shareable.untaken g.C.Shareable.KEEPS) (Closes g.C.Shareable.spaces g.C.Shareable.untaken g.C.Shareable.KEEPS) g.K.Clock.reads g.D.Loader.loads _ _ c.in_ok-session.session c.in_ok-session.ensures.opens.1;
+  goes = fresh-underway false (Comes g.L.Seating.configs g.C.Shareable.spaces g.C.Shareable.untaken g.C.Shareable.KEEPS) (Closes g.L.Seating.configs g.C.Shareable.spaces g.C.Shareable.untaken g.C.Shareable.KEEPS) g.K.Clock.reads g.D.Loader.loads _ _ c.in_ok-session.session c.in_ok-session.ensures.opens.1;
   same = refl;
   reads = omega arith;
   writes = omega arith;
@@ -51,7 +51,7 @@ loop-turn-preserved g c =
 pub returns-in-loop-turn : goal.returns-in-loop-turn
 returns-in-loop-turn g c =
     let i = c.loop-turn.invariant in
-    let all = attended g.C.Shareable.spaces g.C.Shareable.untaken g.C.Shareable.KEEPS g.I.Read.remaining g.O.Write.contents g.K.Clock.reads g.D.Loader.loads c.args.namespace c.args.seat.now c.close.new.place c.args.reader.now c.converse-ended.new.reader c.args.writer.now
+    let all = attended g.L.Seating.configs g.C.Shareable.spaces g.C.Shareable.untaken g.C.Shareable.KEEPS g.I.Read.remaining g.O.Write.contents g.K.Clock.reads g.D.Loader.loads c.args.namespace c.args.seat.now c.close.new.place c.args.reader.now c.converse-ended.new.reader c.args.writer.now
     c.converse-ended.new.writer c.args.clock.now c.converse-ended.new.clock c.args.loader.now c.close.new.loader c.in_ok-session.session c.converse-ended.new.session c.open.new.place c.converse-ended.new.place c.converse-ended.new.loader c.converse-ended.result c.outcome_of.result
     c.close.result c.in_ok-session.ensures.opens.0 (c.converse-ended.ensures.known.1 ∙ i.same) (c.converse-ended.ensures.goes c.open.new.place (around g.I.Read.remaining g.O.Write.contents c.args.reader.now c.args.writer.now c.args.clock.now c.args.loader.now) i.goes) c.outcome_of.ensures c.close.ensures.closes c.close.ensures.same in
     let counts : c.args.seat.now.count ≤ c.close.new.place.count = omega arith in

@@ -1,5 +1,9 @@
+use Rattle.std.proofs.Common.{false, subst}
 use Rattle.cache_shared.proofs.Performing.{unused-bare}
+use Rattle.cache_shared.specs.Events.{StandsAfter}
+use Rattle.cache_shared.specs.Recordings.{bare_spaces, no_journals}
 use Rattle.cached_server.proofs.hosts.make_core.Goals as goal
 
 pub returns-in-Ok-clause-empty : goal.returns-in-Ok-clause-empty
-returns-in-Ok-clause-empty g c = unused-bare c.in-Ok.core c.in-Ok.ensures.reached
+returns-in-Ok-clause-empty g c =
+    subst (λ configs. StandsAfter false configs bare_spaces no_journals 0 c.in-Ok.core) c.in_ok-configs.ensures (unused-bare _ _ _ c.in-Ok.core c.in-Ok.ensures.made c.in-Ok.ensures.reached)

@@ -6,12 +6,12 @@ use Rattle.cache_shared.proofs.booked.BookedService.step.Goals as goal
 pub returns-then-KEEPS-clause-counted : goal.returns-then-KEEPS-clause-counted
 returns-then-KEEPS-clause-counted g c =
     counts _ _ c.args.input c.step_kept.result _ _ _ _ _ c.step_kept.ensures.count (λ kept. c.step_kept.ensures.receipt) (λ none. absurd (true≢false (sym (sym c.KEEPS.ensures ∙ c.if-KEEPS.true) ∙ none)))
-    (came-result g.C.Shareable.spaces g.C.Shareable.untaken g.C.Shareable.untold c.args.input c.step_kept.result _ _ _ c.args.self.now.stands.reached c.step_kept.ensures.taken)
+    (came-result g.C.Shareable.spaces g.C.Shareable.untaken g.C.Shareable.untold c.args.input c.step_kept.result _ _ _ c.args.self.now.stands.reached.led c.step_kept.ensures.taken)
 
 pub returns-clause-counted : goal.returns-clause-counted
 returns-clause-counted g c =
     counts _ _ c.args.input c.count_one.result _ _ _ _ [] c.count_one.ensures.count (λ kept. absurd (true≢false (sym kept ∙ sym c.KEEPS.ensures ∙ c.if-KEEPS.false))) (λ none namespace. refl)
-    (came-result g.C.Shareable.spaces g.C.Shareable.untaken g.C.Shareable.untold c.args.input c.count_one.result _ _ _ c.args.self.now.stands.reached c.count_one.ensures.taken)
+    (came-result g.C.Shareable.spaces g.C.Shareable.untaken g.C.Shareable.untold c.args.input c.count_one.result _ _ _ c.args.self.now.stands.reached.led c.count_one.ensures.taken)
 
 pub returns-then-KEEPS-clause-used_up : goal.returns-then-KEEPS-clause-used_up
 returns-then-KEEPS-clause-used_up g c = used_up_refused c.args.input c.step_kept.result _ _ c.step_kept.ensures.refused
