@@ -2,6 +2,7 @@
 //! Words: the port, the capacity in MiB, and how many connections.
 #![tactic(auto)]
 
+use memcache_cache::LentShelf;
 use memcache_service::{Conn, Service, Setup};
 use moka::{EvictionPolicy, StdHasher};
 use std::alloc::Global;
@@ -17,7 +18,7 @@ use std::thread::Threads;
 use std::time::{Clock, SystemTime, UNIX_EPOCH};
 
 /// A service that threads share.
-type Shared = Mutex<Service<StdHasher>>;
+type Shared = Mutex<Service<LentShelf<StdHasher>>>;
 
 /// The milliseconds of Unix time.
 fn moment(rt: &impl Clock) -> u64 {
@@ -161,9 +162,10 @@ where
     let setup = Setup {
         capacity,
         item_size: 1 << 20,
-        policy: EvictionPolicy::Lru,
     };
-    let service = Service::new(alloc, setup, StdHasher::new(), moment(&rt))?;
+    let now = moment(&rt);
+    let shelf = LentShelf::new(alloc, capacity, EvictionPolicy::Lru, StdHasher::new(), now)?;
+    let service = Service::new(alloc, shelf, setup, now)?;
     let shared = Arc::new(alloc, Mutex::new(service))?;
     let address = SocketAddr::from((Ipv4Addr::LOCALHOST, port));
     let listener = TcpListener::bind(&rt, address)?;

@@ -1,11 +1,12 @@
 //! A connection: the bytes that no request has used, and the replies that were not taken.
 ghost use Rattle.std.specs.Prelude.{◌≡◌, ◌≤◌, drop, length, vec_len};
+ghost use Rattle.memcache_service.specs.Shelves.{IsMoment};
 
-use crate::running::Stock;
+use crate::shelf::Shelf;
+use crate::stock::Stock;
 use memcache_lines::{Arrived, Command, Request, read_request};
 use memcache_model::ProtocolError;
 use std::alloc::{AllocError, Global};
-use std::hash::BuildHasher;
 use std::mem;
 
 /// While this many bytes of replies were not taken, no further request runs.
@@ -60,12 +61,15 @@ impl Connection {
 
     /// Takes a piece of bytes, and runs the requests that it completes. A request runs only while less than 1 MiB of replies wait; what is
     /// held back runs with a later piece, which may be empty.
-    pub fn feed<S: BuildHasher + Drop>(
+    pub fn feed<T: Shelf>(
         &mut self,
-        stock: &mut Stock<S>,
+        stock: &mut Stock<T>,
         piece: &[u8],
         moment: u64,
-    ) {
+    )
+        requires { IsMoment (T.view stock.old.shelf) moment }
+        ensures { IsMoment (T.view stock.new.shelf) moment }
+    {
         if self.is_closed {
             return;
         }
@@ -100,7 +104,10 @@ impl Connection {
     }
 
     /// Runs the requests in the bytes that were kept.
-    fn run_kept<S: BuildHasher + Drop>(&mut self, stock: &mut Stock<S>, moment: u64) {
+    fn run_kept<T: Shelf>(&mut self, stock: &mut Stock<T>, moment: u64)
+        requires { IsMoment (T.view stock.old.shelf) moment }
+        ensures { IsMoment (T.view stock.new.shelf) moment }
+    {
         let mut input = Vec::new(self.alloc);
         mem::swap(&mut self.input, &mut input);
         let used = self.run(stock, input.as_slice(), moment);
@@ -114,13 +121,15 @@ impl Connection {
     }
 
     /// Runs the requests in the bytes, and returns how many bytes they took.
-    fn run<S: BuildHasher + Drop>(
+    fn run<T: Shelf>(
         &mut self,
-        stock: &mut Stock<S>,
+        stock: &mut Stock<T>,
         bytes: &[u8],
         moment: u64,
     ) -> usize
-        ensures { result ≤ length bytes.now }
+        requires { IsMoment (T.view stock.old.shelf) moment }
+        ensures used { result ≤ length bytes.now }
+        ensures may_follow { IsMoment (T.view stock.new.shelf) moment }
     {
         let mut start = 0;
         while !self.is_closed && !self.is_full() && start < bytes.len() {
@@ -136,12 +145,15 @@ impl Connection {
     }
 
     /// Runs a request.
-    fn serve<S: BuildHasher + Drop>(
+    fn serve<T: Shelf>(
         &mut self,
-        stock: &mut Stock<S>,
+        stock: &mut Stock<T>,
         request: &Request<'_>,
         moment: u64,
-    ) {
+    )
+        requires { IsMoment (T.view stock.old.shelf) moment }
+        ensures { IsMoment (T.view stock.new.shelf) moment }
+    {
         let served = stock.serve(request, moment, &mut self.output);
         if served.is_err() || ends(&request.command) {
             self.close();

@@ -1,19 +1,12 @@
-//! What the cache holds.
-ghost use Rattle.std.specs.Prelude.{◌≡◌, ◌<◌, ◌^◌, option_map};
-ghost use Rattle.std.specs.Duration.{as_nanos};
+//! Items.
+ghost use Rattle.std.specs.Prelude.{◌≡◌, ◌+◌, ◌++◌, ◌<◌, ◌≤◌, ◌^◌, length, decimal, nat_lt, IfOk, Some, None, if◌then◌else◌, option_map};
 ghost use Rattle.memcache_model.specs.Items.{deadline_of};
 ghost use Rattle.memcache_model.specs.Outcomes.{new_item};
-ghost use Rattle.memcache_service.specs.Rules.{item_answers, left_of};
 
-use audit_model::Key;
+use itoa::Buffer;
 use memcache_model::Exptime;
-use moka::{Expiration, Instant, Rules};
-use std::alloc::AllocError;
+use std::alloc::{AllocError, Global};
 use std::marker::Model;
-use std::time::Duration;
-
-/// What an item costs beside its key and its bytes, in bytes of memory.
-pub const ITEM_COST: u64 = 160;
 
 /// What a key has: its bytes, the client's flags, its unique, the moment at which it expires, in milliseconds of Unix time, whether it is
 /// stale, and whether a client holds the lease to renew it.
@@ -47,14 +40,7 @@ impl Clone for StoredItem {
 
     fn clone(&self) -> Result<StoredItem, AllocError> {
         let bytes = self.bytes.clone()?;
-        Ok(StoredItem {
-            bytes,
-            flags: self.flags,
-            unique: self.unique,
-            deadline: self.deadline,
-            stale: self.stale,
-            leased: self.leased,
-        })
+        Ok(self.with_bytes(bytes))
     }
 }
 
@@ -73,14 +59,83 @@ impl StoredItem {
         }
     }
 
-    /// How long it is to live from a moment on.
-    fn lifetime(&self, now: Instant) -> Option<Duration>
-        ensures { option_map as_nanos result ≡ left_of self.now now }
+    /// The item with other bytes.
+    pub fn with_bytes(&self, bytes: Vec<u8>) -> StoredItem
+        ensures { result ≡ record self.now { bytes = bytes.items } }
     {
-        let milliseconds = self.deadline?;
-        let nanos = milliseconds.saturating_mul(1_000_000);
-        Some(Duration::from_nanos(nanos.saturating_sub(now.as_nanos())))
+        StoredItem {
+            bytes,
+            flags: self.flags,
+            unique: self.unique,
+            deadline: self.deadline,
+            stale: self.stale,
+            leased: self.leased,
+        }
     }
+
+    /// The item with another unique.
+    pub fn with_unique(self, unique: u64) -> StoredItem
+        ensures { result ≡ record self { unique = unique } }
+    {
+        let mut item = self;
+        item.unique = unique;
+        item
+    }
+
+    /// The item with another deadline.
+    pub fn with_deadline(&self, deadline: Option<u64>) -> Result<StoredItem, AllocError>
+        ensures { IfOk result (λ made. made ≡ record self.now { deadline = deadline }) }
+    {
+        let bytes = self.bytes.clone()?;
+        Ok(StoredItem {
+            bytes,
+            flags: self.flags,
+            unique: self.unique,
+            deadline,
+            stale: self.stale,
+            leased: self.leased,
+        })
+    }
+
+    /// The item with a number in place of its bytes.
+    pub fn with_number(&self, alloc: Global, number: u64) -> Result<StoredItem, AllocError>
+        ensures { IfOk result (λ made. made ≡ record self.now { bytes = decimal number }) }
+    {
+        let mut digits = Buffer::new();
+        let bytes = Vec::from_slice(alloc, digits.format(number).as_bytes())?;
+        Ok(self.with_bytes(bytes))
+    }
+
+    /// The item with more bytes behind its own.
+    pub fn with_behind(&self, alloc: Global, more: &[u8]) -> Result<StoredItem, AllocError>
+        requires { length self.now.bytes + length more.now < 2 ^ 63 }
+        ensures { IfOk result
+            (λ made. made ≡ record self.now { bytes = self.now.bytes ++ more.now }) }
+    {
+        let bytes = concat(alloc, self.bytes.as_slice(), more)?;
+        Ok(self.with_bytes(bytes))
+    }
+
+    /// The item with more bytes before its own.
+    pub fn with_before(&self, alloc: Global, more: &[u8]) -> Result<StoredItem, AllocError>
+        requires { length more.now + length self.now.bytes < 2 ^ 63 }
+        ensures { IfOk result
+            (λ made. made ≡ record self.now { bytes = more.now ++ self.now.bytes }) }
+    {
+        let bytes = concat(alloc, more, self.bytes.as_slice())?;
+        Ok(self.with_bytes(bytes))
+    }
+}
+
+/// The bytes one behind the other.
+fn concat(alloc: Global, first: &[u8], second: &[u8]) -> Result<Vec<u8>, AllocError>
+    requires { length first.now + length second.now < 2 ^ 63 }
+    ensures { IfOk result (λ v. v.items ≡ first.now ++ second.now) }
+{
+    let mut bytes = Vec::with_capacity(alloc, first.len() + second.len())?;
+    bytes.extend_from_slice(first)?;
+    bytes.extend_from_slice(second)?;
+    Ok(bytes)
 }
 
 /// When an item expires that is written at a moment of milliseconds of Unix time.
@@ -91,61 +146,19 @@ pub fn deadline_of(moment: u64, exptime: Exptime) -> Option<u64>
     match exptime {
         Exptime::Never => None,
         Exptime::AtOnce => Some(moment),
-        Exptime::Seconds(seconds) => {
-            let milliseconds = u64::from(seconds) * 1000;
-            if seconds <= 2_592_000 {
-                Some(moment + milliseconds)
-            } else {
-                Some(milliseconds)
-            }
-        }
+        Exptime::Seconds(seconds) => deadline_in(moment, seconds),
     }
 }
 
-/// The rules of the cache: an item weighs its key, its bytes and what it costs beside, and lives until its deadline.
-#[derive(Clone, Copy, Drop)]
-pub struct ItemRules;
-
-impl Rules<Key, StoredItem> for ItemRules {
-    type Predicate = ();
-
-    type Fault = ();
-
-    ghost answers = { item_answers };
-
-    fn weight(&self, key: &Key, item: &StoredItem) -> u32 {
-        let key = key.as_bytes().len() as u64;
-        let bytes = item.bytes.len() as u64;
-        let weight = key.saturating_add(bytes).saturating_add(ITEM_COST);
-        u32::try_from(weight).unwrap_or(u32::MAX)
-    }
-
-    fn created_expiration(&self, _key: &Key, item: &StoredItem, at: Instant) -> Option<Duration> {
-        item.lifetime(at)
-    }
-
-    fn read_expiration(
-        &self,
-        _key: &Key,
-        _item: &StoredItem,
-        _at: Instant,
-        _remaining: Option<Duration>,
-        _written: Instant,
-    ) -> Expiration {
-        Expiration::Keep
-    }
-
-    fn updated_expiration(
-        &self,
-        _key: &Key,
-        item: &StoredItem,
-        at: Instant,
-        _remaining: Option<Duration>,
-    ) -> Expiration {
-        Expiration::Set(item.lifetime(at))
-    }
-
-    fn is_covered(&self, _predicate: &(), _key: &Key, _item: &StoredItem) -> bool {
-        false
+/// The same for a number of seconds.
+fn deadline_in(moment: u64, seconds: u32) -> Option<u64>
+    requires { moment < 2 ^ 63 }
+    ensures { result ≡ deadline_of moment (Exptime.Seconds seconds) }
+{
+    let milliseconds = 1000 * u64::from(seconds);
+    if seconds <= 2_592_000 {
+        Some(moment + milliseconds)
+    } else {
+        Some(milliseconds)
     }
 }

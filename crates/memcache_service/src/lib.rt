@@ -1,15 +1,16 @@
-//! A server of the memcache text protocol over a lent cache: connections, what requests do, statistics.
+//! A server of the memcache text protocol over a shelf of items: connections, what requests do, statistics.
 #![tactic(auto)]
 
 mod connection;
 mod counters;
 mod item;
 mod replies;
-mod running;
 mod service;
 mod shelf;
+mod stock;
 
-pub use counters::Counters;
-pub use item::{ITEM_COST, ItemRules, StoredItem};
+pub use counters::{Counters, Tally};
+pub use item::StoredItem;
+pub use replies::say_value;
 pub use service::{Conn, Service, Setup};
 pub use shelf::Shelf;

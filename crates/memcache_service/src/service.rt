@@ -1,12 +1,20 @@
 //! A service: a stock of items, and the connections that use it.
+ghost use Rattle.std.specs.Prelude.{◌≡◌, ◌≤◌, ◌<◌, ◌^◌};
+ghost use Rattle.memcache_service.specs.Shelves.{IsMoment};
+
 use crate::connection::Connection;
 use crate::counters::{Counters, Tally};
-use crate::running::Stock;
 use crate::shelf::Shelf;
-use moka::EvictionPolicy;
+use crate::stock::Stock;
+use audit_model::Key;
 use slab::Slab;
 use std::alloc::{AllocError, Global};
-use std::hash::BuildHasher;
+
+/// Moments are below this many milliseconds of Unix time, which are 557 years.
+const MOMENTS: u64 = 1 << 44;
+
+/// The longest key, in bytes.
+const MAX_KEY: usize = 250;
 
 /// What a service is made with.
 #[derive(Clone, Copy, Debug, PartialEq, Eq, Drop)]
@@ -15,33 +23,36 @@ pub struct Setup {
     pub capacity: u64,
     /// How many bytes a data block may have.
     pub item_size: u32,
-    /// Which items are evicted.
-    pub policy: EvictionPolicy,
 }
 
 /// The number of a connection.
 pub type Conn = usize;
 
-/// A stock of items, and the connections that use it. Moments are in milliseconds of Unix time, and do not go back.
+/// A stock of items, and the connections that use it. Moments are in milliseconds of Unix time; one that is before that of the last call,
+/// or 2^44 or later, counts as that of the last call.
 #[derive(Drop)]
-pub struct Service<S: BuildHasher + Drop> {
-    stock: Stock<S>,
+pub struct Service<T: Shelf> {
+    stock: Stock<T>,
     connections: Slab<Connection>,
     moment: u64,
+    ghost in_time: { IsMoment (T.view stock.shelf) moment },
 }
 
-impl<S: BuildHasher + Drop> Service<S> {
-    /// A service without items. If untrusted clients choose the keys, use a hasher that they cannot predict.
+impl<T: Shelf> Service<T> {
+    /// A service over a shelf.
     pub fn new(
         alloc: Global,
+        shelf: T,
         setup: Setup,
-        hasher: S,
         moment: u64,
-    ) -> Result<Service<S>, AllocError> {
-        let shelf = Shelf::new(alloc, setup.capacity, setup.policy, hasher, moment)?;
+    ) -> Result<Service<T>, AllocError>
+        requires { IsMoment (T.view shelf) moment }
+    {
+        let key = Key::with_capacity(alloc, MAX_KEY)?;
         let stock = Stock {
             alloc,
             shelf,
+            key,
             uniques: 0,
             flush: None,
             counters: Counters::new(),
@@ -75,11 +86,12 @@ impl<S: BuildHasher + Drop> Service<S> {
     /// Feeds a connection a piece of bytes at a moment, and runs the requests that it completes. Returns false if the connection has ended:
     /// its replies are to be taken, and then it is to be closed.
     pub fn feed(&mut self, conn: Conn, piece: &[u8], moment: u64) -> bool {
-        self.moment = self.moment.max(moment);
+        let now = later(self.moment, moment);
         match self.connections.get_mut(conn) {
             Some(connection) => {
                 self.stock.counters.add(Tally::BytesRead, piece.len() as u64);
-                connection.feed(&mut self.stock, piece, self.moment);
+                connection.feed(&mut self.stock, piece, now);
+                self.moment = now;
                 !connection.is_closed()
             }
             None => false,
@@ -102,4 +114,13 @@ impl<S: BuildHasher + Drop> Service<S> {
             self.stock.counters.add(Tally::BytesWritten, into.len() as u64);
         }
     }
+}
+
+/// The later of two moments, or the first if the second is too late.
+fn later(last: u64, moment: u64) -> u64
+    requires { last < 2 ^ 44 }
+    ensures later { last ≤ result }
+    ensures early { result < 2 ^ 44 }
+{
+    if last < moment && moment < MOMENTS { moment } else { last }
 }

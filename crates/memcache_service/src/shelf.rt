@@ -1,142 +1,75 @@
-//! The items, in a lent cache.
-ghost use Rattle.std.specs.Prelude.{◌<◌, ◌^◌};
+//! Items by key, in a cache.
+ghost use Rattle.std.specs.Prelude.{◌≡◌, ◌++◌, OnOk, OnErr, IfOk, Some, None, is_some, option_map};
+ghost use Rattle.memcache_model.specs.Items.{nothing, unexpired, with_item};
+ghost use Rattle.memcache_model.specs.Replies.{values_text};
+ghost use Rattle.memcache_service.specs.Shelves.{Becomes, IsMoment, Shelved};
 
-use crate::counters::{Counters, Tally};
-use crate::item::{ItemRules, StoredItem};
+use crate::counters::Counters;
+use crate::item::StoredItem;
 use audit_model::Key;
-use moka::{
-    At, CacheError, EvictionPolicy, Instant, LentState, RemovalCause, Settings, Shared, Single,
-};
-use std::alloc::{AllocError, Global};
-use std::hash::BuildHasher;
+use std::alloc::AllocError;
 
-/// Items by key in a cache of one segment. Moments are in milliseconds of Unix time.
-#[derive(Drop)]
-pub struct Shelf<S: BuildHasher + Drop> {
-    alloc: Global,
-    cache: LentState<Key, StoredItem, S, ItemRules, Single>,
-    // the key that a request names, which the calls are about: so look-ups take no memory
-    key: Key,
-}
+/// Items by key, in a cache: an item that was put may have gone, but no call makes any other appear.
+///
+/// Moments are milliseconds of Unix time below 2^44, and never fall from call to call. After an `Err` nothing has changed.
+pub trait Shelf: Drop {
+    ghost view: { Self → Shelved };
 
-/// A moment, as the cache has it.
-fn instant(moment: u64) -> Instant {
-    Instant::from_nanos(moment.saturating_mul(1_000_000).min(u64::MAX - 1))
-}
+    /// The live item of a key. It is no use of it.
+    fn peek(&self, key: &Key, moment: u64) -> Option<&StoredItem>
+        requires { IsMoment (view self.now) moment }
+        ensures { option_map (λ item. item.now) result
+            ≡ unexpired moment ((view self.now).items key.now) };
 
-impl<S: BuildHasher + Drop> Shelf<S> {
-    /// An empty one of at most this many bytes. If untrusted clients choose the keys, use a hasher that they cannot predict.
-    pub fn new(
-        alloc: Global,
-        capacity: u64,
-        policy: EvictionPolicy,
-        hasher: S,
-        moment: u64,
-    ) -> Result<Shelf<S>, AllocError> {
-        let settings = Settings {
-            capacity: Some(capacity),
-            live: None,
-            idle: None,
-            policy,
-            tells: true,
-            takes_predicates: false,
-            made: instant(moment).as_nanos(),
-        };
-        let key = Key::with_capacity(alloc, 250)?;
-        let cache = LentState::with_parts(alloc, None, 0, 0, settings, hasher, ItemRules)?;
-        Ok(Shelf { alloc, cache, key })
-    }
-
-    /// Makes the next calls be about a key.
-    pub fn name(&mut self, key: &[u8]) -> Result<(), AllocError> {
-        self.key.fill(key)
-    }
-
-    /// The key that the calls are about.
-    pub fn named(&self) -> &[u8] {
-        self.key.as_bytes()
-    }
-
-    /// The moment of a call, at the step of the last one.
-    fn at(&self, moment: u64) -> At {
-        let last = self.cache.last_call();
-        At {
-            now: instant(moment).max(last.now),
-            step: last.step,
-        }
-    }
-
-    /// The live item of the key, which is no use of it.
-    pub fn peek(&self, moment: u64) -> Option<&StoredItem> {
-        self.cache.peek(&self.key, self.at(moment).now)
-    }
-
-    /// Shows the live item of the key, which is a use of it.
-    pub fn look_up<O, T, E, F: FnOnce(Option<&StoredItem>, &mut O) -> Result<T, E> + Drop>(
+    /// Writes the live item of a key as a `get` tells it, and says whether there is one. This is a use of it.
+    fn tell(
         &mut self,
+        key: &Key,
+        uniques: bool,
         moment: u64,
-        output: &mut O,
-        see: F,
-    ) -> Result<T, E>
-        requires { F.IsAlwaysCallable see }
-    {
-        let now = self.at(moment).now;
-        self.cache.look_up(&self.key, now, output, see)
-    }
+        output: &mut Vec<u8>,
+    ) -> Result<bool, AllocError>
+        requires { IsMoment (view self.old) moment }
+        ensures found { IfOk result (λ found. found
+            ≡ is_some (unexpired moment ((view self.old).items key.now))) }
+        ensures told { OnOk result (output.new.items ≡ output.old.items ++ values_text uniques
+            key.now (unexpired moment ((view self.old).items key.now))) }
+        ensures used { OnOk result (Becomes moment (view self.old).items (view self.new)) }
+        ensures unchanged { OnErr result (self.new ≡ self.old) }
+        ensures untold { OnErr result (output.new.items ≡ output.old.items) };
 
-    /// Counts as a use of the key's live item.
-    pub fn use_it(&mut self, moment: u64) {
-        let mut nothing = ();
-        let _ = self.look_up(moment, &mut nothing, |_, _| -> Result<(), AllocError> { Ok(()) });
-    }
+    /// Uses the live item of a key.
+    fn note_use(&mut self, key: &Key, moment: u64)
+        requires { IsMoment (view self.old) moment }
+        ensures { Becomes moment (view self.old).items (view self.new) };
 
-    /// Gives the key an item.
-    pub fn put(&mut self, item: StoredItem, moment: u64) -> Result<(), CacheError> {
-        let hash = self.cache.hash(&self.key);
-        let at = self.at(moment);
-        let kept = match self.cache.held_key(&self.key, hash)? {
-            Some(held) => held,
-            None => Shared::new(self.alloc, self.key.clone()?)?,
-        };
-        self.cache.insert_with_hash(kept, hash, item, at)
-    }
+    /// Gives a key an item.
+    fn put(&mut self, key: &Key, item: StoredItem, moment: u64) -> Result<(), AllocError>
+        requires { IsMoment (view self.old) moment }
+        ensures puts { OnOk result (Becomes moment
+            (with_item key.now (Some item) (view self.old).items) (view self.new)) }
+        ensures unchanged { OnErr result (self.new ≡ self.old) };
 
-    /// Takes the key's item away.
-    pub fn remove(&mut self, moment: u64) -> Result<(), CacheError> {
-        let at = self.at(moment);
-        self.cache.invalidate(&self.key, at)
-    }
+    /// Takes the item of a key away.
+    fn remove(&mut self, key: &Key, moment: u64) -> Result<(), AllocError>
+        requires { IsMoment (view self.old) moment }
+        ensures removes { OnOk result
+            (Becomes moment (with_item key.now None (view self.old).items) (view self.new)) }
+        ensures unchanged { OnErr result (self.new ≡ self.old) };
 
-    /// Takes all items away, and says whether it could: it can 2^64 - 1 times.
-    pub fn clear(&mut self, moment: u64) -> bool {
-        let At { now, step } = self.at(moment);
-        match step.checked_add(1) {
-            Some(step) => {
-                self.cache.invalidate_all(At { now, step });
-                true
-            }
-            None => false,
-        }
-    }
+    /// Takes all items away. It allocates nothing, and is refused after 2^64 - 1 times.
+    fn clear(&mut self, moment: u64) -> Result<(), AllocError>
+        requires { IsMoment (view self.old) moment }
+        ensures clears { OnOk result (Becomes moment nothing (view self.new)) }
+        ensures unchanged { OnErr result (self.new ≡ self.old) };
 
-    /// Counts what left, and lets it go.
-    pub fn count_removals(&mut self, counters: &mut Counters) {
-        while let Some(notice) = self.cache.next_notice() {
-            match notice.cause {
-                RemovalCause::Size => counters.up(Tally::Evictions),
-                RemovalCause::Expired => counters.up(Tally::Expired),
-                _ => {}
-            }
-        }
-    }
+    /// Counts the items that left by themselves since the last time.
+    fn count_removals(&mut self, counters: &mut Counters)
+        ensures { view self.new ≡ view self.old };
 
-    /// How many items the cache holds, as far as maintenance has come.
-    pub fn item_count(&self) -> u64 {
-        self.cache.entry_count()
-    }
+    /// How many items there are, as far as maintenance has come.
+    fn item_count(&self) -> u64;
 
     /// What they weigh.
-    pub fn weight(&self) -> u64 {
-        self.cache.weighted_size()
-    }
+    fn weight(&self) -> u64;
 }

@@ -1,4 +1,5 @@
 //! Plays requests to a service, cut in pieces.
+use memcache_cache::LentShelf;
 use memcache_service::{Conn, Service, Setup};
 use moka::{EvictionPolicy, StdHasher};
 use std::alloc::{AllocError, Global};
@@ -6,22 +7,25 @@ use std::alloc::{AllocError, Global};
 /// At so many milliseconds, a connection sends this and is told that.
 pub type Row = (u64, &'static [u8], &'static [u8]);
 
+/// A service over a lent cache.
+type Served = Service<LentShelf<StdHasher>>;
+
 /// The moment of the first row: Unix time in milliseconds.
 pub const START: u64 = 1_700_000_000_000;
 
 /// A service of 64 MiB whose data blocks have at most 1 MiB.
-pub fn service(alloc: Global) -> Result<Service<StdHasher>, AllocError> {
+pub fn service(alloc: Global) -> Result<Served, AllocError> {
     let setup = Setup {
         capacity: 1 << 26,
         item_size: 1 << 20,
-        policy: EvictionPolicy::Lru,
     };
-    Service::new(alloc, setup, StdHasher::new(), START)
+    let shelf = LentShelf::new(alloc, setup.capacity, EvictionPolicy::Lru, StdHasher::new(), START)?;
+    Service::new(alloc, shelf, setup, START)
 }
 
 /// Feeds a connection bytes in pieces of at most this many, and moves what it is told behind what is there.
 fn feed(
-    service: &mut Service<StdHasher>,
+    service: &mut Served,
     conn: Conn,
     bytes: &[u8],
     cut: usize,

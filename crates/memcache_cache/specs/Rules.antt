@@ -2,7 +2,7 @@
 use Rattle.std.specs.Prelude.{ℕ, ◌+◌, ◌-◌, ◌*◌, ◌^◌, min, false, List, length, Option, Some, None, option_map}
 use Rattle.engine_reference.specs.State.{Answers}
 use Rattle.memcache_model.specs.Items.{Item}
-use Rattle.memcache_service.specs.declared.item.ItemRules.{ItemRules}
+use Rattle.memcache_cache.specs.declared.rules.ItemRules.{ItemRules}
 
 -- how many nanoseconds are left until a moment of milliseconds
 abbrev pub left_until : (now : ℕ) → (milliseconds : ℕ) → ℕ

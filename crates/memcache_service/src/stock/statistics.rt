@@ -1,31 +1,32 @@
 //! `stats`.
+ghost use Rattle.std.specs.Prelude.{◌≡◌};
+ghost use Rattle.memcache_service.specs.Shelves.{IsMoment};
+ghost use Rattle.memcache_service.specs.Stocks.{Keeps};
+
 use super::Stock;
 use crate::counters::Counters;
-use crate::replies::{say, say_figure, write};
+use crate::replies::{Reply, say, say_figure};
+use crate::shelf::Shelf;
 use memcache_lines::next_token;
 use std::alloc::AllocError;
-use std::hash::BuildHasher;
 
-/// There is no memory for statistics.
-const NO_ROOM: &[u8] = b"SERVER_ERROR out of memory writing stats\r\n";
-
-impl<S: BuildHasher + Drop> Stock<S> {
+impl<T: Shelf> Stock<T> {
     /// Tells statistics, or resets them.
-    pub fn stats(&mut self, words: &[u8], moment: u64, output: &mut Vec<u8>) {
-        let word = match next_token(words) {
-            Some((word, _)) => word,
-            None => b"general".as_slice(),
-        };
+    pub fn stats(&mut self, words: &[u8], moment: u64, output: &mut Vec<u8>) -> Reply
+        requires { IsMoment (T.view self.old.shelf) moment }
+        ensures { IsMoment (T.view self.new.shelf) moment }
+    {
+        let word = first_word(words);
         if word == b"reset".as_slice() {
             self.counters = Counters::new();
-            return write(output, b"RESET\r\n");
+            return Reply::Reset;
         }
         let start = output.len();
         match self.say_statistics(word, moment, output) {
-            Ok(()) => {}
+            Ok(()) => Reply::Written,
             Err(AllocError) => {
                 output.truncate(start);
-                write(output, NO_ROOM);
+                Reply::NoStatistics
             }
         }
     }
@@ -37,7 +38,7 @@ impl<S: BuildHasher + Drop> Stock<S> {
         moment: u64,
         output: &mut Vec<u8>,
     ) -> Result<(), AllocError> {
-        if word == b"general".as_slice() {
+        if word == b"".as_slice() {
             self.say_general(moment, output)?;
         } else if word == b"settings".as_slice() {
             self.say_settings(output)?;
@@ -55,11 +56,16 @@ impl<S: BuildHasher + Drop> Stock<S> {
         say(output, b"STAT version 1.6.18\r\n")?;
         say_figure(output, b"pointer_size", 64)?;
         say_figure(output, b"threads", 1)?;
+        self.say_sizes(output)?;
+        self.counters.say_all(output)
+    }
+
+    /// Writes how much there is.
+    fn say_sizes(&self, output: &mut Vec<u8>) -> Result<(), AllocError> {
         say_figure(output, b"curr_connections", self.connections)?;
         say_figure(output, b"limit_maxbytes", self.capacity)?;
         say_figure(output, b"curr_items", self.shelf.item_count())?;
-        say_figure(output, b"bytes", self.shelf.weight())?;
-        self.counters.say_all(output)
+        say_figure(output, b"bytes", self.shelf.weight())
     }
 
     /// Writes settings.
@@ -68,5 +74,13 @@ impl<S: BuildHasher + Drop> Stock<S> {
         say_figure(output, b"item_size_max", u64::from(self.most))?;
         say_figure(output, b"num_threads", 1)?;
         say(output, b"STAT evictions on\r\n")
+    }
+}
+
+/// The first word, or an empty one.
+fn first_word(words: &[u8]) -> &[u8] {
+    match next_token(words) {
+        Some((word, _)) => word,
+        None => b"".as_slice(),
     }
 }

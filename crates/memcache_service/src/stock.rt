@@ -1,0 +1,123 @@
+//! What requests do.
+ghost use Rattle.std.specs.Prelude.{◌≡◌, ◌≤◌, ◌+◌, ◌++◌, OnOk, OnErr, vec_len, vec_capacity};
+ghost use Rattle.memcache_service.specs.Shelves.{IsMoment};
+ghost use Rattle.memcache_service.specs.Stocks.{Keeps};
+
+use crate::counters::{Counters, Tally};
+use crate::replies::{Reply, SHORT};
+use crate::shelf::Shelf;
+use audit_model::Key;
+use memcache_lines::{Command, Request};
+use std::alloc::{AllocError, Global};
+
+mod flags;
+mod keys;
+mod meta;
+mod reading;
+mod statistics;
+mod storing;
+mod telling;
+
+/// Items, the uniques that were given, when all items are to go, and what was counted. Moments are milliseconds of Unix time.
+#[derive(Drop)]
+pub struct Stock<T: Shelf> {
+    pub alloc: Global,
+    pub shelf: T,
+    /// The key that a request names, so that look-ups take no memory.
+    pub key: Key,
+    /// How many uniques were given.
+    pub uniques: u64,
+    /// The moment at which all items are to go, if there is one.
+    pub flush: Option<u64>,
+    pub counters: Counters,
+    /// How many bytes a data block may have.
+    pub most: u32,
+    /// How many bytes all items may have.
+    pub capacity: u64,
+    /// When it was made.
+    pub made: u64,
+    /// How many connections are open.
+    pub connections: u64,
+}
+
+impl<T: Shelf> Stock<T> {
+    /// Serves a request at a moment, and writes its reply. If there is no memory for the reply, nothing has happened, and the connection is
+    /// to end.
+    pub fn serve(
+        &mut self,
+        request: &Request<'_>,
+        moment: u64,
+        output: &mut Vec<u8>,
+    ) -> Result<(), AllocError>
+        requires { IsMoment (T.view self.old.shelf) moment }
+        ensures { IsMoment (T.view self.new.shelf) moment }
+    {
+        output.reserve(SHORT)?;
+        self.flush_if_due(moment)?;
+        let start = output.len();
+        let reply = self.answer(&request.command, moment, output);
+        if request.quiet {
+            output.truncate(start);
+        } else {
+            reply.write(output);
+        }
+        self.shelf.count_removals(&mut self.counters);
+        Ok(())
+    }
+
+    /// Takes all items away, if the moment for it has come.
+    fn flush_if_due(&mut self, moment: u64) -> Result<(), AllocError>
+        requires { IsMoment (T.view self.old.shelf) moment }
+    {
+        if let Some(at) = self.flush {
+            if at <= moment {
+                self.shelf.clear(moment)?;
+                self.flush = None;
+            }
+        }
+        Ok(())
+    }
+
+    /// Does what a command asks for. It writes the reply, or returns it if it is one of a line, for which there is room.
+    fn answer(&mut self, command: &Command<'_>, moment: u64, output: &mut Vec<u8>) -> Reply
+        requires { IsMoment (T.view self.old.shelf) moment }
+        ensures { IsMoment (T.view self.new.shelf) moment }
+    {
+        match *command {
+            Command::Get { uniques, keys } => self.get(uniques, keys, moment, output),
+            Command::Gat { uniques, exptime, keys } => {
+                self.gat(uniques, exptime, keys, moment, output)
+            }
+            Command::Stats { words } => self.stats(words, moment, output),
+            Command::Meta { kind, key, flags } => self.meta(kind, key, flags, moment, output),
+            Command::MetaSet { key, flags, block } => {
+                self.meta_set(key, flags, block, moment, output)
+            }
+            _ => self.answer_shortly(command, moment).unwrap_or(Reply::NoMemory),
+        }
+    }
+
+    /// Does what a command asks for whose reply is one of a line.
+    fn answer_shortly(&mut self, command: &Command<'_>, moment: u64) -> Result<Reply, AllocError>
+        requires { IsMoment (T.view self.old.shelf) moment }
+        ensures { IsMoment (T.view self.new.shelf) moment }
+    {
+        match *command {
+            Command::Store { storage, key, flags, exptime, block } => {
+                self.store(storage, key, flags, exptime, block, moment)
+            }
+            Command::Oversize { storage, key } => self.pass_over(storage, key, moment),
+            Command::Delete { key } => self.delete(key, moment),
+            Command::Arithmetic { direction, key, delta } => {
+                self.count(direction, key, delta, moment)
+            }
+            Command::Touch { key, exptime } => self.touch(key, exptime, moment),
+            Command::FlushAll { exptime } => self.flush_all(exptime, moment),
+            Command::Version => Ok(Reply::Version),
+            Command::Verbosity => Ok(Reply::Done),
+            Command::MetaNoOp => Ok(Reply::NoOp),
+            Command::Malformed(error) => Ok(Reply::Fault(error)),
+            _ => Ok(Reply::Written),
+        }
+    }
+}
