@@ -1,5 +1,5 @@
 -- The texts of replies of one line.
-use Rattle.std.specs.Prelude.{ℕ, Bool, List, [], ◌++◌, length, codes}
+use Rattle.std.specs.Prelude.{ℕ, Bool, List, [], ◌++◌, drop, length, codes}
 use Rattle.std.specs.Fmt.{decimal}
 use Rattle.memcache_model.specs.Items.{Item}
 use Rattle.memcache_model.specs.Replies.{error_text, unique_text}
@@ -25,6 +25,11 @@ reply_text (Fault error) = error_text error
 reply_text NoMemory = codes "SERVER_ERROR out of memory storing object\r\n"
 reply_text NoRoom = codes "SERVER_ERROR out of memory writing get response\r\n"
 reply_text NoStatistics = codes "SERVER_ERROR out of memory writing stats\r\n"
+
+-- the reply: what was written from a place on, or a line
+abbrev pub said_from : (start : ℕ) → List ℕ → Reply → List ℕ
+said_from start items Written = drop start items
+said_from start items reply = reply_text reply
 
 -- what stands before an item's bytes
 abbrev pub head_text : Bool → List ℕ → Item → List ℕ

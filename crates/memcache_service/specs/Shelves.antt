@@ -7,6 +7,10 @@ pub record Shelved : Type 0 where
   pub items : Items
   pub latest : ℕ
 
+-- what is live of it at a moment
+abbrev pub live_on : Shelved → (moment : ℕ) → Items
+live_on shelved moment = λ key. unexpired moment (shelved.items key)
+
 -- a call may come at this moment
 pub record IsMoment (shelved : Shelved) (moment : ℕ) : Type 0 where
   pub later : shelved.latest ≤ moment

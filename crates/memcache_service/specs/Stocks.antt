@@ -1,21 +1,36 @@
 -- What a stock stands for, and what a command does to it.
-use Rattle.std.specs.Prelude.{◌≡◌, ℕ, ◌⊎◌, List, None}
+use Rattle.std.specs.Prelude.{◌≡◌, ℕ, ◌⊎◌, Bool, true, false, List, Option, Some, None, codes}
+use Rattle.memcache_model.specs.Commands.{Command, get, gat, stats, meta, meta_set}
 use Rattle.memcache_model.specs.Items as model
-use Rattle.memcache_model.specs.Items.{Item, unexpired}
-use Rattle.memcache_model.specs.Outcomes.{Outcome, new_item}
-use Rattle.memcache_service.specs.Shelves.{IsMoment, Shelved}
+use Rattle.memcache_model.specs.Items.{Item}
+use Rattle.memcache_model.specs.Outcomes.{Outcome, new_item, says, stores}
+use Rattle.memcache_service.specs.Shelves.{IsMoment, Shelved, live_on}
 use Rattle.memcache_service.specs.declared.stock.Stock.{Stock}
 use Rattle.memcache_service.specs.declared.stock.storing.Block.{Block}
+
+-- the reply of a command is one line, and it has no flags
+abbrev pub is_short : Command → Bool
+is_short (get uniques keys) = false
+is_short (gat uniques exptime keys) = false
+is_short (stats words) = false
+is_short (meta kind key flags) = false
+is_short (meta_set key flags block) = false
+is_short command = true
 
 -- the item of a block
 abbrev pub block_item : Block → Item
 block_item block = new_item block.bytes.now block.flags block.deadline
 
+-- an item with more bytes is stored, if it may have them
+abbrev pub joins : List ℕ → Option Item → model.Stock → Outcome
+joins key None stock = says (codes "NOT_STORED\r\n") stock
+joins key (Some item) stock = stores (codes "STORED\r\n") key item stock
+
 module _ {T : Type 0} (view : T → Shelved) where
   -- what it stands for at a moment, if no flush is due
   abbrev pub stock_at : ℕ → Stock T → model.Stock
   stock_at moment stock = record {
-    items = λ key. unexpired moment ((view stock.shelf).items key);
+    items = live_on (view stock.shelf) moment;
     uniques = stock.uniques;
     flush = stock.flush;
   }

@@ -1,5 +1,5 @@
 //! What was counted, by memcached's names.
-ghost use Rattle.std.specs.Prelude.{◌≡◌, ◌<◌};
+ghost use Rattle.std.specs.Prelude.{◌≤◌, vec_capacity};
 
 use crate::replies::{say, say_figure};
 use std::alloc::AllocError;
@@ -93,7 +93,9 @@ impl Counters {
     }
 
     /// Writes each count in a line.
-    pub fn say_all(&self, output: &mut Vec<u8>) -> Result<(), AllocError> {
+    pub fn say_all(&self, output: &mut Vec<u8>) -> Result<(), AllocError>
+        ensures { vec_capacity output.old ≤ vec_capacity output.new }
+    {
         for place in 0..TALLIES {
             say_figure(output, NAMES[place], self.counts[place])?;
         }

@@ -134,7 +134,9 @@ pub fn say_number(output: &mut Vec<u8>, number: u64) -> Result<(), AllocError>
 }
 
 /// Writes a statistic's line.
-pub fn say_figure(output: &mut Vec<u8>, name: &[u8], number: u64) -> Result<(), AllocError> {
+pub fn say_figure(output: &mut Vec<u8>, name: &[u8], number: u64) -> Result<(), AllocError>
+        ensures { vec_capacity output.old ≤ vec_capacity output.new }
+    {
     say(output, b"STAT ")?;
     say(output, name)?;
     say(output, b" ")?;
@@ -152,6 +154,7 @@ pub fn say_value(
     ensures ok { OnOk result
         (output.new.items ≡ output.old.items ++ value_text uniques key.now item.now) }
     ensures err { OnErr result (output.new.items ≡ output.old.items) }
+    ensures capacity { vec_capacity output.old ≤ vec_capacity output.new }
 {
     let needed = key.len().saturating_add(item.bytes.len()).saturating_add(SHORT);
     output.reserve(needed)?;

@@ -1,8 +1,7 @@
 //! Items by key, in a cache.
-ghost use Rattle.std.specs.Prelude.{◌≡◌, ◌++◌, OnOk, OnErr, IfOk, Some, None, is_some, option_map};
-ghost use Rattle.memcache_model.specs.Items.{nothing, unexpired, with_item};
-ghost use Rattle.memcache_model.specs.Replies.{values_text};
-ghost use Rattle.memcache_service.specs.Shelves.{Becomes, IsMoment, Shelved};
+ghost use Rattle.std.specs.Prelude.{◌≡◌, OnOk, OnErr, Some, None, is_some, option_map};
+ghost use Rattle.memcache_model.specs.Items.{nothing, with_item};
+ghost use Rattle.memcache_service.specs.Shelves.{Becomes, IsMoment, Shelved, live_on};
 
 use crate::counters::Counters;
 use crate::item::StoredItem;
@@ -19,29 +18,13 @@ pub trait Shelf: Drop {
     fn peek(&self, key: &Key, moment: u64) -> Option<&StoredItem>
         requires { IsMoment (view self.now) moment }
         ensures { option_map (λ item. item.now) result
-            ≡ unexpired moment ((view self.now).items key.now) };
+            ≡ live_on (view self.now) moment key.now };
 
-    /// Writes the live item of a key as a `get` tells it, and says whether there is one. This is a use of it.
-    fn tell(
-        &mut self,
-        key: &Key,
-        uniques: bool,
-        moment: u64,
-        output: &mut Vec<u8>,
-    ) -> Result<bool, AllocError>
+    /// Uses the live item of a key, and says whether there is one.
+    fn note_use(&mut self, key: &Key, moment: u64) -> bool
         requires { IsMoment (view self.old) moment }
-        ensures found { IfOk result (λ found. found
-            ≡ is_some (unexpired moment ((view self.old).items key.now))) }
-        ensures told { OnOk result (output.new.items ≡ output.old.items ++ values_text uniques
-            key.now (unexpired moment ((view self.old).items key.now))) }
-        ensures used { OnOk result (Becomes moment (view self.old).items (view self.new)) }
-        ensures unchanged { OnErr result (self.new ≡ self.old) }
-        ensures untold { OnErr result (output.new.items ≡ output.old.items) };
-
-    /// Uses the live item of a key.
-    fn note_use(&mut self, key: &Key, moment: u64)
-        requires { IsMoment (view self.old) moment }
-        ensures { Becomes moment (view self.old).items (view self.new) };
+        ensures found { result ≡ is_some (live_on (view self.old) moment key.now) }
+        ensures used { Becomes moment (view self.old).items (view self.new) };
 
     /// Gives a key an item.
     fn put(&mut self, key: &Key, item: StoredItem, moment: u64) -> Result<(), AllocError>

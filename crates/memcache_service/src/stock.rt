@@ -1,7 +1,10 @@
 //! What requests do.
-ghost use Rattle.std.specs.Prelude.{◌≡◌, ◌≤◌, ◌+◌, ◌++◌, OnOk, OnErr, vec_len, vec_capacity};
+ghost use Rattle.std.specs.Prelude.{◌≡◌, ◌≤◌, ◌+◌, ◌++◌, [], true, take, IfOk, OnErr, vec_capacity, if◌then◌else◌};
+ghost use Rattle.memcache_lines.specs.Said.{asks};
+ghost use Rattle.memcache_model.specs.Answers.{Service, answer};
+ghost use Rattle.memcache_service.specs.Lines.{reply_text, said_from};
 ghost use Rattle.memcache_service.specs.Shelves.{IsMoment};
-ghost use Rattle.memcache_service.specs.Stocks.{Keeps};
+ghost use Rattle.memcache_service.specs.Stocks.{Does, Keeps, is_short, stock_at};
 
 use crate::counters::{Counters, Tally};
 use crate::replies::{Reply, SHORT};
@@ -56,18 +59,15 @@ impl<T: Shelf> Stock<T> {
         self.flush_if_due(moment)?;
         let start = output.len();
         let reply = self.answer(&request.command, moment, output);
-        if request.quiet {
-            output.truncate(start);
-        } else {
-            reply.write(output);
-        }
         self.shelf.count_removals(&mut self.counters);
+        end_reply(request.quiet, start, reply, output);
         Ok(())
     }
 
     /// Takes all items away, if the moment for it has come.
     fn flush_if_due(&mut self, moment: u64) -> Result<(), AllocError>
         requires { IsMoment (T.view self.old.shelf) moment }
+        ensures may_follow { IsMoment (T.view self.new.shelf) moment }
     {
         if let Some(at) = self.flush {
             if at <= moment {
@@ -78,29 +78,42 @@ impl<T: Shelf> Stock<T> {
         Ok(())
     }
 
-    /// Does what a command asks for. It writes the reply, or returns it if it is one of a line, for which there is room.
+    /// Does what a command asks for. It writes the reply, or returns it if it is one of a line.
     fn answer(&mut self, command: &Command<'_>, moment: u64, output: &mut Vec<u8>) -> Reply
         requires { IsMoment (T.view self.old.shelf) moment }
-        ensures { IsMoment (T.view self.new.shelf) moment }
+        ensures may_follow { IsMoment (T.view self.new.shelf) moment }
+        ensures capacity { vec_capacity output.old ≤ vec_capacity output.new }
     {
         match *command {
-            Command::Get { uniques, keys } => self.get(uniques, keys, moment, output),
-            Command::Gat { uniques, exptime, keys } => {
-                self.gat(uniques, exptime, keys, moment, output)
+            Command::Get { uniques, keys } => {
+                self.get(uniques, keys, moment, output).unwrap_or(Reply::NoRoom)
             }
-            Command::Stats { words } => self.stats(words, moment, output),
-            Command::Meta { kind, key, flags } => self.meta(kind, key, flags, moment, output),
+            Command::Gat { uniques, exptime, keys } => {
+                self.gat(uniques, exptime, keys, moment, output).unwrap_or(Reply::NoRoom)
+            }
+            Command::Stats { words } => {
+                self.stats(words, moment, output).unwrap_or(Reply::NoStatistics)
+            }
+            Command::Meta { kind, key, flags } => {
+                self.meta(kind, key, flags, moment, output).unwrap_or(Reply::NoMemory)
+            }
             Command::MetaSet { key, flags, block } => {
-                self.meta_set(key, flags, block, moment, output)
+                self.meta_set(key, flags, block, moment, output).unwrap_or(Reply::NoMemory)
             }
             _ => self.answer_shortly(command, moment).unwrap_or(Reply::NoMemory),
         }
     }
 
     /// Does what a command asks for whose reply is one of a line.
+    #[tactic(auto, using(crate::proofs::Keeping::may_follow))]
     fn answer_shortly(&mut self, command: &Command<'_>, moment: u64) -> Result<Reply, AllocError>
         requires { IsMoment (T.view self.old.shelf) moment }
-        ensures { IsMoment (T.view self.new.shelf) moment }
+        ensures ok { IfOk result (λ reply. (service : Service) → service.most ≡ self.old.most
+            → is_short (asks command.now) ≡ true → Does T.view moment (answer service moment
+            (asks command.now) (stock_at T.view moment self.old)) self.old self.new
+            (reply_text reply)) }
+        ensures err { OnErr result (Keeps T.view moment self.old self.new) }
+        ensures may_follow { IsMoment (T.view self.new.shelf) moment }
     {
         match *command {
             Command::Store { storage, key, flags, exptime, block } => {
@@ -119,5 +132,20 @@ impl<T: Shelf> Stock<T> {
             Command::Malformed(error) => Ok(Reply::Fault(error)),
             _ => Ok(Reply::Written),
         }
+    }
+}
+
+/// Ends a reply that begins at `start`: writes one of a line, in room that was reserved, in place of what was written; and leaves all of it
+/// out, if the request is quiet.
+fn end_reply(is_quiet: bool, start: usize, reply: Reply, output: &mut Vec<u8>)
+    requires { start + SHORT ≤ vec_capacity output.old }
+    ensures { output.new.items ≡ take start output.old.items
+        ++ (if is_quiet then [] else said_from start output.old.items reply) }
+{
+    if is_quiet {
+        output.truncate(start);
+    } else if reply != Reply::Written {
+        output.truncate(start);
+        reply.write(output);
     }
 }

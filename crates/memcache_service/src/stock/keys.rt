@@ -79,11 +79,7 @@ impl<T: Shelf> Stock<T> {
     {
         self.key.fill(key)?;
         let deadline = deadline_of(moment, exptime);
-        if self.retime(deadline, moment)? {
-            Ok(Reply::Touched)
-        } else {
-            Ok(Reply::NotFound)
-        }
+        self.retime(deadline, moment)
     }
 
     /// Takes all items away, now or at a moment to come.

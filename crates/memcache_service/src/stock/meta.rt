@@ -1,5 +1,5 @@
 //! The meta commands.
-ghost use Rattle.std.specs.Prelude.{◌≡◌, ◌<◌, ◌^◌};
+ghost use Rattle.std.specs.Prelude.{◌≤◌, ◌<◌, ◌^◌, vec_capacity};
 ghost use Rattle.memcache_service.specs.Shelves.{IsMoment};
 
 use super::Stock;
@@ -43,23 +43,16 @@ impl<T: Shelf> Stock<T> {
         flags: &[u8],
         moment: u64,
         output: &mut Vec<u8>,
-    ) -> Reply
+    ) -> Result<Reply, AllocError>
         requires { IsMoment (T.view self.old.shelf) moment }
-        ensures { IsMoment (T.view self.new.shelf) moment }
+        ensures may_follow { IsMoment (T.view self.new.shelf) moment }
+        ensures capacity { vec_capacity output.old ≤ vec_capacity output.new }
     {
-        let start = output.len();
         let asked = Asked { key, flags, moment };
-        let done = match kind {
+        match kind {
             Meta::Get => self.meta_get(asked, output),
             Meta::Delete => self.meta_delete(asked, output),
             Meta::Arithmetic => self.meta_arithmetic(asked, output),
-        };
-        match done {
-            Ok(reply) => reply,
-            Err(AllocError) => {
-                output.truncate(start);
-                Reply::NoMemory
-            }
         }
     }
 
@@ -71,25 +64,20 @@ impl<T: Shelf> Stock<T> {
         block: &[u8],
         moment: u64,
         output: &mut Vec<u8>,
-    ) -> Reply
+    ) -> Result<Reply, AllocError>
         requires { IsMoment (T.view self.old.shelf) moment }
-        ensures { IsMoment (T.view self.new.shelf) moment }
+        ensures may_follow { IsMoment (T.view self.new.shelf) moment }
+        ensures capacity { vec_capacity output.old ≤ vec_capacity output.new }
     {
-        let start = output.len();
         let asked = Asked { key, flags, moment };
-        match self.meta_put(asked, block, output) {
-            Ok(reply) => reply,
-            Err(AllocError) => {
-                output.truncate(start);
-                Reply::NoMemory
-            }
-        }
+        self.meta_put(asked, block, output)
     }
 
     /// `mg`.
     fn meta_get(&mut self, asked: Asked<'_>, output: &mut Vec<u8>) -> Result<Reply, AllocError>
         requires { IsMoment (T.view self.old.shelf) asked.moment }
-        ensures { IsMoment (T.view self.new.shelf) asked.entry.moment }
+        ensures may_follow { IsMoment (T.view self.new.shelf) asked.entry.moment }
+        ensures capacity { vec_capacity output.old ≤ vec_capacity output.new }
     {
         if let Some(error) = GET.fault(asked.flags) {
             return Ok(Reply::Fault(error));
@@ -103,7 +91,9 @@ impl<T: Shelf> Stock<T> {
         self.counters.up(Tally::GetHits);
         match say_found(asked, item, output)? {
             Some(changed) => self.shelf.put(&self.key, changed, asked.moment)?,
-            None => self.shelf.note_use(&self.key, asked.moment),
+            None => {
+                self.shelf.note_use(&self.key, asked.moment);
+            }
         }
         Ok(Reply::Written)
     }
@@ -115,7 +105,8 @@ impl<T: Shelf> Stock<T> {
         output: &mut Vec<u8>,
     ) -> Result<Reply, AllocError>
         requires { IsMoment (T.view self.old.shelf) asked.moment }
-        ensures { IsMoment (T.view self.new.shelf) asked.entry.moment }
+        ensures may_follow { IsMoment (T.view self.new.shelf) asked.entry.moment }
+        ensures capacity { vec_capacity output.old ≤ vec_capacity output.new }
     {
         let Some(exptime) = exptime_of(b'N', asked.flags) else {
             if !has_flag(b'q', asked.flags) {
@@ -145,7 +136,8 @@ impl<T: Shelf> Stock<T> {
         output: &mut Vec<u8>,
     ) -> Result<Reply, AllocError>
         requires { IsMoment (T.view self.old.shelf) asked.moment }
-        ensures { IsMoment (T.view self.new.shelf) asked.entry.moment }
+        ensures may_follow { IsMoment (T.view self.new.shelf) asked.entry.moment }
+        ensures capacity { vec_capacity output.old ≤ vec_capacity output.new }
     {
         if let Some(error) = DELETE.fault(asked.flags) {
             return Ok(Reply::Fault(error));
@@ -178,7 +170,8 @@ impl<T: Shelf> Stock<T> {
         output: &mut Vec<u8>,
     ) -> Result<Reply, AllocError>
         requires { IsMoment (T.view self.old.shelf) asked.moment }
-        ensures { IsMoment (T.view self.new.shelf) asked.entry.moment }
+        ensures may_follow { IsMoment (T.view self.new.shelf) asked.entry.moment }
+        ensures capacity { vec_capacity output.old ≤ vec_capacity output.new }
     {
         if let Some(error) = ARITHMETIC.fault(asked.flags) {
             return Ok(Reply::Fault(error));
@@ -207,7 +200,8 @@ impl<T: Shelf> Stock<T> {
         output: &mut Vec<u8>,
     ) -> Result<Reply, AllocError>
         requires { IsMoment (T.view self.old.shelf) asked.moment }
-        ensures { IsMoment (T.view self.new.shelf) asked.entry.moment }
+        ensures may_follow { IsMoment (T.view self.new.shelf) asked.entry.moment }
+        ensures capacity { vec_capacity output.old ≤ vec_capacity output.new }
     {
         let Some(exptime) = exptime_of(b'N', asked.flags) else {
             return refuse(b"NF", asked, output);
@@ -227,7 +221,8 @@ impl<T: Shelf> Stock<T> {
         output: &mut Vec<u8>,
     ) -> Result<Reply, AllocError>
         requires { IsMoment (T.view self.old.shelf) asked.moment }
-        ensures { IsMoment (T.view self.new.shelf) asked.entry.moment }
+        ensures may_follow { IsMoment (T.view self.new.shelf) asked.entry.moment }
+        ensures capacity { vec_capacity output.old ≤ vec_capacity output.new }
     {
         if !has_flag(b'q', asked.flags) {
             let told = Told::new(asked.key, &item, self.next_unique(), asked.moment);
@@ -245,7 +240,8 @@ impl<T: Shelf> Stock<T> {
         output: &mut Vec<u8>,
     ) -> Result<Reply, AllocError>
         requires { IsMoment (T.view self.old.shelf) asked.moment }
-        ensures { IsMoment (T.view self.new.shelf) asked.entry.moment }
+        ensures may_follow { IsMoment (T.view self.new.shelf) asked.entry.moment }
+        ensures capacity { vec_capacity output.old ≤ vec_capacity output.new }
     {
         self.counters.up(Tally::CmdSet);
         if let Some(error) = set_fault(asked.flags) {
@@ -267,7 +263,8 @@ impl<T: Shelf> Stock<T> {
         output: &mut Vec<u8>,
     ) -> Result<Reply, AllocError>
         requires { IsMoment (T.view self.old.shelf) asked.moment }
-        ensures { IsMoment (T.view self.new.shelf) asked.entry.moment }
+        ensures may_follow { IsMoment (T.view self.new.shelf) asked.entry.moment }
+        ensures capacity { vec_capacity output.old ≤ vec_capacity output.new }
     {
         let Some(held) = self.shelf.peek(&self.key, asked.moment) else {
             return refuse(b"NF", asked, output);
@@ -293,7 +290,8 @@ impl<T: Shelf> Stock<T> {
         output: &mut Vec<u8>,
     ) -> Result<Reply, AllocError>
         requires { IsMoment (T.view self.old.shelf) asked.moment }
-        ensures { IsMoment (T.view self.new.shelf) asked.entry.moment }
+        ensures may_follow { IsMoment (T.view self.new.shelf) asked.entry.moment }
+        ensures capacity { vec_capacity output.old ≤ vec_capacity output.new }
     {
         let mode = mode_of(asked.flags);
         let old = self.shelf.peek(&self.key, asked.moment);
@@ -311,7 +309,8 @@ impl<T: Shelf> Stock<T> {
         output: &mut Vec<u8>,
     ) -> Result<Reply, AllocError>
         requires { IsMoment (T.view self.old.shelf) asked.moment }
-        ensures { IsMoment (T.view self.new.shelf) asked.entry.moment }
+        ensures may_follow { IsMoment (T.view self.new.shelf) asked.entry.moment }
+        ensures capacity { vec_capacity output.old ≤ vec_capacity output.new }
     {
         if !has_flag(b'q', asked.flags) {
             let told = Told::new(asked.key, &item, self.next_unique(), asked.moment);
@@ -327,7 +326,10 @@ fn say_found(
     asked: Asked<'_>,
     item: &StoredItem,
     output: &mut Vec<u8>,
-) -> Result<Option<StoredItem>, AllocError> {
+) -> Result<Option<StoredItem>, AllocError>
+    requires { asked.moment < 2 ^ 44 }
+    ensures { vec_capacity output.old ≤ vec_capacity output.new }
+{
     let deadline = retimed(asked, item.deadline);
     let wins = !item.leased && (item.stale || is_late(asked, deadline));
     let lease = Lease { held: item.leased, stale: item.stale, wins };
@@ -343,7 +345,9 @@ fn say_found(
 }
 
 /// Tells that nothing is done, by a code.
-fn refuse(code: &[u8], asked: Asked<'_>, output: &mut Vec<u8>) -> Result<Reply, AllocError> {
+fn refuse(code: &[u8], asked: Asked<'_>, output: &mut Vec<u8>) -> Result<Reply, AllocError>
+    ensures { vec_capacity output.old ≤ vec_capacity output.new }
+{
     say_alone(output, code, asked.key, asked.flags)?;
     Ok(Reply::Written)
 }

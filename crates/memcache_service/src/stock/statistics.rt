@@ -1,5 +1,5 @@
 //! `stats`.
-ghost use Rattle.std.specs.Prelude.{◌≡◌};
+ghost use Rattle.std.specs.Prelude.{◌≤◌, vec_capacity};
 ghost use Rattle.memcache_service.specs.Shelves.{IsMoment};
 ghost use Rattle.memcache_service.specs.Stocks.{Keeps};
 
@@ -12,23 +12,23 @@ use std::alloc::AllocError;
 
 impl<T: Shelf> Stock<T> {
     /// Tells statistics, or resets them.
-    pub fn stats(&mut self, words: &[u8], moment: u64, output: &mut Vec<u8>) -> Reply
+    pub fn stats(
+        &mut self,
+        words: &[u8],
+        moment: u64,
+        output: &mut Vec<u8>,
+    ) -> Result<Reply, AllocError>
         requires { IsMoment (T.view self.old.shelf) moment }
-        ensures { IsMoment (T.view self.new.shelf) moment }
+        ensures keeps { Keeps T.view moment self.old self.new }
+        ensures capacity { vec_capacity output.old ≤ vec_capacity output.new }
     {
         let word = first_word(words);
         if word == b"reset".as_slice() {
             self.counters = Counters::new();
-            return Reply::Reset;
+            return Ok(Reply::Reset);
         }
-        let start = output.len();
-        match self.say_statistics(word, moment, output) {
-            Ok(()) => Reply::Written,
-            Err(AllocError) => {
-                output.truncate(start);
-                Reply::NoStatistics
-            }
-        }
+        self.say_statistics(word, moment, output)?;
+        Ok(Reply::Written)
     }
 
     /// Writes the statistics that a word asks for.
@@ -37,7 +37,9 @@ impl<T: Shelf> Stock<T> {
         word: &[u8],
         moment: u64,
         output: &mut Vec<u8>,
-    ) -> Result<(), AllocError> {
+    ) -> Result<(), AllocError>
+        ensures { vec_capacity output.old ≤ vec_capacity output.new }
+    {
         if word == b"".as_slice() {
             self.say_general(moment, output)?;
         } else if word == b"settings".as_slice() {
@@ -49,7 +51,9 @@ impl<T: Shelf> Stock<T> {
     }
 
     /// Writes what `stats` tells without a word.
-    fn say_general(&self, moment: u64, output: &mut Vec<u8>) -> Result<(), AllocError> {
+    fn say_general(&self, moment: u64, output: &mut Vec<u8>) -> Result<(), AllocError>
+        ensures { vec_capacity output.old ≤ vec_capacity output.new }
+    {
         say_figure(output, b"pid", 1)?;
         say_figure(output, b"uptime", moment.saturating_sub(self.made) / 1000)?;
         say_figure(output, b"time", moment / 1000)?;
@@ -61,7 +65,9 @@ impl<T: Shelf> Stock<T> {
     }
 
     /// Writes how much there is.
-    fn say_sizes(&self, output: &mut Vec<u8>) -> Result<(), AllocError> {
+    fn say_sizes(&self, output: &mut Vec<u8>) -> Result<(), AllocError>
+        ensures { vec_capacity output.old ≤ vec_capacity output.new }
+    {
         say_figure(output, b"curr_connections", self.connections)?;
         say_figure(output, b"limit_maxbytes", self.capacity)?;
         say_figure(output, b"curr_items", self.shelf.item_count())?;
@@ -69,7 +75,9 @@ impl<T: Shelf> Stock<T> {
     }
 
     /// Writes settings.
-    fn say_settings(&self, output: &mut Vec<u8>) -> Result<(), AllocError> {
+    fn say_settings(&self, output: &mut Vec<u8>) -> Result<(), AllocError>
+        ensures { vec_capacity output.old ≤ vec_capacity output.new }
+    {
         say_figure(output, b"maxbytes", self.capacity)?;
         say_figure(output, b"item_size_max", u64::from(self.most))?;
         say_figure(output, b"num_threads", 1)?;

@@ -4,7 +4,7 @@ ghost use Rattle.memcache_model.specs.Answers.{passes_over, store_over};
 ghost use Rattle.memcache_model.specs.Outcomes.{new_item, stores};
 ghost use Rattle.memcache_model.specs.Items.{deadline_of};
 ghost use Rattle.memcache_service.specs.Shelves.{IsMoment};
-ghost use Rattle.memcache_service.specs.Stocks.{Does, Keeps, Leaves, stock_at, block_item};
+ghost use Rattle.memcache_service.specs.Stocks.{Does, Keeps, Leaves, block_item, joins, stock_at};
 ghost use Rattle.memcache_service.specs.Lines.{reply_text};
 
 use super::Stock;
@@ -81,8 +81,8 @@ impl<T: Shelf> Stock<T> {
                 Some(_) => self.put_block(block, moment),
                 None => Ok(Reply::NotStored),
             },
-            Storage::Append => self.append(block.bytes, moment),
-            Storage::Prepend => self.prepend(block.bytes, moment),
+            Storage::Append => self.append(block, moment),
+            Storage::Prepend => self.prepend(block, moment),
             Storage::Cas(unique) => self.compare(unique, block, moment),
         }
     }
@@ -117,26 +117,18 @@ impl<T: Shelf> Stock<T> {
         Ok(())
     }
 
-    /// Gives the key this item, if it is one.
-    fn put_joined(&mut self, item: Option<StoredItem>, moment: u64) -> Result<Reply, AllocError>
-        requires { IsMoment (T.view self.old.shelf) moment }
-    {
-        match item {
-            Some(item) => {
-                self.put(item, moment)?;
-                Ok(Reply::Stored)
-            }
-            None => Ok(Reply::NotStored),
-        }
-    }
-
     /// Puts bytes behind those of the live item.
-    fn append(&mut self, bytes: &[u8], moment: u64) -> Result<Reply, AllocError>
+    fn append(&mut self, block: Block<'_>, moment: u64) -> Result<Reply, AllocError>
         requires { IsMoment (T.view self.old.shelf) moment }
+        ensures ok { IfOk result (λ reply. Does T.view moment (store_over self.old.most
+            Storage.Append self.old.key (block_item block.entry)
+            ((stock_at T.view moment self.old).items self.old.key) (stock_at T.view moment self.old))
+            self.old self.new (reply_text reply)) }
+        ensures err { OnErr result (Keeps T.view moment self.old self.new) }
     {
         match self.shelf.peek(&self.key, moment) {
             Some(old) => {
-                let item = behind_within(self.alloc, self.most, old, bytes)?;
+                let item = behind_within(self.alloc, self.most, old, block.bytes)?;
                 self.put_joined(item, moment)
             }
             None => Ok(Reply::NotStored),
@@ -144,13 +136,34 @@ impl<T: Shelf> Stock<T> {
     }
 
     /// Puts bytes before those of the live item.
-    fn prepend(&mut self, bytes: &[u8], moment: u64) -> Result<Reply, AllocError>
+    fn prepend(&mut self, block: Block<'_>, moment: u64) -> Result<Reply, AllocError>
         requires { IsMoment (T.view self.old.shelf) moment }
+        ensures ok { IfOk result (λ reply. Does T.view moment (store_over self.old.most
+            Storage.Prepend self.old.key (block_item block.entry)
+            ((stock_at T.view moment self.old).items self.old.key) (stock_at T.view moment self.old))
+            self.old self.new (reply_text reply)) }
+        ensures err { OnErr result (Keeps T.view moment self.old self.new) }
     {
         match self.shelf.peek(&self.key, moment) {
             Some(old) => {
-                let item = before_within(self.alloc, self.most, old, bytes)?;
+                let item = before_within(self.alloc, self.most, old, block.bytes)?;
                 self.put_joined(item, moment)
+            }
+            None => Ok(Reply::NotStored),
+        }
+    }
+
+    /// Gives the key this item, if there is one.
+    fn put_joined(&mut self, item: Option<StoredItem>, moment: u64) -> Result<Reply, AllocError>
+        requires { IsMoment (T.view self.old.shelf) moment }
+        ensures ok { IfOk result (λ reply. Does T.view moment (joins self.old.key item
+            (stock_at T.view moment self.old)) self.old self.new (reply_text reply)) }
+        ensures err { OnErr result (Keeps T.view moment self.old self.new) }
+    {
+        match item {
+            Some(item) => {
+                self.put(item, moment)?;
+                Ok(Reply::Stored)
             }
             None => Ok(Reply::NotStored),
         }
@@ -164,6 +177,11 @@ impl<T: Shelf> Stock<T> {
         moment: u64,
     ) -> Result<Reply, AllocError>
         requires { IsMoment (T.view self.old.shelf) moment }
+        ensures ok { IfOk result (λ reply. Does T.view moment (store_over self.old.most
+            (Storage.Cas unique) self.old.key (block_item block.entry)
+            ((stock_at T.view moment self.old).items self.old.key) (stock_at T.view moment self.old))
+            self.old self.new (reply_text reply)) }
+        ensures err { OnErr result (Keeps T.view moment self.old self.new) }
     {
         let Some(item) = self.shelf.peek(&self.key, moment) else {
             self.counters.up(Tally::CasMisses);

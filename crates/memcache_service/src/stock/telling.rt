@@ -1,5 +1,5 @@
 //! What meta commands tell.
-ghost use Rattle.std.specs.Prelude.{◌≡◌, ◌++◌, OnOk, OnErr};
+ghost use Rattle.std.specs.Prelude.{◌≤◌, vec_capacity};
 
 use super::flags::{has_flag, letter_of};
 use crate::item::StoredItem;
@@ -45,7 +45,9 @@ impl<'a> Told<'a> {
         output: &mut Vec<u8>,
         flags: &[u8],
         lease: &Lease,
-    ) -> Result<(), AllocError> {
+    ) -> Result<(), AllocError>
+        ensures { vec_capacity output.old ≤ vec_capacity output.new }
+    {
         let shows = has_flag(b'v', flags);
         self.say_begin(output, shows)?;
         self.say_words(output, flags)?;
@@ -55,7 +57,9 @@ impl<'a> Told<'a> {
     }
 
     /// Writes how the reply of `mg` and `ma` begins.
-    fn say_begin(&self, output: &mut Vec<u8>, shows: bool) -> Result<(), AllocError> {
+    fn say_begin(&self, output: &mut Vec<u8>, shows: bool) -> Result<(), AllocError>
+        ensures { vec_capacity output.old ≤ vec_capacity output.new }
+    {
         if shows {
             say(output, b"VA ")?;
             say_number(output, self.bytes.len() as u64)
@@ -65,7 +69,9 @@ impl<'a> Told<'a> {
     }
 
     /// Writes the bytes, if they are shown.
-    fn say_bytes(&self, output: &mut Vec<u8>, shows: bool) -> Result<(), AllocError> {
+    fn say_bytes(&self, output: &mut Vec<u8>, shows: bool) -> Result<(), AllocError>
+        ensures { vec_capacity output.old ≤ vec_capacity output.new }
+    {
         if shows {
             say(output, self.bytes)?;
             say(output, b"\r\n")
@@ -75,14 +81,18 @@ impl<'a> Told<'a> {
     }
 
     /// Writes that the item is stored.
-    pub fn say_stored(&self, output: &mut Vec<u8>, flags: &[u8]) -> Result<(), AllocError> {
+    pub fn say_stored(&self, output: &mut Vec<u8>, flags: &[u8]) -> Result<(), AllocError>
+        ensures { vec_capacity output.old ≤ vec_capacity output.new }
+    {
         say(output, b"HD")?;
         self.say_words(output, flags)?;
         say(output, b"\r\n")
     }
 
     /// Writes what the words of a request have told.
-    fn say_words(&self, output: &mut Vec<u8>, flags: &[u8]) -> Result<(), AllocError> {
+    fn say_words(&self, output: &mut Vec<u8>, flags: &[u8]) -> Result<(), AllocError>
+        ensures { vec_capacity output.old ≤ vec_capacity output.new }
+    {
         let mut rest = flags;
         while let Some((word, more)) = next_token(rest) {
             self.say_word(output, word)?;
@@ -92,7 +102,9 @@ impl<'a> Told<'a> {
     }
 
     /// Writes what a word has told.
-    fn say_word(&self, output: &mut Vec<u8>, word: &[u8]) -> Result<(), AllocError> {
+    fn say_word(&self, output: &mut Vec<u8>, word: &[u8]) -> Result<(), AllocError>
+        ensures { vec_capacity output.old ≤ vec_capacity output.new }
+    {
         match letter_of(word) {
             b'k' => say_with(output, b" k", self.key),
             b'O' => say_with(output, b" ", word),
@@ -105,7 +117,9 @@ impl<'a> Told<'a> {
     }
 
     /// Writes the seconds that are left.
-    fn say_left(&self, output: &mut Vec<u8>) -> Result<(), AllocError> {
+    fn say_left(&self, output: &mut Vec<u8>) -> Result<(), AllocError>
+        ensures { vec_capacity output.old ≤ vec_capacity output.new }
+    {
         match self.deadline {
             Some(deadline) => {
                 say_count(output, b" t", deadline.saturating_sub(self.moment) / 1000)
@@ -117,7 +131,9 @@ impl<'a> Told<'a> {
 
 impl Lease {
     /// Writes who holds it.
-    fn say(&self, output: &mut Vec<u8>) -> Result<(), AllocError> {
+    fn say(&self, output: &mut Vec<u8>) -> Result<(), AllocError>
+        ensures { vec_capacity output.old ≤ vec_capacity output.new }
+    {
         say_if(output, self.held, b" Z")?;
         say_if(output, self.stale, b" X")?;
         say_if(output, self.wins, b" W")
@@ -125,18 +141,24 @@ impl Lease {
 }
 
 /// Writes a text, if it is to be written.
-fn say_if(output: &mut Vec<u8>, is_said: bool, text: &[u8]) -> Result<(), AllocError> {
+fn say_if(output: &mut Vec<u8>, is_said: bool, text: &[u8]) -> Result<(), AllocError>
+        ensures { vec_capacity output.old ≤ vec_capacity output.new }
+    {
     if is_said { say(output, text) } else { Ok(()) }
 }
 
 /// Writes a text and another.
-fn say_with(output: &mut Vec<u8>, first: &[u8], second: &[u8]) -> Result<(), AllocError> {
+fn say_with(output: &mut Vec<u8>, first: &[u8], second: &[u8]) -> Result<(), AllocError>
+        ensures { vec_capacity output.old ≤ vec_capacity output.new }
+    {
     say(output, first)?;
     say(output, second)
 }
 
 /// Writes a text and a number.
-fn say_count(output: &mut Vec<u8>, text: &[u8], number: u64) -> Result<(), AllocError> {
+fn say_count(output: &mut Vec<u8>, text: &[u8], number: u64) -> Result<(), AllocError>
+        ensures { vec_capacity output.old ≤ vec_capacity output.new }
+    {
     say(output, text)?;
     say_number(output, number)
 }
@@ -147,14 +169,18 @@ pub fn say_alone(
     code: &[u8],
     key: &[u8],
     flags: &[u8],
-) -> Result<(), AllocError> {
+) -> Result<(), AllocError>
+        ensures { vec_capacity output.old ≤ vec_capacity output.new }
+    {
     say(output, code)?;
     say_alone_words(output, key, flags)?;
     say(output, b"\r\n")
 }
 
 /// Writes what the words of a request have told of no item.
-fn say_alone_words(output: &mut Vec<u8>, key: &[u8], flags: &[u8]) -> Result<(), AllocError> {
+fn say_alone_words(output: &mut Vec<u8>, key: &[u8], flags: &[u8]) -> Result<(), AllocError>
+        ensures { vec_capacity output.old ≤ vec_capacity output.new }
+    {
     let mut rest = flags;
     while let Some((word, more)) = next_token(rest) {
         say_alone_word(output, key, word)?;
@@ -164,7 +190,9 @@ fn say_alone_words(output: &mut Vec<u8>, key: &[u8], flags: &[u8]) -> Result<(),
 }
 
 /// Writes what a word has told of no item.
-fn say_alone_word(output: &mut Vec<u8>, key: &[u8], word: &[u8]) -> Result<(), AllocError> {
+fn say_alone_word(output: &mut Vec<u8>, key: &[u8], word: &[u8]) -> Result<(), AllocError>
+        ensures { vec_capacity output.old ≤ vec_capacity output.new }
+    {
     match letter_of(word) {
         b'k' => say_with(output, b" k", key),
         b'O' => say_with(output, b" ", word),
