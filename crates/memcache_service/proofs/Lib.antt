@@ -1,2 +1,2 @@
-mod Joining
+mod Answering
 mod Keeping

@@ -1,10 +1,11 @@
 //! What requests do.
-ghost use Rattle.std.specs.Prelude.{◌≡◌, ◌≤◌, ◌+◌, ◌++◌, [], true, take, IfOk, OnErr, vec_capacity, if◌then◌else◌};
+ghost use Rattle.std.specs.Prelude.{◌≡◌, ◌≤◌, ◌+◌, ◌++◌, [], true, take, None, IfOk, OnOk, OnErr, vec_capacity, if◌then◌else◌};
 ghost use Rattle.memcache_lines.specs.Said.{asks};
 ghost use Rattle.memcache_model.specs.Answers.{Service, answer};
+ghost use Rattle.memcache_model.specs.Items.{live_at, nothing};
 ghost use Rattle.memcache_service.specs.Lines.{reply_text, said_from};
 ghost use Rattle.memcache_service.specs.Shelves.{IsMoment};
-ghost use Rattle.memcache_service.specs.Stocks.{Does, Keeps, is_short, stock_at};
+ghost use Rattle.memcache_service.specs.Stocks.{Answers, Does, Keeps, Leaves, Serves, is_plain, is_short, kept, stock_at};
 
 use crate::counters::{Counters, Tally};
 use crate::replies::{Reply, SHORT};
@@ -53,7 +54,15 @@ impl<T: Shelf> Stock<T> {
         output: &mut Vec<u8>,
     ) -> Result<(), AllocError>
         requires { IsMoment (T.view self.old.shelf) moment }
-        ensures { IsMoment (T.view self.new.shelf) moment }
+        ensures served { (service : Service) → service.most ≡ self.old.most
+            → is_plain (asks request.now.command) ≡ true
+            → OnOk result (let all = live_at moment (kept T.view self.old) in
+            Serves T.view moment all (answer service moment (asks request.now.command) all)
+            request.now.quiet self.old self.new output.old.items output.new.items) }
+        ensures refused { OnErr result (Keeps T.view moment self.old self.new
+            × (output.new.items ≡ output.old.items)) }
+        ensures may_follow { IsMoment (T.view self.new.shelf) moment }
+        ensures most { self.new.most ≡ self.old.most }
     {
         output.reserve(SHORT)?;
         self.flush_if_due(moment)?;
@@ -67,21 +76,48 @@ impl<T: Shelf> Stock<T> {
     /// Takes all items away, if the moment for it has come.
     fn flush_if_due(&mut self, moment: u64) -> Result<(), AllocError>
         requires { IsMoment (T.view self.old.shelf) moment }
+        ensures ok { OnOk result (stock_at T.view moment self.new
+            ≡ live_at moment (kept T.view self.old)) }
+        ensures err { OnErr result (Keeps T.view moment self.old self.new) }
         ensures may_follow { IsMoment (T.view self.new.shelf) moment }
+        ensures most { self.new.most ≡ self.old.most }
     {
-        if let Some(at) = self.flush {
-            if at <= moment {
-                self.shelf.clear(moment)?;
-                self.flush = None;
+        match self.flush {
+            Some(at) => {
+                if at <= moment {
+                    self.flush_now(moment)
+                } else {
+                    Ok(())
+                }
             }
+            None => Ok(()),
         }
+    }
+
+    /// Takes all items away.
+    fn flush_now(&mut self, moment: u64) -> Result<(), AllocError>
+        requires { IsMoment (T.view self.old.shelf) moment }
+        ensures ok { OnOk result (Leaves T.view moment
+            (record (stock_at T.view moment self.old) { items = nothing; flush = None }) self.old
+            self.new) }
+        ensures err { OnErr result (Keeps T.view moment self.old self.new) }
+        ensures may_follow { IsMoment (T.view self.new.shelf) moment }
+        ensures most { self.new.most ≡ self.old.most }
+    {
+        self.shelf.clear(moment)?;
+        self.flush = None;
         Ok(())
     }
 
     /// Does what a command asks for. It writes the reply, or returns it if it is one of a line.
     fn answer(&mut self, command: &Command<'_>, moment: u64, output: &mut Vec<u8>) -> Reply
         requires { IsMoment (T.view self.old.shelf) moment }
+        ensures answered { (service : Service) → service.most ≡ self.old.most
+            → is_plain (asks command.now) ≡ true → Answers T.view moment (answer service moment
+            (asks command.now) (stock_at T.view moment self.old)) self.old self.new
+            output.old.items output.new.items result }
         ensures may_follow { IsMoment (T.view self.new.shelf) moment }
+        ensures most { self.new.most ≡ self.old.most }
         ensures capacity { vec_capacity output.old ≤ vec_capacity output.new }
     {
         match *command {
@@ -105,7 +141,7 @@ impl<T: Shelf> Stock<T> {
     }
 
     /// Does what a command asks for whose reply is one of a line.
-    #[tactic(auto, using(crate::proofs::Keeping::may_follow))]
+    #[tactic(auto, using(crate::proofs::Keeping::may_follow, crate::proofs::Keeping::most_kept))]
     fn answer_shortly(&mut self, command: &Command<'_>, moment: u64) -> Result<Reply, AllocError>
         requires { IsMoment (T.view self.old.shelf) moment }
         ensures ok { IfOk result (λ reply. (service : Service) → service.most ≡ self.old.most
@@ -114,6 +150,7 @@ impl<T: Shelf> Stock<T> {
             (reply_text reply)) }
         ensures err { OnErr result (Keeps T.view moment self.old self.new) }
         ensures may_follow { IsMoment (T.view self.new.shelf) moment }
+        ensures most { self.new.most ≡ self.old.most }
     {
         match *command {
             Command::Store { storage, key, flags, exptime, block } => {

@@ -1,5 +1,5 @@
 //! The meta commands.
-ghost use Rattle.std.specs.Prelude.{◌≤◌, ◌<◌, ◌^◌, vec_capacity};
+ghost use Rattle.std.specs.Prelude.{◌≡◌, ◌≤◌, ◌<◌, ◌^◌, vec_capacity};
 ghost use Rattle.memcache_service.specs.Shelves.{IsMoment};
 
 use super::Stock;
@@ -46,6 +46,7 @@ impl<T: Shelf> Stock<T> {
     ) -> Result<Reply, AllocError>
         requires { IsMoment (T.view self.old.shelf) moment }
         ensures may_follow { IsMoment (T.view self.new.shelf) moment }
+        ensures most { self.new.most ≡ self.old.most }
         ensures capacity { vec_capacity output.old ≤ vec_capacity output.new }
     {
         let asked = Asked { key, flags, moment };
@@ -67,6 +68,7 @@ impl<T: Shelf> Stock<T> {
     ) -> Result<Reply, AllocError>
         requires { IsMoment (T.view self.old.shelf) moment }
         ensures may_follow { IsMoment (T.view self.new.shelf) moment }
+        ensures most { self.new.most ≡ self.old.most }
         ensures capacity { vec_capacity output.old ≤ vec_capacity output.new }
     {
         let asked = Asked { key, flags, moment };
@@ -77,6 +79,7 @@ impl<T: Shelf> Stock<T> {
     fn meta_get(&mut self, asked: Asked<'_>, output: &mut Vec<u8>) -> Result<Reply, AllocError>
         requires { IsMoment (T.view self.old.shelf) asked.moment }
         ensures may_follow { IsMoment (T.view self.new.shelf) asked.entry.moment }
+        ensures most { self.new.most ≡ self.old.most }
         ensures capacity { vec_capacity output.old ≤ vec_capacity output.new }
     {
         if let Some(error) = GET.fault(asked.flags) {
@@ -106,6 +109,7 @@ impl<T: Shelf> Stock<T> {
     ) -> Result<Reply, AllocError>
         requires { IsMoment (T.view self.old.shelf) asked.moment }
         ensures may_follow { IsMoment (T.view self.new.shelf) asked.entry.moment }
+        ensures most { self.new.most ≡ self.old.most }
         ensures capacity { vec_capacity output.old ≤ vec_capacity output.new }
     {
         let Some(exptime) = exptime_of(b'N', asked.flags) else {
@@ -137,6 +141,7 @@ impl<T: Shelf> Stock<T> {
     ) -> Result<Reply, AllocError>
         requires { IsMoment (T.view self.old.shelf) asked.moment }
         ensures may_follow { IsMoment (T.view self.new.shelf) asked.entry.moment }
+        ensures most { self.new.most ≡ self.old.most }
         ensures capacity { vec_capacity output.old ≤ vec_capacity output.new }
     {
         if let Some(error) = DELETE.fault(asked.flags) {
@@ -171,6 +176,7 @@ impl<T: Shelf> Stock<T> {
     ) -> Result<Reply, AllocError>
         requires { IsMoment (T.view self.old.shelf) asked.moment }
         ensures may_follow { IsMoment (T.view self.new.shelf) asked.entry.moment }
+        ensures most { self.new.most ≡ self.old.most }
         ensures capacity { vec_capacity output.old ≤ vec_capacity output.new }
     {
         if let Some(error) = ARITHMETIC.fault(asked.flags) {
@@ -201,6 +207,7 @@ impl<T: Shelf> Stock<T> {
     ) -> Result<Reply, AllocError>
         requires { IsMoment (T.view self.old.shelf) asked.moment }
         ensures may_follow { IsMoment (T.view self.new.shelf) asked.entry.moment }
+        ensures most { self.new.most ≡ self.old.most }
         ensures capacity { vec_capacity output.old ≤ vec_capacity output.new }
     {
         let Some(exptime) = exptime_of(b'N', asked.flags) else {
@@ -222,6 +229,7 @@ impl<T: Shelf> Stock<T> {
     ) -> Result<Reply, AllocError>
         requires { IsMoment (T.view self.old.shelf) asked.moment }
         ensures may_follow { IsMoment (T.view self.new.shelf) asked.entry.moment }
+        ensures most { self.new.most ≡ self.old.most }
         ensures capacity { vec_capacity output.old ≤ vec_capacity output.new }
     {
         if !has_flag(b'q', asked.flags) {
@@ -241,6 +249,7 @@ impl<T: Shelf> Stock<T> {
     ) -> Result<Reply, AllocError>
         requires { IsMoment (T.view self.old.shelf) asked.moment }
         ensures may_follow { IsMoment (T.view self.new.shelf) asked.entry.moment }
+        ensures most { self.new.most ≡ self.old.most }
         ensures capacity { vec_capacity output.old ≤ vec_capacity output.new }
     {
         self.counters.up(Tally::CmdSet);
@@ -264,6 +273,7 @@ impl<T: Shelf> Stock<T> {
     ) -> Result<Reply, AllocError>
         requires { IsMoment (T.view self.old.shelf) asked.moment }
         ensures may_follow { IsMoment (T.view self.new.shelf) asked.entry.moment }
+        ensures most { self.new.most ≡ self.old.most }
         ensures capacity { vec_capacity output.old ≤ vec_capacity output.new }
     {
         let Some(held) = self.shelf.peek(&self.key, asked.moment) else {
@@ -291,6 +301,7 @@ impl<T: Shelf> Stock<T> {
     ) -> Result<Reply, AllocError>
         requires { IsMoment (T.view self.old.shelf) asked.moment }
         ensures may_follow { IsMoment (T.view self.new.shelf) asked.entry.moment }
+        ensures most { self.new.most ≡ self.old.most }
         ensures capacity { vec_capacity output.old ≤ vec_capacity output.new }
     {
         let mode = mode_of(asked.flags);
@@ -310,6 +321,7 @@ impl<T: Shelf> Stock<T> {
     ) -> Result<Reply, AllocError>
         requires { IsMoment (T.view self.old.shelf) asked.moment }
         ensures may_follow { IsMoment (T.view self.new.shelf) asked.entry.moment }
+        ensures most { self.new.most ≡ self.old.most }
         ensures capacity { vec_capacity output.old ≤ vec_capacity output.new }
     {
         if !has_flag(b'q', asked.flags) {

@@ -77,6 +77,7 @@ impl<T: Shelf> Stock<T> {
     ) -> Result<Reply, AllocError>
         requires { IsMoment (T.view self.old.shelf) moment }
         ensures may_follow { IsMoment (T.view self.new.shelf) moment }
+        ensures most { self.new.most ≡ self.old.most }
         ensures capacity { vec_capacity output.old ≤ vec_capacity output.new }
     {
         let deadline = deadline_of(moment, exptime);
