@@ -1,10 +1,13 @@
 //! Items in a lent cache.
 ghost use Rattle.std.specs.Prelude.{◌<◌, ◌^◌};
+ghost use Rattle.memcache_cache.specs.Showing.{shelved_by};
 
 use crate::rules::ItemRules;
 use audit_model::Key;
-use memcache_service::{Counters, Shelf, StoredItem, Tally, say_value};
-use moka::{At, CacheError, EvictionPolicy, Instant, LentState, RemovalCause, Settings, Shared, Single};
+use memcache_service::{Counters, Shelf, StoredItem, Tally};
+use moka::{
+    At, CacheError, EvictionPolicy, HasWays, Instant, LentState, RemovalCause, Settings, Shared, Single,
+};
 use std::alloc::{AllocError, Global};
 use std::hash::BuildHasher;
 
@@ -74,52 +77,24 @@ fn refusal_of(_error: CacheError) -> AllocError {
     AllocError
 }
 
-/// Writes an item that was found, and says whether there is one.
-fn tell_found(
-    output: &mut Vec<u8>,
-    uniques: bool,
-    key: &[u8],
-    found: Option<&StoredItem>,
-) -> Result<bool, AllocError> {
-    match found {
-        Some(item) => {
-            say_value(output, uniques, key, item)?;
-            Ok(true)
-        }
-        None => Ok(false),
-    }
-}
-
 impl<S: BuildHasher + Drop> Shelf for LentShelf<S> {
+    ghost view = { λ s. shelved_by ⟦<ItemRules as HasWays<Key, StoredItem, S>>⟧.ways s.cache };
+
     fn peek(&self, key: &Key, moment: u64) -> Option<&StoredItem> {
         self.cache.peek(key, instant(moment))
     }
 
-    fn tell(
-        &mut self,
-        key: &Key,
-        uniques: bool,
-        moment: u64,
-        output: &mut Vec<u8>,
-    ) -> Result<bool, AllocError> {
-        self.cache.look_up(
-            key,
-            instant(moment),
-            output,
-            |found: Option<&StoredItem>, output: &mut Vec<u8>| -> Result<bool, AllocError> {
-                tell_found(output, uniques, key.as_bytes(), found)
-            },
-        )
-    }
-
-    fn note_use(&mut self, key: &Key, moment: u64) {
+    fn note_use(&mut self, key: &Key, moment: u64) -> bool {
         let mut nothing = ();
-        let _ = self.cache.look_up(
+        let found = self.cache.look_up(
             key,
             instant(moment),
             &mut nothing,
-            |_, _| -> Result<(), AllocError> { Ok(()) },
+            |found: Option<&StoredItem>, _: &mut ()| -> Result<bool, AllocError> {
+                Ok(found.is_some())
+            },
         );
+        found.unwrap_or(false)
     }
 
     fn put(&mut self, key: &Key, item: StoredItem, moment: u64) -> Result<(), AllocError> {

@@ -1,5 +1,7 @@
 //! A connection: the bytes that no request has used, and the replies that were not taken.
-ghost use Rattle.std.specs.Prelude.{◌≡◌, ◌≤◌, drop, length, vec_len};
+ghost use Rattle.std.specs.Prelude.{◌≡◌, ◌≤◌, ◌-◌, ◌++◌, true, false, drop, length, vec_len};
+ghost use Rattle.memcache_lines.specs.Said.{asks};
+ghost use Rattle.memcache_service.specs.Serving.{AreServed, IsServed};
 ghost use Rattle.memcache_service.specs.Shelves.{IsMoment};
 
 use crate::shelf::Shelf;
@@ -61,14 +63,14 @@ impl Connection {
 
     /// Takes a piece of bytes, and runs the requests that it completes. A request runs only while less than 1 MiB of replies wait; what is
     /// held back runs with a later piece, which may be empty.
-    pub fn feed<T: Shelf>(
-        &mut self,
-        stock: &mut Stock<T>,
-        piece: &[u8],
-        moment: u64,
-    )
+    pub fn feed<T: Shelf>(&mut self, stock: &mut Stock<T>, piece: &[u8], moment: u64)
         requires { IsMoment (T.view stock.old.shelf) moment }
-        ensures { IsMoment (T.view stock.new.shelf) moment }
+        ensures served { self.new.is_closed ≡ false → AreServed T.view moment stock.old.most
+            stock.old (self.old.input.items ++ drop self.old.skip piece.now)
+            (self.old.skip - length piece.now) self.old.output.items stock.new
+            self.new.input.items self.new.skip self.new.output.items }
+        ensures closed { self.old.is_closed ≡ true → (self.new ≡ self.old) × (stock.new ≡ stock.old) }
+        ensures may_follow { IsMoment (T.view stock.new.shelf) moment }
     {
         if self.is_closed {
             return;
@@ -84,21 +86,35 @@ impl Connection {
     }
 
     /// What is left of a piece behind a data block that is passed over.
-    fn pass_over<'a>(&mut self, piece: &'a [u8]) -> &'a [u8] {
+    fn pass_over<'a>(&mut self, piece: &'a [u8]) -> &'a [u8]
+        ensures left { result.now ≡ drop self.old.skip piece.now }
+        ensures skip { self.new ≡ record self.old { skip = self.old.skip - length piece.now } }
+    {
         let count = self.skip.min(piece.len());
         self.skip -= count;
         &piece[count..]
     }
 
-    /// Keeps bytes for later.
-    fn keep(&mut self, bytes: &[u8]) {
-        if !self.is_closed && self.input.extend_from_slice(bytes).is_err() {
-            self.close();
+    /// Keeps bytes for later. A connection for which there is no memory is closed.
+    fn keep(&mut self, bytes: &[u8])
+        ensures kept { self.new.is_closed ≡ false
+            → self.new.input.items ≡ self.old.input.items ++ bytes.now }
+        ensures rest { self.new.is_closed ≡ false → (self.old.is_closed ≡ false)
+            × (self.new.skip ≡ self.old.skip) × (self.new.output ≡ self.old.output) }
+    {
+        if self.is_closed {
+            return;
+        }
+        match self.input.extend_from_slice(bytes) {
+            Ok(()) => {}
+            Err(AllocError) => self.close(),
         }
     }
 
     /// Runs no further request.
-    fn close(&mut self) {
+    fn close(&mut self)
+        ensures { self.new.is_closed ≡ true }
+    {
         self.is_closed = true;
         self.input = Vec::new(self.alloc);
     }
@@ -106,7 +122,11 @@ impl Connection {
     /// Runs the requests in the bytes that were kept.
     fn run_kept<T: Shelf>(&mut self, stock: &mut Stock<T>, moment: u64)
         requires { IsMoment (T.view stock.old.shelf) moment }
-        ensures { IsMoment (T.view stock.new.shelf) moment }
+        ensures served { self.new.is_closed ≡ false → AreServed T.view moment stock.old.most
+            stock.old self.old.input.items self.old.skip self.old.output.items stock.new
+            self.new.input.items self.new.skip self.new.output.items }
+        ensures closed { self.new.is_closed ≡ false → self.old.is_closed ≡ false }
+        ensures may_follow { IsMoment (T.view stock.new.shelf) moment }
     {
         let mut input = Vec::new(self.alloc);
         mem::swap(&mut self.input, &mut input);
@@ -115,20 +135,31 @@ impl Connection {
             return;
         }
         drop_front(&mut input, used);
-        if !input.is_empty() || input.capacity() <= KEPT {
+        self.put_back(input);
+    }
+
+    /// Keeps bytes whose requests ran, and gives back memory that is not needed.
+    fn put_back(&mut self, input: Vec<u8>)
+        ensures kept { self.new.input.items ≡ input.items }
+        ensures rest { self.new ≡ record self.old { input = self.new.input } }
+    {
+        if input.is_empty() && input.capacity() > KEPT {
+            self.input = Vec::new(self.alloc);
+        } else {
             self.input = input;
         }
     }
 
     /// Runs the requests in the bytes, and returns how many bytes they took.
-    fn run<T: Shelf>(
-        &mut self,
-        stock: &mut Stock<T>,
-        bytes: &[u8],
-        moment: u64,
-    ) -> usize
+    #[tactic(auto, using(crate::proofs::Parting::served_one))]
+    fn run<T: Shelf>(&mut self, stock: &mut Stock<T>, bytes: &[u8], moment: u64) -> usize
         requires { IsMoment (T.view stock.old.shelf) moment }
         ensures used { result ≤ length bytes.now }
+        ensures served { self.new.is_closed ≡ false → AreServed T.view moment stock.old.most
+            stock.old bytes.now self.old.skip self.old.output.items stock.new
+            (drop result bytes.now) self.new.skip self.new.output.items }
+        ensures kept { self.new.is_closed ≡ false
+            → (self.old.is_closed ≡ false) × (self.new.input ≡ self.old.input) }
         ensures may_follow { IsMoment (T.view stock.new.shelf) moment }
     {
         let mut start = 0;
@@ -145,18 +176,24 @@ impl Connection {
     }
 
     /// Runs a request.
-    fn serve<T: Shelf>(
-        &mut self,
-        stock: &mut Stock<T>,
-        request: &Request<'_>,
-        moment: u64,
-    )
+    fn serve<T: Shelf>(&mut self, stock: &mut Stock<T>, request: &Request<'_>, moment: u64)
         requires { IsMoment (T.view stock.old.shelf) moment }
-        ensures { IsMoment (T.view stock.new.shelf) moment }
+        ensures served { self.new.is_closed ≡ false → IsServed T.view moment (record {
+          command = asks request.now.command;
+          quiet = request.now.quiet;
+        }) stock.old stock.new self.old.output.items self.new.output.items }
+        ensures kept { self.new.is_closed ≡ false
+            → (self.old.is_closed ≡ false) × (self.new.input ≡ self.old.input) }
+        ensures may_follow { IsMoment (T.view stock.new.shelf) moment }
+        ensures most { stock.new.most ≡ stock.old.most }
     {
-        let served = stock.serve(request, moment, &mut self.output);
-        if served.is_err() || ends(&request.command) {
-            self.close();
+        match stock.serve(request, moment, &mut self.output) {
+            Ok(()) => {
+                if ends(&request.command) {
+                    self.close();
+                }
+            }
+            Err(AllocError) => self.close(),
         }
     }
 }

@@ -86,15 +86,9 @@ impl StoredItem {
     pub fn with_deadline(&self, deadline: Option<u64>) -> Result<StoredItem, AllocError>
         ensures { IfOk result (λ made. made ≡ record self.now { deadline = deadline }) }
     {
-        let bytes = self.bytes.clone()?;
-        Ok(StoredItem {
-            bytes,
-            flags: self.flags,
-            unique: self.unique,
-            deadline,
-            stale: self.stale,
-            leased: self.leased,
-        })
+        let mut item = self.clone()?;
+        item.deadline = deadline;
+        Ok(item)
     }
 
     /// The item with a number in place of its bytes.

@@ -11,6 +11,5 @@ mod stock;
 
 pub use counters::{Counters, Tally};
 pub use item::StoredItem;
-pub use replies::say_value;
 pub use service::{Conn, Service, Setup};
 pub use shelf::Shelf;
