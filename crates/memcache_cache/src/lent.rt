@@ -6,7 +6,8 @@ use crate::rules::ItemRules;
 use audit_model::Key;
 use memcache_service::{Counters, Shelf, StoredItem, Tally};
 use moka::{
-    At, CacheError, EvictionPolicy, HasWays, Instant, LentState, RemovalCause, Settings, Shared, Single,
+    At, CacheError, EvictionPolicy, HasWays, Instant, LentState, RemovalCause, Settings, Shared,
+    Single,
 };
 use std::alloc::{AllocError, Global};
 use std::hash::BuildHasher;

@@ -6,16 +6,14 @@ use memcache_cache::LentShelf;
 use memcache_service::{Conn, Service, Setup};
 use moka::{EvictionPolicy, StdHasher};
 use std::alloc::Global;
-use std::env;
 use std::env::Env;
-use std::io;
 use std::io::{Read, Write};
 use std::net::{Ipv4Addr, Net, SocketAddr, TcpListener, TcpStream};
 use std::process::ExitCode;
 use std::sync::{Arc, Mutex, Wait};
-use std::thread;
 use std::thread::Threads;
 use std::time::{Clock, SystemTime, UNIX_EPOCH};
+use std::{env, io, thread};
 
 /// A service that threads share.
 type Shared = Mutex<Service<LentShelf<StdHasher>>>;

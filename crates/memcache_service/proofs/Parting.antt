@@ -1,10 +1,10 @@
 -- Bytes that requests take.
-use Rattle.std.proofs.Common.{◌≡◌, ℕ, ◌+◌, ◌-◌, ◌≤◌, List, length, drop, sym, ap, subst, ◌∙◌, min, arith, ⊎_elim}
+use Rattle.std.proofs.Common.{◌≡◌, ℕ, ◌+◌, ◌-◌, ◌≤◌, List, length, drop, take, sym, ap, subst, ◌∙◌, min, arith, ⊎_elim}
 use Rattle.std.proofs.lemmas.Bool.{cases_lt}
 use Rattle.std.proofs.Math.ListN.{drop_of_length-le}
-use Rattle.std.proofs.lemmas.List.{drop-drop, length-drop}
+use Rattle.std.proofs.lemmas.List.{drop-drop, length-drop, take_all}
 use Rattle.memcache_model.specs.Commands.{Request}
-use Rattle.memcache_model.specs.Grammar.{arrived, request}
+use Rattle.memcache_model.specs.Grammar.{Arrived, arrived, request}
 use Rattle.memcache_service.specs.Serving.{AreServed, IsServed, one_more}
 use Rattle.memcache_service.specs.Shelves.{Shelved}
 use Rattle.memcache_service.specs.declared.stock.Stock.{Stock}
@@ -24,3 +24,8 @@ served_one view moment most first bytes skipped before mid new r used skip start
     subst (λ (l : List ℕ). AreServed view moment most first bytes skipped before new l (used - there) after) (drop-there bytes start used there within is)
     (subst (λ (n : ℕ). AreServed view moment most first bytes skipped before new (drop used left) n after) same
     (one_more mid new r used skip left between after were arrives served))
+
+-- what stands at the front of the bytes from a place on
+pub arrived-from : (most now : ℕ) (bytes : List ℕ) (start : ℕ) (a : Arrived) → a ≡ arrived now (take (length bytes - start) (drop start bytes)) → now ≡ most → arrived most (drop start bytes) ≡ a
+arrived-from most now bytes start a is same =
+    sym (is ∙ ap (λ (n : ℕ). arrived n (take (length bytes - start) (drop start bytes))) same ∙ ap (arrived most) (take_all (length bytes - start) (drop start bytes) (omega (arith, length-drop start bytes))))

@@ -1,5 +1,5 @@
 -- The requests of a connection's bytes, served one after the other.
-use Rattle.std.specs.Prelude.{◌≡◌, ℕ, ◌-◌, true, List, length, drop}
+use Rattle.std.specs.Prelude.{◌≡◌, ℕ, ◌-◌, true, List, ◌++◌, length, drop}
 use Rattle.memcache_model.specs.Answers.{Service, answer}
 use Rattle.memcache_model.specs.Commands.{Request}
 use Rattle.memcache_model.specs.Grammar.{arrived, request}
@@ -25,3 +25,10 @@ module _ {T : Type 0} (view : T → Shelved) (moment : ℕ) where
         → AreServed most first bytes skipped before mid left skip between
         → arrived most left ≡ request r used → IsServed r mid new between after
         → AreServed most first bytes skipped before new (drop used left) (used - length left) after
+
+-- requests that were served of bytes are served alike with more bytes behind them
+abbrev pub AreServedAlike : {T : Type 0} → (view : T → Shelved) → Type 0
+AreServedAlike {T} view =
+    (moment most : ℕ) (first new : Stock T) (bytes more left before after : List ℕ)
+    → AreServed view moment most first bytes 0 before new left 0 after
+    → AreServed view moment most first (bytes ++ more) 0 before new (left ++ more) 0 after

@@ -63,8 +63,8 @@ module _ {T : Type 0} (view : T → Shelved) where
   -- a command at a moment said this, and had this outcome
   pub record Does (moment : ℕ) (outcome : Outcome) (old new : Stock T) (text : List ℕ) : Type 0
     where
-    pub said : text ≡ outcome.reply
-    pub leaves : Leaves moment outcome.stock old new
+      pub said : text ≡ outcome.reply
+      pub leaves : Leaves moment outcome.stock old new
 
   -- what it has, live or not
   abbrev pub kept : Stock T → model.Stock
@@ -77,8 +77,8 @@ module _ {T : Type 0} (view : T → Shelved) where
   -- there was no memory for a command, and it changed nothing of what there was
   pub record Refuses (moment : ℕ) (all : model.Stock) (old new : Stock T) (text : List ℕ) : Type 0
     where
-    pub says : IsRefusal text
-    pub keeps : Leaves moment all old new
+      pub says : IsRefusal text
+      pub keeps : Leaves moment all old new
 
   -- a command did what it was to do, or was refused
   abbrev pub DoesIfRoom : ℕ → (all : model.Stock) → Outcome → (old new : Stock T)

@@ -69,7 +69,8 @@ impl Connection {
             stock.old (self.old.input.items ++ drop self.old.skip piece.now)
             (self.old.skip - length piece.now) self.old.output.items stock.new
             self.new.input.items self.new.skip self.new.output.items }
-        ensures closed { self.old.is_closed ≡ true → (self.new ≡ self.old) × (stock.new ≡ stock.old) }
+        ensures closed { self.old.is_closed ≡ true
+            → (self.new ≡ self.old) × (stock.new ≡ stock.old) }
         ensures may_follow { IsMoment (T.view stock.new.shelf) moment }
     {
         if self.is_closed {
@@ -151,7 +152,6 @@ impl Connection {
     }
 
     /// Runs the requests in the bytes, and returns how many bytes they took.
-    #[tactic(auto, using(crate::proofs::Parting::served_one))]
     fn run<T: Shelf>(&mut self, stock: &mut Stock<T>, bytes: &[u8], moment: u64) -> usize
         requires { IsMoment (T.view stock.old.shelf) moment }
         ensures used { result ≤ length bytes.now }
@@ -164,7 +164,8 @@ impl Connection {
     {
         let mut start = 0;
         while !self.is_closed && !self.is_full() && start < bytes.len() {
-            let Arrived::Request { request, used } = read_request(stock.most, &bytes[start..]) else {
+            let Arrived::Request { request, used } = read_request(stock.most, &bytes[start..])
+            else {
                 break;
             };
             self.serve(stock, &request, moment);

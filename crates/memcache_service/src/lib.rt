@@ -4,12 +4,15 @@
 mod connection;
 mod counters;
 mod item;
+pub mod laws;
 mod replies;
 mod service;
 mod shelf;
 mod stock;
 
+pub use connection::Connection;
 pub use counters::{Counters, Tally};
 pub use item::StoredItem;
-pub use service::{Conn, Service, Setup};
+pub use service::{Conn, Service};
 pub use shelf::Shelf;
+pub use stock::{Setup, Stock};

@@ -64,7 +64,10 @@ impl Reply {
             Reply::Fault(error) => write(output, error_text(error)),
             Reply::NoMemory => write(output, b"SERVER_ERROR out of memory storing object\r\n"),
             Reply::NoRoom => {
-                write(output, b"SERVER_ERROR out of memory writing get response\r\n")
+                write(
+                    output,
+                    b"SERVER_ERROR out of memory writing get response\r\n",
+                )
             }
             Reply::NoStatistics => {
                 write(output, b"SERVER_ERROR out of memory writing stats\r\n")
@@ -135,8 +138,8 @@ pub fn say_number(output: &mut Vec<u8>, number: u64) -> Result<(), AllocError>
 
 /// Writes a statistic's line.
 pub fn say_figure(output: &mut Vec<u8>, name: &[u8], number: u64) -> Result<(), AllocError>
-        ensures { vec_capacity output.old ≤ vec_capacity output.new }
-    {
+    ensures { vec_capacity output.old ≤ vec_capacity output.new }
+{
     say(output, b"STAT ")?;
     say(output, name)?;
     say(output, b" ")?;
@@ -156,7 +159,10 @@ pub fn say_value(
     ensures err { OnErr result (output.new.items ≡ output.old.items) }
     ensures capacity { vec_capacity output.old ≤ vec_capacity output.new }
 {
-    let needed = key.len().saturating_add(item.bytes.len()).saturating_add(SHORT);
+    let needed = key
+        .len()
+        .saturating_add(item.bytes.len())
+        .saturating_add(SHORT);
     output.reserve(needed)?;
     write_head(output, uniques, key, item);
     write(output, item.bytes.as_slice());

@@ -3,27 +3,14 @@ ghost use Rattle.std.specs.Prelude.{◌≡◌, ◌≤◌, ◌<◌, ◌^◌};
 ghost use Rattle.memcache_service.specs.Shelves.{IsMoment};
 
 use crate::connection::Connection;
-use crate::counters::{Counters, Tally};
+use crate::counters::Tally;
 use crate::shelf::Shelf;
-use crate::stock::Stock;
-use audit_model::Key;
+use crate::stock::{Setup, Stock};
 use slab::Slab;
 use std::alloc::{AllocError, Global};
 
 /// Moments are below this many milliseconds of Unix time, which are 557 years.
 const MOMENTS: u64 = 1 << 44;
-
-/// The longest key, in bytes.
-const MAX_KEY: usize = 250;
-
-/// What a service is made with.
-#[derive(Clone, Copy, Debug, PartialEq, Eq, Drop)]
-pub struct Setup {
-    /// How many bytes all items may have, with what they cost.
-    pub capacity: u64,
-    /// How many bytes a data block may have.
-    pub item_size: u32,
-}
 
 /// The number of a connection.
 pub type Conn = usize;
@@ -40,27 +27,10 @@ pub struct Service<T: Shelf> {
 
 impl<T: Shelf> Service<T> {
     /// A service over a shelf.
-    pub fn new(
-        alloc: Global,
-        shelf: T,
-        setup: Setup,
-        moment: u64,
-    ) -> Result<Service<T>, AllocError>
+    pub fn new(alloc: Global, shelf: T, setup: Setup, moment: u64) -> Result<Service<T>, AllocError>
         requires { IsMoment (T.view shelf) moment }
     {
-        let key = Key::with_capacity(alloc, MAX_KEY)?;
-        let stock = Stock {
-            alloc,
-            shelf,
-            key,
-            uniques: 0,
-            flush: None,
-            counters: Counters::new(),
-            most: setup.item_size,
-            capacity: setup.capacity,
-            made: moment,
-            connections: 0,
-        };
+        let stock = Stock::new(alloc, shelf, setup, moment)?;
         Ok(Service {
             stock,
             connections: Slab::new(alloc),
@@ -89,7 +59,9 @@ impl<T: Shelf> Service<T> {
         let now = later(self.moment, moment);
         match self.connections.get_mut(conn) {
             Some(connection) => {
-                self.stock.counters.add(Tally::BytesRead, piece.len() as u64);
+                self.stock
+                    .counters
+                    .add(Tally::BytesRead, piece.len() as u64);
                 connection.feed(&mut self.stock, piece, now);
                 self.moment = now;
                 !connection.is_closed()
@@ -111,7 +83,9 @@ impl<T: Shelf> Service<T> {
         into.clear();
         if let Some(connection) = self.connections.get_mut(conn) {
             connection.take_output(into);
-            self.stock.counters.add(Tally::BytesWritten, into.len() as u64);
+            self.stock
+                .counters
+                .add(Tally::BytesWritten, into.len() as u64);
         }
     }
 }
@@ -122,5 +96,9 @@ fn later(last: u64, moment: u64) -> u64
     ensures later { last ≤ result }
     ensures early { result < 2 ^ 44 }
 {
-    if last < moment && moment < MOMENTS { moment } else { last }
+    if last < moment && moment < MOMENTS {
+        moment
+    } else {
+        last
+    }
 }

@@ -22,6 +22,18 @@ mod statistics;
 mod storing;
 mod telling;
 
+/// The longest key, in bytes.
+const MAX_KEY: usize = 250;
+
+/// What a stock is made with.
+#[derive(Clone, Copy, Debug, PartialEq, Eq, Drop)]
+pub struct Setup {
+    /// How many bytes all items may have, with what they cost.
+    pub capacity: u64,
+    /// How many bytes a data block may have.
+    pub item_size: u32,
+}
+
 /// Items, the uniques that were given, when all items are to go, and what was counted. Moments are milliseconds of Unix time.
 #[derive(Drop)]
 pub struct Stock<T: Shelf> {
@@ -45,6 +57,28 @@ pub struct Stock<T: Shelf> {
 }
 
 impl<T: Shelf> Stock<T> {
+    /// A stock over a shelf, at a moment.
+    pub fn new(alloc: Global, shelf: T, setup: Setup, moment: u64) -> Result<Stock<T>, AllocError>
+        requires { IsMoment (T.view shelf) moment }
+        ensures shelf { IfOk result (λ made. made.shelf ≡ shelf) }
+        ensures fresh { IfOk result (λ made. (made.uniques ≡ 0) × (made.flush ≡ None)) }
+        ensures most { IfOk result (λ made. made.most ≡ setup.item_size) }
+    {
+        let key = Key::with_capacity(alloc, MAX_KEY)?;
+        Ok(Stock {
+            alloc,
+            shelf,
+            key,
+            uniques: 0,
+            flush: None,
+            counters: Counters::new(),
+            most: setup.item_size,
+            capacity: setup.capacity,
+            made: moment,
+            connections: 0,
+        })
+    }
+
     /// Serves a request at a moment, and writes its reply. If there is no memory for the reply, nothing has happened, and the connection is
     /// to end.
     pub fn serve(
@@ -122,21 +156,32 @@ impl<T: Shelf> Stock<T> {
     {
         match *command {
             Command::Get { uniques, keys } => {
-                self.get(uniques, keys, moment, output).unwrap_or(Reply::NoRoom)
+                self.get(uniques, keys, moment, output)
+                    .unwrap_or(Reply::NoRoom)
             }
-            Command::Gat { uniques, exptime, keys } => {
-                self.gat(uniques, exptime, keys, moment, output).unwrap_or(Reply::NoRoom)
+            Command::Gat {
+                uniques,
+                exptime,
+                keys,
+            } => {
+                self.gat(uniques, exptime, keys, moment, output)
+                    .unwrap_or(Reply::NoRoom)
             }
             Command::Stats { words } => {
-                self.stats(words, moment, output).unwrap_or(Reply::NoStatistics)
+                self.stats(words, moment, output)
+                    .unwrap_or(Reply::NoStatistics)
             }
             Command::Meta { kind, key, flags } => {
-                self.meta(kind, key, flags, moment, output).unwrap_or(Reply::NoMemory)
+                self.meta(kind, key, flags, moment, output)
+                    .unwrap_or(Reply::NoMemory)
             }
             Command::MetaSet { key, flags, block } => {
-                self.meta_set(key, flags, block, moment, output).unwrap_or(Reply::NoMemory)
+                self.meta_set(key, flags, block, moment, output)
+                    .unwrap_or(Reply::NoMemory)
             }
-            _ => self.answer_shortly(command, moment).unwrap_or(Reply::NoMemory),
+            _ => self
+                .answer_shortly(command, moment)
+                .unwrap_or(Reply::NoMemory),
         }
     }
 
@@ -153,14 +198,20 @@ impl<T: Shelf> Stock<T> {
         ensures most { self.new.most ≡ self.old.most }
     {
         match *command {
-            Command::Store { storage, key, flags, exptime, block } => {
-                self.store(storage, key, flags, exptime, block, moment)
-            }
+            Command::Store {
+                storage,
+                key,
+                flags,
+                exptime,
+                block,
+            } => { self.store(storage, key, flags, exptime, block, moment) }
             Command::Oversize { storage, key } => self.pass_over(storage, key, moment),
             Command::Delete { key } => self.delete(key, moment),
-            Command::Arithmetic { direction, key, delta } => {
-                self.count(direction, key, delta, moment)
-            }
+            Command::Arithmetic {
+                direction,
+                key,
+                delta,
+            } => { self.count(direction, key, delta, moment) }
             Command::Touch { key, exptime } => self.touch(key, exptime, moment),
             Command::FlushAll { exptime } => self.flush_all(exptime, moment),
             Command::Version => Ok(Reply::Version),

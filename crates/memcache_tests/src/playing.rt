@@ -19,7 +19,13 @@ pub fn service(alloc: Global) -> Result<Served, AllocError> {
         capacity: 1 << 26,
         item_size: 1 << 20,
     };
-    let shelf = LentShelf::new(alloc, setup.capacity, EvictionPolicy::Lru, StdHasher::new(), START)?;
+    let shelf = LentShelf::new(
+        alloc,
+        setup.capacity,
+        EvictionPolicy::Lru,
+        StdHasher::new(),
+        START,
+    )?;
     Service::new(alloc, shelf, setup, START)
 }
 
@@ -51,7 +57,14 @@ fn play(alloc: Global, rows: &[Row], cut: usize) -> Result<bool, AllocError>
     let conn = service.open()?;
     for (after, sent, wanted) in rows {
         let mut told = Vec::new(alloc);
-        feed(&mut service, conn, *sent, cut, START.saturating_add(*after), &mut told)?;
+        feed(
+            &mut service,
+            conn,
+            *sent,
+            cut,
+            START.saturating_add(*after),
+            &mut told,
+        )?;
         if told.as_slice() != *wanted {
             return Ok(false);
         }

@@ -145,7 +145,11 @@ fn is_one_of(letters: &[u8], letter: u8) -> bool
 fn fault_unless(is_right: bool) -> Option<ProtocolError>
     ensures { result ≡ (if is_right then None else Some ProtocolError.Token) }
 {
-    if is_right { None } else { Some(ProtocolError::Token) }
+    if is_right {
+        None
+    } else {
+        Some(ProtocolError::Token)
+    }
 }
 
 /// The mode that `M` names, by its letter; that of a `set` if there is no `M`.
@@ -162,7 +166,11 @@ pub fn mode_of(words: &[u8]) -> u8
 pub fn mode_fault(words: &[u8]) -> Option<ProtocolError>
     ensures { result ≡ mode_fault (tokens words.now) }
 {
-    if is_one_of(b"EAPRS", mode_of(words)) { None } else { Some(ProtocolError::Mode) }
+    if is_one_of(b"EAPRS", mode_of(words)) {
+        None
+    } else {
+        Some(ProtocolError::Mode)
+    }
 }
 
 /// Which way a `ma` counts.
@@ -179,5 +187,9 @@ pub fn direction_of(words: &[u8]) -> Direction
 fn direction_by(letter: u8) -> Direction
     ensures { result ≡ (if is_one_of (codes "D-") letter then Direction.Down else Direction.Up) }
 {
-    if is_one_of(b"D-", letter) { Direction::Down } else { Direction::Up }
+    if is_one_of(b"D-", letter) {
+        Direction::Down
+    } else {
+        Direction::Up
+    }
 }

@@ -65,12 +65,7 @@ impl<T: Shelf> Stock<T> {
     }
 
     /// Gives the live item of a key another expiry.
-    pub fn touch(
-        &mut self,
-        key: &[u8],
-        exptime: Exptime,
-        moment: u64,
-    ) -> Result<Reply, AllocError>
+    pub fn touch(&mut self, key: &[u8], exptime: Exptime, moment: u64) -> Result<Reply, AllocError>
         requires { IsMoment (T.view self.old.shelf) moment }
         ensures ok { IfOk result (λ reply. Does T.view moment (touches_one key.now
             (deadline_of moment exptime) ((stock_at T.view moment self.old).items key.now)

@@ -18,13 +18,36 @@ use memcache_model::{Exptime, Meta, ProtocolError};
 use std::alloc::{AllocError, Global};
 
 /// The flags of each command.
-const GET: Letters = Letters { others: b"vkqOstcf", numbers: b"R", times: b"NT" };
-const SET: Letters = Letters { others: b"kqOstcfIM", numbers: b"CF", times: b"T" };
-const DELETE: Letters = Letters { others: b"kqOI", numbers: b"C", times: b"T" };
-const ARITHMETIC: Letters = Letters { others: b"vkqOstcfM", numbers: b"CDJ", times: b"NT" };
+const GET: Letters = Letters {
+    others: b"vkqOstcf",
+    numbers: b"R",
+    times: b"NT",
+};
+
+const SET: Letters = Letters {
+    others: b"kqOstcfIM",
+    numbers: b"CF",
+    times: b"T",
+};
+
+const DELETE: Letters = Letters {
+    others: b"kqOI",
+    numbers: b"C",
+    times: b"T",
+};
+
+const ARITHMETIC: Letters = Letters {
+    others: b"vkqOstcfM",
+    numbers: b"CDJ",
+    times: b"NT",
+};
 
 /// Nobody holds a lease, nor wins one.
-const NO_LEASE: Lease = Lease { held: false, stale: false, wins: false };
+const NO_LEASE: Lease = Lease {
+    held: false,
+    stale: false,
+    wins: false,
+};
 
 /// The key and the flags of a meta command, and the moment at which it comes.
 #[derive(Clone, Copy)]
@@ -102,11 +125,7 @@ impl<T: Shelf> Stock<T> {
     }
 
     /// `mg` of a key without a live item.
-    fn meta_vivify(
-        &mut self,
-        asked: Asked<'_>,
-        output: &mut Vec<u8>,
-    ) -> Result<Reply, AllocError>
+    fn meta_vivify(&mut self, asked: Asked<'_>, output: &mut Vec<u8>) -> Result<Reply, AllocError>
         requires { IsMoment (T.view self.old.shelf) asked.moment }
         ensures may_follow { IsMoment (T.view self.new.shelf) asked.entry.moment }
         ensures most { self.new.most ≡ self.old.most }
@@ -121,7 +140,11 @@ impl<T: Shelf> Stock<T> {
         let deadline = deadline_of(asked.moment, exptime);
         let mut item = StoredItem::new(Vec::new(self.alloc), 0, deadline);
         item.leased = true;
-        let lease = Lease { held: false, stale: false, wins: true };
+        let lease = Lease {
+            held: false,
+            stale: false,
+            wins: true,
+        };
         let told = Told::new(asked.key, &item, self.next_unique(), asked.moment);
         told.say_item(output, asked.flags, &lease)?;
         self.put(item, asked.moment)?;
@@ -134,11 +157,7 @@ impl<T: Shelf> Stock<T> {
     }
 
     /// `md`.
-    fn meta_delete(
-        &mut self,
-        asked: Asked<'_>,
-        output: &mut Vec<u8>,
-    ) -> Result<Reply, AllocError>
+    fn meta_delete(&mut self, asked: Asked<'_>, output: &mut Vec<u8>) -> Result<Reply, AllocError>
         requires { IsMoment (T.view self.old.shelf) asked.moment }
         ensures may_follow { IsMoment (T.view self.new.shelf) asked.entry.moment }
         ensures most { self.new.most ≡ self.old.most }
@@ -200,11 +219,7 @@ impl<T: Shelf> Stock<T> {
     }
 
     /// `ma` of a key without a live item.
-    fn meta_first(
-        &mut self,
-        asked: Asked<'_>,
-        output: &mut Vec<u8>,
-    ) -> Result<Reply, AllocError>
+    fn meta_first(&mut self, asked: Asked<'_>, output: &mut Vec<u8>) -> Result<Reply, AllocError>
         requires { IsMoment (T.view self.old.shelf) asked.moment }
         ensures may_follow { IsMoment (T.view self.new.shelf) asked.entry.moment }
         ensures most { self.new.most ≡ self.old.most }
@@ -344,7 +359,11 @@ fn say_found(
 {
     let deadline = retimed(asked, item.deadline);
     let wins = !item.leased && (item.stale || is_late(asked, deadline));
-    let lease = Lease { held: item.leased, stale: item.stale, wins };
+    let lease = Lease {
+        held: item.leased,
+        stale: item.stale,
+        wins,
+    };
     let mut told = Told::new(asked.key, item, item.unique, asked.moment);
     told.deadline = deadline;
     told.say_item(output, asked.flags, &lease)?;

@@ -62,7 +62,11 @@ impl<T: Shelf> Stock<T> {
         self.counters.up(Tally::CmdGet);
         if self.key.fill(key).is_ok() {
             let found = self.shelf.note_use(&self.key, moment);
-            self.counters.up(if found { Tally::GetHits } else { Tally::GetMisses });
+            self.counters.up(if found {
+                Tally::GetHits
+            } else {
+                Tally::GetMisses
+            });
         }
     }
 
@@ -162,5 +166,9 @@ fn say_one<T: Shelf>(
 
 /// Refuses a reply from `start` to `end` that is longer than it may be.
 fn check_size(start: usize, end: usize) -> Result<(), AllocError> {
-    if end.saturating_sub(start) > MAX_REPLY { Err(AllocError) } else { Ok(()) }
+    if end.saturating_sub(start) > MAX_REPLY {
+        Err(AllocError)
+    } else {
+        Ok(())
+    }
 }

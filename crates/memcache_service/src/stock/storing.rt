@@ -54,7 +54,15 @@ impl<T: Shelf> Stock<T> {
         self.counters.up(Tally::CmdSet);
         self.key.fill(key)?;
         let deadline = deadline_of(moment, exptime);
-        self.store_block(storage, Block { bytes, flags, deadline }, moment)
+        self.store_block(
+            storage,
+            Block {
+                bytes,
+                flags,
+                deadline,
+            },
+            moment,
+        )
     }
 
     /// Stores a block under the key that was named.
@@ -170,12 +178,7 @@ impl<T: Shelf> Stock<T> {
     }
 
     /// Stores the block if the live item has the unique.
-    fn compare(
-        &mut self,
-        unique: u64,
-        block: Block<'_>,
-        moment: u64,
-    ) -> Result<Reply, AllocError>
+    fn compare(&mut self, unique: u64, block: Block<'_>, moment: u64) -> Result<Reply, AllocError>
         requires { IsMoment (T.view self.old.shelf) moment }
         ensures ok { IfOk result (λ reply. Does T.view moment (store_over self.old.most
             (Storage.Cas unique) self.old.key (block_item block.entry)

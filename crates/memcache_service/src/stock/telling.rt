@@ -142,23 +142,23 @@ impl Lease {
 
 /// Writes a text, if it is to be written.
 fn say_if(output: &mut Vec<u8>, is_said: bool, text: &[u8]) -> Result<(), AllocError>
-        ensures { vec_capacity output.old ≤ vec_capacity output.new }
-    {
+    ensures { vec_capacity output.old ≤ vec_capacity output.new }
+{
     if is_said { say(output, text) } else { Ok(()) }
 }
 
 /// Writes a text and another.
 fn say_with(output: &mut Vec<u8>, first: &[u8], second: &[u8]) -> Result<(), AllocError>
-        ensures { vec_capacity output.old ≤ vec_capacity output.new }
-    {
+    ensures { vec_capacity output.old ≤ vec_capacity output.new }
+{
     say(output, first)?;
     say(output, second)
 }
 
 /// Writes a text and a number.
 fn say_count(output: &mut Vec<u8>, text: &[u8], number: u64) -> Result<(), AllocError>
-        ensures { vec_capacity output.old ≤ vec_capacity output.new }
-    {
+    ensures { vec_capacity output.old ≤ vec_capacity output.new }
+{
     say(output, text)?;
     say_number(output, number)
 }
@@ -170,8 +170,8 @@ pub fn say_alone(
     key: &[u8],
     flags: &[u8],
 ) -> Result<(), AllocError>
-        ensures { vec_capacity output.old ≤ vec_capacity output.new }
-    {
+    ensures { vec_capacity output.old ≤ vec_capacity output.new }
+{
     say(output, code)?;
     say_alone_words(output, key, flags)?;
     say(output, b"\r\n")
@@ -179,8 +179,8 @@ pub fn say_alone(
 
 /// Writes what the words of a request have told of no item.
 fn say_alone_words(output: &mut Vec<u8>, key: &[u8], flags: &[u8]) -> Result<(), AllocError>
-        ensures { vec_capacity output.old ≤ vec_capacity output.new }
-    {
+    ensures { vec_capacity output.old ≤ vec_capacity output.new }
+{
     let mut rest = flags;
     while let Some((word, more)) = next_token(rest) {
         say_alone_word(output, key, word)?;
@@ -191,8 +191,8 @@ fn say_alone_words(output: &mut Vec<u8>, key: &[u8], flags: &[u8]) -> Result<(),
 
 /// Writes what a word has told of no item.
 fn say_alone_word(output: &mut Vec<u8>, key: &[u8], word: &[u8]) -> Result<(), AllocError>
-        ensures { vec_capacity output.old ≤ vec_capacity output.new }
-    {
+    ensures { vec_capacity output.old ≤ vec_capacity output.new }
+{
     match letter_of(word) {
         b'k' => say_with(output, b" k", key),
         b'O' => say_with(output, b" ", word),
