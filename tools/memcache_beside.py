@@ -52,6 +52,11 @@ def block(draw):
     return bytes(draw.randrange(256) for _ in range(draw.choice([0, 1, 2, 3, 10, 100, 1000])))
 
 
+def timed_first(flags):
+    """The flags with `T` before all others: memcached reads them in their order."""
+    return sorted(flags, key=lambda flag: not flag.startswith(b"T"))
+
+
 def request(draw):
     key = draw.choice(KEYS)
     quiet = draw.choice([b"", b"", b"", b" noreply"])
@@ -82,7 +87,7 @@ def request(draw):
         return draw.choice([b"flush_all\r\n", b"version\r\n", b"verbosity 1\r\n", b"foo\r\n", b"\r\n", b"get\r\n", b"set a 0 0\r\n", b"incr a x\r\n", b"touch a x\r\n"])
     if verb < 17:
         flags = draw.sample([b"v", b"k", b"q", b"s", b"t", b"c", b"f", b"O12", b"N1000", b"R2000", b"T1500"], draw.randrange(6))
-        return b" ".join([b"mg", key] + flags) + b"\r\n"
+        return b" ".join([b"mg", key] + timed_first(flags)) + b"\r\n"
     if verb == 17:
         body = block(draw)
         flags = draw.sample([b"k", b"q", b"c", b"O12", b"T1500", b"F7", b"C%d" % draw.randrange(1, 300), b"I", draw.choice([b"MS", b"ME", b"MA", b"MP", b"MR"])], draw.randrange(5))
@@ -90,7 +95,8 @@ def request(draw):
     if verb == 18:
         flags = draw.sample([b"k", b"q", b"O12", b"T1500", b"C%d" % draw.randrange(1, 300), b"I"], draw.randrange(4))
         return b" ".join([b"md", key] + flags) + b"\r\n"
-    return b"ma u " + b" ".join(draw.sample([b"v", b"k", b"q", b"t", b"c", b"O12", b"N1000", b"J100", b"T1500"], draw.randrange(6))) + b"\r\n"
+    flags = draw.sample([b"v", b"k", b"q", b"t", b"c", b"O12", b"N1000", b"J100", b"T1500"], draw.randrange(6))
+    return b" ".join([b"ma", b"u"] + timed_first(flags)) + b"\r\n"
 
 
 def main():

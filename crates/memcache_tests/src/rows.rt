@@ -187,7 +187,7 @@ const MALFORMED: &[Row] = &[
     ),
     (
         0,
-        b"version\r\nverbosity 1\r\nverbosity\r\nverbosity 1 noreply\r\n",
+        b"version\r\nverbosity 1\r\nverbosity\r\nverbosity 1 noreply\r\nverbosity noreply\r\n",
         b"VERSION 1.6.18\r\nOK\r\nERROR\r\n",
     ),
     (0, b"quit\r\nget a\r\n", b""),
