@@ -1,4 +1,5 @@
 mod Answering
 mod Cutting
+mod Finding
 mod Keeping
 mod Parting
