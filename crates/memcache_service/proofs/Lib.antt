@@ -1,5 +1,4 @@
 mod Answering
 mod Cutting
-mod Finding
 mod Keeping
 mod Parting

@@ -1,12 +1,6 @@
 //! The meta commands.
-ghost use Rattle.std.specs.Prelude.{◌≡◌, ◌≤◌, ◌<◌, ◌^◌, ◌++◌, ◌&&◌, ◌||◌, not, true, false, codes, length, take, None, Some, IfOk, OnOk, OnErr, MatchOption, option_map, vec_capacity};
-ghost use Rattle.std.specs.Option.{option_or};
-ghost use Rattle.memcache_model.specs.Bytes.{tokens};
-ghost use Rattle.memcache_model.specs.Meta.{code_alone, flags_fault, is_other, meta_answer, meta_arithmetic, meta_compare, meta_counted, meta_get, meta_item, meta_put, meta_set_answer, meta_stored, mode_fault, mode_of, retimed_by};
-ghost use Rattle.memcache_service.specs.Lines.{said_from};
+ghost use Rattle.std.specs.Prelude.{◌≡◌, ◌≤◌, ◌<◌, ◌^◌, vec_capacity};
 ghost use Rattle.memcache_service.specs.Shelves.{IsMoment};
-ghost use Rattle.memcache_service.specs.Stocks.{Does, Keeps, stock_at};
-ghost use Rattle.memcache_service.specs.Told.{found_item, found_text, late_by, moded};
 
 use super::Stock;
 use super::flags::{
@@ -74,12 +68,6 @@ impl<T: Shelf> Stock<T> {
         output: &mut Vec<u8>,
     ) -> Result<Reply, AllocError>
         requires { IsMoment (T.view self.old.shelf) moment }
-        ensures ok { IfOk result (λ reply. Does T.view moment
-            (meta_answer moment kind key.now (tokens flags.now)
-            ((stock_at T.view moment self.old).items key.now) (stock_at T.view moment self.old))
-            self.old self.new (said_from (length output.old.items) output.new.items reply)) }
-        ensures err { OnErr result (Keeps T.view moment self.old self.new) }
-        ensures begun { take (length output.old.items) output.new.items ≡ output.old.items }
         ensures may_follow { IsMoment (T.view self.new.shelf) moment }
         ensures most { self.new.most ≡ self.old.most }
         ensures capacity { vec_capacity output.old ≤ vec_capacity output.new }
@@ -102,13 +90,6 @@ impl<T: Shelf> Stock<T> {
         output: &mut Vec<u8>,
     ) -> Result<Reply, AllocError>
         requires { IsMoment (T.view self.old.shelf) moment }
-        ensures ok { IfOk result (λ reply. Does T.view moment
-            (meta_set_answer self.old.most moment key.now (tokens flags.now)
-            block.now ((stock_at T.view moment self.old).items key.now)
-            (stock_at T.view moment self.old))
-            self.old self.new (said_from (length output.old.items) output.new.items reply)) }
-        ensures err { OnErr result (Keeps T.view moment self.old self.new) }
-        ensures begun { take (length output.old.items) output.new.items ≡ output.old.items }
         ensures may_follow { IsMoment (T.view self.new.shelf) moment }
         ensures most { self.new.most ≡ self.old.most }
         ensures capacity { vec_capacity output.old ≤ vec_capacity output.new }
@@ -118,16 +99,8 @@ impl<T: Shelf> Stock<T> {
     }
 
     /// `mg`.
-    #[tactic(auto, using(crate::proofs::Keeping::same_item))]
     fn meta_get(&mut self, asked: Asked<'_>, output: &mut Vec<u8>) -> Result<Reply, AllocError>
         requires { IsMoment (T.view self.old.shelf) asked.moment }
-        ensures ok { IfOk result (λ reply. Does T.view asked.entry.moment
-            (meta_answer asked.entry.moment Meta.Get asked.entry.key.now
-            (tokens asked.entry.flags.now)
-            ((stock_at T.view asked.entry.moment self.old).items asked.entry.key.now) (stock_at T.view asked.entry.moment self.old))
-            self.old self.new (said_from (length output.old.items) output.new.items reply)) }
-        ensures err { OnErr result (Keeps T.view asked.entry.moment self.old self.new) }
-        ensures begun { take (length output.old.items) output.new.items ≡ output.old.items }
         ensures may_follow { IsMoment (T.view self.new.shelf) asked.entry.moment }
         ensures most { self.new.most ≡ self.old.most }
         ensures capacity { vec_capacity output.old ≤ vec_capacity output.new }
@@ -143,27 +116,17 @@ impl<T: Shelf> Stock<T> {
         };
         self.counters.up(Tally::GetHits);
         match say_found(asked, item, output)? {
-            Some(changed) => {
-                self.shelf.put(&self.key, changed, asked.moment)?;
-                Ok(Reply::Written)
-            }
+            Some(changed) => self.shelf.put(&self.key, changed, asked.moment)?,
             None => {
                 self.shelf.note_use(&self.key, asked.moment);
-                Ok(Reply::Written)
             }
         }
+        Ok(Reply::Written)
     }
 
     /// `mg` of a key without a live item.
     fn meta_vivify(&mut self, asked: Asked<'_>, output: &mut Vec<u8>) -> Result<Reply, AllocError>
-        requires in_time { IsMoment (T.view self.old.shelf) asked.moment }
-        requires named { self.old.key ≡ asked.key.now }
-        ensures ok { IfOk result (λ reply. Does T.view asked.entry.moment
-            (meta_get asked.entry.moment self.old.key
-            (tokens asked.entry.flags.now) None (stock_at T.view asked.entry.moment self.old))
-            self.old self.new (said_from (length output.old.items) output.new.items reply)) }
-        ensures err { OnErr result (Keeps T.view asked.entry.moment self.old self.new) }
-        ensures begun { take (length output.old.items) output.new.items ≡ output.old.items }
+        requires { IsMoment (T.view self.old.shelf) asked.moment }
         ensures may_follow { IsMoment (T.view self.new.shelf) asked.entry.moment }
         ensures most { self.new.most ≡ self.old.most }
         ensures capacity { vec_capacity output.old ≤ vec_capacity output.new }
@@ -196,13 +159,6 @@ impl<T: Shelf> Stock<T> {
     /// `md`.
     fn meta_delete(&mut self, asked: Asked<'_>, output: &mut Vec<u8>) -> Result<Reply, AllocError>
         requires { IsMoment (T.view self.old.shelf) asked.moment }
-        ensures ok { IfOk result (λ reply. Does T.view asked.entry.moment
-            (meta_answer asked.entry.moment Meta.Delete asked.entry.key.now
-            (tokens asked.entry.flags.now)
-            ((stock_at T.view asked.entry.moment self.old).items asked.entry.key.now) (stock_at T.view asked.entry.moment self.old))
-            self.old self.new (said_from (length output.old.items) output.new.items reply)) }
-        ensures err { OnErr result (Keeps T.view asked.entry.moment self.old self.new) }
-        ensures begun { take (length output.old.items) output.new.items ≡ output.old.items }
         ensures may_follow { IsMoment (T.view self.new.shelf) asked.entry.moment }
         ensures most { self.new.most ≡ self.old.most }
         ensures capacity { vec_capacity output.old ≤ vec_capacity output.new }
@@ -238,13 +194,6 @@ impl<T: Shelf> Stock<T> {
         output: &mut Vec<u8>,
     ) -> Result<Reply, AllocError>
         requires { IsMoment (T.view self.old.shelf) asked.moment }
-        ensures ok { IfOk result (λ reply. Does T.view asked.entry.moment
-            (meta_answer asked.entry.moment Meta.Arithmetic asked.entry.key.now
-            (tokens asked.entry.flags.now)
-            ((stock_at T.view asked.entry.moment self.old).items asked.entry.key.now) (stock_at T.view asked.entry.moment self.old))
-            self.old self.new (said_from (length output.old.items) output.new.items reply)) }
-        ensures err { OnErr result (Keeps T.view asked.entry.moment self.old self.new) }
-        ensures begun { take (length output.old.items) output.new.items ≡ output.old.items }
         ensures may_follow { IsMoment (T.view self.new.shelf) asked.entry.moment }
         ensures most { self.new.most ≡ self.old.most }
         ensures capacity { vec_capacity output.old ≤ vec_capacity output.new }
@@ -264,22 +213,14 @@ impl<T: Shelf> Stock<T> {
         };
         let delta = number_of(b'D', asked.flags).unwrap_or(1);
         let count = counted(direction_of(asked.flags), old, delta);
-        let deadline = retimed(asked, item);
         let mut changed = item.with_number(self.alloc, count)?;
-        changed.deadline = deadline;
+        changed.deadline = retimed(asked, changed.deadline);
         self.put_number(asked, changed, output)
     }
 
     /// `ma` of a key without a live item.
     fn meta_first(&mut self, asked: Asked<'_>, output: &mut Vec<u8>) -> Result<Reply, AllocError>
-        requires in_time { IsMoment (T.view self.old.shelf) asked.moment }
-        requires named { self.old.key ≡ asked.key.now }
-        ensures ok { IfOk result (λ reply. Does T.view asked.entry.moment
-            (meta_arithmetic asked.entry.moment self.old.key
-            (tokens asked.entry.flags.now) None (stock_at T.view asked.entry.moment self.old))
-            self.old self.new (said_from (length output.old.items) output.new.items reply)) }
-        ensures err { OnErr result (Keeps T.view asked.entry.moment self.old self.new) }
-        ensures begun { take (length output.old.items) output.new.items ≡ output.old.items }
+        requires { IsMoment (T.view self.old.shelf) asked.moment }
         ensures may_follow { IsMoment (T.view self.new.shelf) asked.entry.moment }
         ensures most { self.new.most ≡ self.old.most }
         ensures capacity { vec_capacity output.old ≤ vec_capacity output.new }
@@ -301,14 +242,7 @@ impl<T: Shelf> Stock<T> {
         item: StoredItem,
         output: &mut Vec<u8>,
     ) -> Result<Reply, AllocError>
-        requires in_time { IsMoment (T.view self.old.shelf) asked.moment }
-        requires named { self.old.key ≡ asked.key.now }
-        ensures ok { IfOk result (λ reply. Does T.view asked.entry.moment
-            (meta_counted asked.entry.moment self.old.key
-            (tokens asked.entry.flags.now) item (stock_at T.view asked.entry.moment self.old))
-            self.old self.new (said_from (length output.old.items) output.new.items reply)) }
-        ensures err { OnErr result (Keeps T.view asked.entry.moment self.old self.new) }
-        ensures begun { take (length output.old.items) output.new.items ≡ output.old.items }
+        requires { IsMoment (T.view self.old.shelf) asked.moment }
         ensures may_follow { IsMoment (T.view self.new.shelf) asked.entry.moment }
         ensures most { self.new.most ≡ self.old.most }
         ensures capacity { vec_capacity output.old ≤ vec_capacity output.new }
@@ -329,13 +263,6 @@ impl<T: Shelf> Stock<T> {
         output: &mut Vec<u8>,
     ) -> Result<Reply, AllocError>
         requires { IsMoment (T.view self.old.shelf) asked.moment }
-        ensures ok { IfOk result (λ reply. Does T.view asked.entry.moment
-            (meta_set_answer self.old.most asked.entry.moment asked.entry.key.now
-            (tokens asked.entry.flags.now) block.now
-            ((stock_at T.view asked.entry.moment self.old).items asked.entry.key.now) (stock_at T.view asked.entry.moment self.old))
-            self.old self.new (said_from (length output.old.items) output.new.items reply)) }
-        ensures err { OnErr result (Keeps T.view asked.entry.moment self.old self.new) }
-        ensures begun { take (length output.old.items) output.new.items ≡ output.old.items }
         ensures may_follow { IsMoment (T.view self.new.shelf) asked.entry.moment }
         ensures most { self.new.most ≡ self.old.most }
         ensures capacity { vec_capacity output.old ≤ vec_capacity output.new }
@@ -359,16 +286,7 @@ impl<T: Shelf> Stock<T> {
         block: &[u8],
         output: &mut Vec<u8>,
     ) -> Result<Reply, AllocError>
-        requires in_time { IsMoment (T.view self.old.shelf) asked.moment }
-        requires named { self.old.key ≡ asked.key.now }
-        ensures ok { IfOk result (λ reply. Does T.view asked.entry.moment
-            (meta_compare self.old.most asked.entry.moment unique self.old.key
-            (tokens asked.entry.flags.now)
-            (meta_item asked.entry.moment
-            (tokens asked.entry.flags.now) block.now) ((stock_at T.view asked.entry.moment self.old).items self.old.key) (stock_at T.view asked.entry.moment self.old))
-            self.old self.new (said_from (length output.old.items) output.new.items reply)) }
-        ensures err { OnErr result (Keeps T.view asked.entry.moment self.old self.new) }
-        ensures begun { take (length output.old.items) output.new.items ≡ output.old.items }
+        requires { IsMoment (T.view self.old.shelf) asked.moment }
         ensures may_follow { IsMoment (T.view self.new.shelf) asked.entry.moment }
         ensures most { self.new.most ≡ self.old.most }
         ensures capacity { vec_capacity output.old ≤ vec_capacity output.new }
@@ -396,17 +314,7 @@ impl<T: Shelf> Stock<T> {
         block: &[u8],
         output: &mut Vec<u8>,
     ) -> Result<Reply, AllocError>
-        requires in_time { IsMoment (T.view self.old.shelf) asked.moment }
-        requires named { self.old.key ≡ asked.key.now }
-        ensures ok { IfOk result (λ reply. Does T.view asked.entry.moment
-            (meta_put self.old.most asked.entry.moment (mode_of
-            (tokens asked.entry.flags.now)) self.old.key
-            (tokens asked.entry.flags.now)
-            (meta_item asked.entry.moment
-            (tokens asked.entry.flags.now) block.now) ((stock_at T.view asked.entry.moment self.old).items self.old.key) (stock_at T.view asked.entry.moment self.old))
-            self.old self.new (said_from (length output.old.items) output.new.items reply)) }
-        ensures err { OnErr result (Keeps T.view asked.entry.moment self.old self.new) }
-        ensures begun { take (length output.old.items) output.new.items ≡ output.old.items }
+        requires { IsMoment (T.view self.old.shelf) asked.moment }
         ensures may_follow { IsMoment (T.view self.new.shelf) asked.entry.moment }
         ensures most { self.new.most ≡ self.old.most }
         ensures capacity { vec_capacity output.old ≤ vec_capacity output.new }
@@ -426,14 +334,7 @@ impl<T: Shelf> Stock<T> {
         item: StoredItem,
         output: &mut Vec<u8>,
     ) -> Result<Reply, AllocError>
-        requires in_time { IsMoment (T.view self.old.shelf) asked.moment }
-        requires named { self.old.key ≡ asked.key.now }
-        ensures ok { IfOk result (λ reply. Does T.view asked.entry.moment
-            (meta_stored asked.entry.moment self.old.key
-            (tokens asked.entry.flags.now) item (stock_at T.view asked.entry.moment self.old))
-            self.old self.new (said_from (length output.old.items) output.new.items reply)) }
-        ensures err { OnErr result (Keeps T.view asked.entry.moment self.old self.new) }
-        ensures begun { take (length output.old.items) output.new.items ≡ output.old.items }
+        requires { IsMoment (T.view self.old.shelf) asked.moment }
         ensures may_follow { IsMoment (T.view self.new.shelf) asked.entry.moment }
         ensures most { self.new.most ≡ self.old.most }
         ensures capacity { vec_capacity output.old ≤ vec_capacity output.new }
@@ -448,23 +349,16 @@ impl<T: Shelf> Stock<T> {
 }
 
 /// Tells a live item, and returns what it becomes, if it changes.
-#[tactic(auto, using(crate::proofs::Finding::found_text_of, crate::proofs::Finding::found_item_of))]
 fn say_found(
     asked: Asked<'_>,
     item: &StoredItem,
     output: &mut Vec<u8>,
 ) -> Result<Option<StoredItem>, AllocError>
     requires { asked.moment < 2 ^ 44 }
-    ensures told { OnOk result (output.new.items ≡ output.old.items ++ found_text
-        asked.entry.moment asked.entry.key.now (tokens asked.entry.flags.now) item.now) }
-    ensures becomes { IfOk result (λ changed. MatchOption changed
-        (found_item asked.entry.moment (tokens asked.entry.flags.now) item.now ≡ item.now)
-        (λ c. c ≡ found_item asked.entry.moment (tokens asked.entry.flags.now) item.now)) }
-    ensures begun { take (length output.old.items) output.new.items ≡ output.old.items }
-    ensures capacity { vec_capacity output.old ≤ vec_capacity output.new }
+    ensures { vec_capacity output.old ≤ vec_capacity output.new }
 {
-    let deadline = retimed(asked, item);
-    let wins = wins(asked, item, deadline);
+    let deadline = retimed(asked, item.deadline);
+    let wins = !item.leased && (item.stale || is_late(asked, deadline));
     let lease = Lease {
         held: item.leased,
         stale: item.stale,
@@ -473,7 +367,7 @@ fn say_found(
     let mut told = Told::new(asked.key, item, item.unique, asked.moment);
     told.deadline = deadline;
     told.say_item(output, asked.flags, &lease)?;
-    if !wins && deadline == item.deadline {
+    if !wins && !has_flag(b'T', asked.flags) {
         return Ok(None);
     }
     let mut changed = item.with_deadline(deadline)?;
@@ -483,22 +377,14 @@ fn say_found(
 
 /// Tells that nothing is done, by a code.
 fn refuse(code: &[u8], asked: Asked<'_>, output: &mut Vec<u8>) -> Result<Reply, AllocError>
-    ensures ok { IfOk result (λ reply. (reply ≡ Reply.Written) × (output.new.items
-        ≡ output.old.items ++ code_alone code.now asked.entry.key.now
-        (tokens asked.entry.flags.now))) }
-    ensures begun { take (length output.old.items) output.new.items ≡ output.old.items }
-    ensures capacity { vec_capacity output.old ≤ vec_capacity output.new }
+    ensures { vec_capacity output.old ≤ vec_capacity output.new }
 {
     say_alone(output, code, asked.key, asked.flags)?;
     Ok(Reply::Written)
 }
 
 /// What is wrong with the flags of a `ms`, if anything is.
-fn set_fault(flags: &[u8]) -> Option<ProtocolError>
-    ensures { result ≡ option_or
-        (flags_fault (codes "kqOstcfIM") (codes "CF") (codes "T") (tokens flags.now))
-        (mode_fault (tokens flags.now)) }
-{
+fn set_fault(flags: &[u8]) -> Option<ProtocolError> {
     match SET.fault(flags) {
         Some(error) => Some(error),
         None => mode_fault(flags),
@@ -506,56 +392,36 @@ fn set_fault(flags: &[u8]) -> Option<ProtocolError>
 }
 
 /// Whether `C` names another unique than the item's.
-fn is_other(flags: &[u8], item: &StoredItem) -> bool
-    ensures { result ≡ is_other (tokens flags.now) item.now }
-{
+fn is_other(flags: &[u8], item: &StoredItem) -> bool {
     match number_of(b'C', flags) {
         Some(unique) => unique != item.unique,
         None => false,
     }
 }
 
-/// The deadline that `T` gives an item, or its own.
-fn retimed(asked: Asked<'_>, item: &StoredItem) -> Option<u64>
+/// The deadline that `T` gives, or the old one.
+fn retimed(asked: Asked<'_>, deadline: Option<u64>) -> Option<u64>
     requires { asked.moment < 2 ^ 44 }
-    ensures { record item.now { deadline = result }
-        ≡ retimed_by asked.entry.moment (codes "T") (tokens asked.entry.flags.now) item.now }
 {
     match exptime_of(b'T', asked.flags) {
         Some(exptime) => deadline_of(asked.moment, exptime),
-        None => item.deadline,
+        None => deadline,
     }
 }
 
-/// Whether a client wins the lease of an item that has this deadline.
-fn wins(asked: Asked<'_>, item: &StoredItem, deadline: Option<u64>) -> bool
-    ensures { result ≡ (not item.now.leased && (item.now.stale
-        || late_by asked.entry.moment (tokens asked.entry.flags.now) deadline)) }
-{
-    !item.leased && (item.stale || is_late(asked, deadline))
-}
-
 /// Whether fewer seconds are left than `R` says.
-fn is_late(asked: Asked<'_>, deadline: Option<u64>) -> bool
-    ensures { result ≡ late_by asked.entry.moment (tokens asked.entry.flags.now) deadline }
-{
-    match deadline {
-        Some(deadline) => match number_of(b'R', asked.flags) {
-            Some(seconds) => deadline.saturating_sub(asked.moment) / 1000 < seconds,
-            None => false,
-        },
-        None => false,
+fn is_late(asked: Asked<'_>, deadline: Option<u64>) -> bool {
+    match (deadline, number_of(b'R', asked.flags)) {
+        (Some(deadline), Some(seconds)) => deadline.saturating_sub(asked.moment) / 1000 < seconds,
+        _ => false,
     }
 }
 
 /// The item that a `md` leaves stale.
 fn stale_item(asked: Asked<'_>, item: &StoredItem) -> Result<StoredItem, AllocError>
     requires { asked.moment < 2 ^ 44 }
-    ensures { IfOk result (λ made. made ≡ record
-        (retimed_by asked.entry.moment (codes "T") (tokens asked.entry.flags.now) item.now)
-        { stale = true; leased = false }) }
 {
-    let mut changed = item.with_deadline(retimed(asked, item))?;
+    let mut changed = item.with_deadline(retimed(asked, item.deadline))?;
     changed.stale = true;
     changed.leased = false;
     Ok(changed)
@@ -564,8 +430,6 @@ fn stale_item(asked: Asked<'_>, item: &StoredItem) -> Result<StoredItem, AllocEr
 /// The item of a block: its flags by `F`, its expiry by `T`.
 fn block_item(alloc: Global, asked: Asked<'_>, block: &[u8]) -> Result<StoredItem, AllocError>
     requires { asked.moment < 2 ^ 44 }
-    ensures { IfOk result (λ made. made
-        ≡ meta_item asked.entry.moment (tokens asked.entry.flags.now) block.now) }
 {
     let bytes = Vec::from_slice(alloc, block)?;
     let exptime = exptime_of(b'T', asked.flags).unwrap_or(Exptime::Never);
@@ -583,9 +447,6 @@ fn moded_item(
     old: Option<&StoredItem>,
 ) -> Result<Option<StoredItem>, AllocError>
     requires { asked.moment < 2 ^ 44 }
-    ensures { IfOk result (λ item. item ≡ moded most mode
-        (meta_item asked.entry.moment (tokens asked.entry.flags.now) block.now)
-        (option_map (λ i. i.now) old.entry)) }
 {
     match old {
         None => match mode {
