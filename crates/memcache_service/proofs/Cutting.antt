@@ -1,12 +1,12 @@
 -- Requests served of some bytes, and of more bytes.
-use Rattle.std.proofs.Common.{◌≡◌, ℕ, ◌-◌, ◌≤◌, ◌⊎◌, ⊎_elim, inl, inr, List, [], ◌++◌, length, drop, sym, ap, subst, ◌∙◌, refl, arith}
+use Rattle.std.proofs.Common.{◌≡◌, ℕ, ◌-◌, ◌≤◌, ◌⊎◌, ⊎_elim, inl, inr, List, [], ◌++◌, length, drop, ap, subst, refl, arith}
 use Rattle.std.proofs.lemmas.Bool.{cases_lt}
 use Rattle.std.proofs.lemmas.List.{drop-append-le, length-append}
 use Rattle.std.proofs.Math.ListN.{drop_of_length-le}
 use Rattle.memcache_model.proofs.Fronts.{cuts}
 use Rattle.memcache_model.specs.Commands.{Request}
 use Rattle.memcache_model.specs.Grammar.{arrived, part, request}
-use Rattle.memcache_service.specs.Serving.{AreServed, IsServed, no_more, one_more}
+use Rattle.memcache_service.specs.Serving.{AreServed, no_more, one_more}
 use Rattle.memcache_service.specs.Shelves.{Shelved}
 use Rattle.memcache_service.specs.declared.stock.Stock.{Stock}
 

@@ -1,22 +1,9 @@
--- What calls one after the other leave.
-use Rattle.std.proofs.Common.{◌≡◌, ℕ, ◌⊎◌, ⊎_elim, inl, inr, ◌∙◌, List, None, Result, Ok, Err, IfOk, OnErr}
-use Rattle.memcache_model.specs.Items as model
-use Rattle.memcache_service.specs.Shelves.{IsMoment, Shelved}
-use Rattle.memcache_service.specs.Stocks.{Does, Keeps, Leaves}
+-- What a call leaves that did what it was to do, or was refused.
+use Rattle.std.proofs.Common.{◌≡◌, ℕ, List, Result, Ok, Err, IfOk, OnErr}
 use Rattle.memcache_model.specs.Outcomes.{Outcome}
+use Rattle.memcache_service.specs.Shelves.{IsMoment, Shelved}
+use Rattle.memcache_service.specs.Stocks.{Does, Keeps}
 use Rattle.memcache_service.specs.declared.stock.Stock.{Stock}
-
--- a call that keeps what one before it left
-pub leaves-keeps : {T : Type 0} (view : T → Shelved) (moment : ℕ) (all : model.Stock) (a b c : Stock T) → Leaves view moment all a b → Keeps view moment b c → Leaves view moment all a c
-leaves-keeps view moment all a b c left kept = record {
-  items = λ key. ⊎_elim
-      (λ same. ⊎_elim (λ was. inl (same ∙ was)) (λ none. inr (same ∙ none)) (left.items key))
-      (λ none. inr none) (kept.items key);
-  uniques = kept.uniques ∙ left.uniques;
-  flush = kept.flush ∙ left.flush;
-  may_follow = kept.may_follow;
-  most = kept.most ∙ left.most;
-}
 
 -- a call may follow at the moment of one that did what it was to do, or was refused
 pub may_follow : {T X E : Type 0} (view : T → Shelved) (moment : ℕ) (outcome : Outcome) (text : X → List ℕ) (old new : Stock T) (r : Result X E) → IfOk r (λ x. Does view moment outcome old new (text x)) → OnErr r (Keeps view moment old new) → IsMoment (view new.shelf) moment

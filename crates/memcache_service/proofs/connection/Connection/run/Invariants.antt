@@ -1,4 +1,4 @@
-use Rattle.std.proofs.Common.{◌≡◌, ℕ, ◌-◌, ◌≤◌, false, length, drop}
+use Rattle.std.proofs.Common.{◌≡◌, ◌-◌, ◌≤◌, false, length, drop}
 use Rattle.memcache_service.specs.Serving.{AreServed}
 use Rattle.memcache_service.specs.Shelves.{IsMoment}
 use Rattle.memcache_service.proofs.connection.Connection.run.Given as goal
