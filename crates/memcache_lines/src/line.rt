@@ -415,10 +415,13 @@ fn flush<'a>(exptime: Exptime, quiet: bool) -> Line<'a>
 fn read_verbosity<'a>(rest: &'a [u8]) -> Line<'a>
     ensures { says result ≡ read_verbosity (tokens rest.now) }
 {
-    let Some((_, rest)) = next_token(rest) else {
+    let Some((level, more)) = next_token(rest) else {
         return fault(ProtocolError::Unknown);
     };
-    match read_quiet(rest) {
+    if !has_token(more) {
+        return all_of(Command::Verbosity, is_noreply(level));
+    }
+    match read_quiet(more) {
         Some(quiet) => all_of(Command::Verbosity, quiet),
         None => fault(ProtocolError::Unknown),
     }

@@ -181,10 +181,12 @@ abbrev pub verbosity_by : Option Bool → Reading
 verbosity_by None = faulty fault.Unknown
 verbosity_by (Some quiet) = whole verbosity quiet
 
--- its words
+-- its words: `noreply` may stand in place of the level
 abbrev pub read_verbosity : List (List ℕ) → Reading
 read_verbosity [] = faulty fault.Unknown
-read_verbosity (level ∷ more) = verbosity_by (quiet_in more)
+read_verbosity (level ∷ more) =
+    if is_filled more then verbosity_by (quiet_in more)
+    else whole verbosity (same level (codes "noreply"))
 
 -- a meta command on a key, with its flags
 abbrev pub read_meta : Meta → List (List ℕ) → Reading

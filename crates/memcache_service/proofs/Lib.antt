@@ -1,0 +1,4 @@
+mod Answering
+mod Cutting
+mod Keeping
+mod Parting

@@ -1,0 +1,34 @@
+-- The requests of a connection's bytes, served one after the other.
+use Rattle.std.specs.Prelude.{◌≡◌, ℕ, ◌-◌, true, List, ◌++◌, length, drop}
+use Rattle.memcache_model.specs.Answers.{Service, answer}
+use Rattle.memcache_model.specs.Commands.{Request}
+use Rattle.memcache_model.specs.Grammar.{arrived, request}
+use Rattle.memcache_model.specs.Items.{live_at}
+use Rattle.memcache_service.specs.Shelves.{Shelved}
+use Rattle.memcache_service.specs.Stocks.{Serves, is_plain, kept}
+use Rattle.memcache_service.specs.declared.stock.Stock.{Stock}
+
+module _ {T : Type 0} (view : T → Shelved) (moment : ℕ) where
+  -- a plain request is served as the definitions say, behind a flush that was due
+  abbrev pub IsServed : Request → (old new : Stock T) → (before after : List ℕ) → Type 0
+  IsServed r old new before after =
+      (service : Service) → service.most ≡ old.most → is_plain r.command ≡ true
+      → let all = live_at moment (kept view old) in
+      Serves view moment all (answer service moment r.command all) r.quiet old new before after
+
+  -- Requests were served, each that at the front of what the one before it left of the bytes, and their replies stand behind what stood
+  -- before them. What is left of the bytes, and how many bytes to come belong to the last request
+  pub data AreServed (most : ℕ) (first : Stock T) (bytes : List ℕ) (skipped : ℕ)
+      (before : List ℕ) : Stock T → (left : List ℕ) → (skip : ℕ) → (after : List ℕ) → Type 0 where
+    no_more : AreServed most first bytes skipped before first bytes skipped before
+    one_more : (mid new : Stock T) (r : Request) (used skip : ℕ) (left between after : List ℕ)
+        → AreServed most first bytes skipped before mid left skip between
+        → arrived most left ≡ request r used → IsServed r mid new between after
+        → AreServed most first bytes skipped before new (drop used left) (used - length left) after
+
+-- requests that were served of bytes are served alike with more bytes behind them
+abbrev pub AreServedAlike : {T : Type 0} → (view : T → Shelved) → Type 0
+AreServedAlike {T} view =
+    (moment most : ℕ) (first new : Stock T) (bytes more left before after : List ℕ)
+    → AreServed view moment most first bytes 0 before new left 0 after
+    → AreServed view moment most first (bytes ++ more) 0 before new (left ++ more) 0 after

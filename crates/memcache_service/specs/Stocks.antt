@@ -1,0 +1,101 @@
+-- What a stock stands for, and what a command does to it.
+use Rattle.std.specs.Prelude.{◌≡◌, ℕ, ◌⊎◌, Bool, true, false, List, [], ◌++◌, length, take, if◌then◌else◌, Option, Some, None, codes}
+use Rattle.memcache_model.specs.Commands.{Command, get, gat, stats, meta, meta_set}
+use Rattle.memcache_model.specs.Items as model
+use Rattle.memcache_model.specs.Items.{Item}
+use Rattle.memcache_model.specs.Outcomes.{Outcome, new_item, says, stores}
+use Rattle.memcache_service.specs.Lines.{reply_text, said_from}
+use Rattle.memcache_service.specs.declared.replies.Reply.{Reply}
+use Rattle.memcache_service.specs.declared.replies.Reply.TheVariants.{NoMemory, NoRoom}
+use Rattle.memcache_service.specs.Shelves.{IsMoment, Shelved, live_on}
+use Rattle.memcache_service.specs.declared.stock.Stock.{Stock}
+use Rattle.memcache_service.specs.declared.stock.storing.Block.{Block}
+
+-- the reply of a command is one line, and it has no flags
+abbrev pub is_short : Command → Bool
+is_short (get uniques keys) = false
+is_short (gat uniques exptime keys) = false
+is_short (stats words) = false
+is_short (meta kind key flags) = false
+is_short (meta_set key flags block) = false
+is_short command = true
+
+-- the same, or it is a `get`
+abbrev pub is_plain : Command → Bool
+is_plain (get uniques keys) = true
+is_plain command = is_short command
+
+-- what is replied where memory is lacking
+abbrev pub IsRefusal : List ℕ → Type 0
+IsRefusal text = (text ≡ reply_text NoMemory) ⊎ (text ≡ reply_text NoRoom)
+
+-- the item of a block
+abbrev pub block_item : Block → Item
+block_item block = new_item block.bytes.now block.flags block.deadline
+
+-- an item with more bytes is stored, if it may have them
+abbrev pub joins : List ℕ → Option Item → model.Stock → Outcome
+joins key None stock = says (codes "NOT_STORED\r\n") stock
+joins key (Some item) stock = stores (codes "STORED\r\n") key item stock
+
+module _ {T : Type 0} (view : T → Shelved) where
+  -- what it stands for at a moment, if no flush is due
+  abbrev pub stock_at : ℕ → Stock T → model.Stock
+  stock_at moment stock = record {
+    items = live_on (view stock.shelf) moment;
+    uniques = stock.uniques;
+    flush = stock.flush;
+  }
+
+  -- a call at a moment leaves all of this, but for items that left by themselves
+  pub record Leaves (moment : ℕ) (all : model.Stock) (old new : Stock T) : Type 0 where
+    pub items : (key : List ℕ) → ((stock_at moment new).items key ≡ all.items key)
+        ⊎ ((stock_at moment new).items key ≡ None)
+    pub uniques : new.uniques ≡ all.uniques
+    pub flush : new.flush ≡ all.flush
+    pub may_follow : IsMoment (view new.shelf) moment
+    pub most : new.most ≡ old.most
+
+  -- it changes nothing else
+  abbrev pub Keeps : ℕ → (old new : Stock T) → Type 0
+  Keeps moment old new = Leaves moment (stock_at moment old) old new
+
+  -- a command at a moment said this, and had this outcome
+  pub record Does (moment : ℕ) (outcome : Outcome) (old new : Stock T) (text : List ℕ) : Type 0
+    where
+      pub said : text ≡ outcome.reply
+      pub leaves : Leaves moment outcome.stock old new
+
+  -- what it has, live or not
+  abbrev pub kept : Stock T → model.Stock
+  kept stock = record {
+    items = (view stock.shelf).items;
+    uniques = stock.uniques;
+    flush = stock.flush;
+  }
+
+  -- there was no memory for a command, and it changed nothing of what there was
+  pub record Refuses (moment : ℕ) (all : model.Stock) (old new : Stock T) (text : List ℕ) : Type 0
+    where
+      pub says : IsRefusal text
+      pub keeps : Leaves moment all old new
+
+  -- a command did what it was to do, or was refused
+  abbrev pub DoesIfRoom : ℕ → (all : model.Stock) → Outcome → (old new : Stock T)
+      → (text : List ℕ) → Type 0
+  DoesIfRoom moment all outcome old new text =
+      Does moment outcome old new text ⊎ Refuses moment all old new text
+
+  -- the same, by what stood before its reply, what stands there then, and the reply that was returned
+  pub record Answers (moment : ℕ) (outcome : Outcome) (old new : Stock T) (before after : List ℕ)
+      (reply : Reply) : Type 0 where
+    pub begun : take (length before) after ≡ before
+    pub does : DoesIfRoom moment (stock_at moment old) outcome old new
+        (said_from (length before) after reply)
+
+  -- a request wrote its reply behind what stood there, unless it is quiet
+  pub record Serves (moment : ℕ) (all : model.Stock) (outcome : Outcome) (quiet : Bool)
+      (old new : Stock T) (before after : List ℕ) : Type 0 where
+    pub text : List ℕ
+    pub written : after ≡ before ++ (if quiet then [] else text)
+    pub does : DoesIfRoom moment all outcome old new text

@@ -1,0 +1,218 @@
+//! A connection: the bytes that no request has used, and the replies that were not taken.
+ghost use Rattle.std.specs.Prelude.{◌≡◌, ◌≤◌, ◌-◌, ◌++◌, true, false, drop, length, vec_len};
+ghost use Rattle.memcache_lines.specs.Said.{asks};
+ghost use Rattle.memcache_service.specs.Serving.{AreServed, IsServed};
+ghost use Rattle.memcache_service.specs.Shelves.{IsMoment};
+
+use crate::shelf::Shelf;
+use crate::stock::Stock;
+use memcache_lines::{Arrived, Command, Request, read_request};
+use memcache_model::ProtocolError;
+use std::alloc::{AllocError, Global};
+use std::mem;
+
+/// While this many bytes of replies were not taken, no further request runs.
+const MAX_OUTPUT: usize = 1 << 20;
+
+/// Memory beyond this many bytes is given back once a connection has used it.
+const KEPT: usize = 1 << 16;
+
+/// The bytes that no request has used, and the replies that were not taken.
+#[derive(Drop)]
+pub struct Connection {
+    alloc: Global,
+    input: Vec<u8>,
+    // how many bytes to come belong to a data block that is passed over
+    skip: usize,
+    output: Vec<u8>,
+    is_closed: bool,
+}
+
+impl Connection {
+    /// A new one, which takes no memory.
+    pub fn new(alloc: Global) -> Connection {
+        Connection {
+            alloc,
+            input: Vec::new(alloc),
+            skip: 0,
+            output: Vec::new(alloc),
+            is_closed: false,
+        }
+    }
+
+    /// Whether no further request runs: the client has quit, a line was too long, or there was no memory.
+    pub fn is_closed(&self) -> bool {
+        self.is_closed
+    }
+
+    /// Whether replies have to be taken before further requests run.
+    pub fn is_full(&self) -> bool {
+        self.output.len() >= MAX_OUTPUT
+    }
+
+    /// The replies that were not taken.
+    pub fn output(&self) -> &[u8] {
+        self.output.as_slice()
+    }
+
+    /// Moves the replies out, in exchange for an empty buffer.
+    pub fn take_output(&mut self, into: &mut Vec<u8>) {
+        into.clear();
+        mem::swap(&mut self.output, into);
+    }
+
+    /// Takes a piece of bytes, and runs the requests that it completes. A request runs only while less than 1 MiB of replies wait; what is
+    /// held back runs with a later piece, which may be empty.
+    pub fn feed<T: Shelf>(&mut self, stock: &mut Stock<T>, piece: &[u8], moment: u64)
+        requires { IsMoment (T.view stock.old.shelf) moment }
+        ensures served { self.new.is_closed ≡ false → AreServed T.view moment stock.old.most
+            stock.old (self.old.input.items ++ drop self.old.skip piece.now)
+            (self.old.skip - length piece.now) self.old.output.items stock.new
+            self.new.input.items self.new.skip self.new.output.items }
+        ensures closed { self.old.is_closed ≡ true
+            → (self.new ≡ self.old) × (stock.new ≡ stock.old) }
+        ensures may_follow { IsMoment (T.view stock.new.shelf) moment }
+    {
+        if self.is_closed {
+            return;
+        }
+        let piece = self.pass_over(piece);
+        if self.input.is_empty() {
+            let used = self.run(stock, piece, moment);
+            self.keep(&piece[used..]);
+        } else {
+            self.keep(piece);
+            self.run_kept(stock, moment);
+        }
+    }
+
+    /// What is left of a piece behind a data block that is passed over.
+    fn pass_over<'a>(&mut self, piece: &'a [u8]) -> &'a [u8]
+        ensures left { result.now ≡ drop self.old.skip piece.now }
+        ensures skip { self.new ≡ record self.old { skip = self.old.skip - length piece.now } }
+    {
+        let count = self.skip.min(piece.len());
+        self.skip -= count;
+        &piece[count..]
+    }
+
+    /// Keeps bytes for later. A connection for which there is no memory is closed.
+    fn keep(&mut self, bytes: &[u8])
+        ensures kept { self.new.is_closed ≡ false
+            → self.new.input.items ≡ self.old.input.items ++ bytes.now }
+        ensures rest { self.new.is_closed ≡ false → (self.old.is_closed ≡ false)
+            × (self.new.skip ≡ self.old.skip) × (self.new.output ≡ self.old.output) }
+    {
+        if self.is_closed {
+            return;
+        }
+        match self.input.extend_from_slice(bytes) {
+            Ok(()) => {}
+            Err(AllocError) => self.close(),
+        }
+    }
+
+    /// Runs no further request.
+    fn close(&mut self)
+        ensures { self.new.is_closed ≡ true }
+    {
+        self.is_closed = true;
+        self.input = Vec::new(self.alloc);
+    }
+
+    /// Runs the requests in the bytes that were kept.
+    fn run_kept<T: Shelf>(&mut self, stock: &mut Stock<T>, moment: u64)
+        requires { IsMoment (T.view stock.old.shelf) moment }
+        ensures served { self.new.is_closed ≡ false → AreServed T.view moment stock.old.most
+            stock.old self.old.input.items self.old.skip self.old.output.items stock.new
+            self.new.input.items self.new.skip self.new.output.items }
+        ensures closed { self.new.is_closed ≡ false → self.old.is_closed ≡ false }
+        ensures may_follow { IsMoment (T.view stock.new.shelf) moment }
+    {
+        let mut input = Vec::new(self.alloc);
+        mem::swap(&mut self.input, &mut input);
+        let used = self.run(stock, input.as_slice(), moment);
+        if self.is_closed {
+            return;
+        }
+        drop_front(&mut input, used);
+        self.put_back(input);
+    }
+
+    /// Keeps bytes whose requests ran, and gives back memory that is not needed.
+    fn put_back(&mut self, input: Vec<u8>)
+        ensures kept { self.new.input.items ≡ input.items }
+        ensures rest { self.new ≡ record self.old { input = self.new.input } }
+    {
+        if input.is_empty() && input.capacity() > KEPT {
+            self.input = Vec::new(self.alloc);
+        } else {
+            self.input = input;
+        }
+    }
+
+    /// Runs the requests in the bytes, and returns how many bytes they took.
+    fn run<T: Shelf>(&mut self, stock: &mut Stock<T>, bytes: &[u8], moment: u64) -> usize
+        requires { IsMoment (T.view stock.old.shelf) moment }
+        ensures used { result ≤ length bytes.now }
+        ensures served { self.new.is_closed ≡ false → AreServed T.view moment stock.old.most
+            stock.old bytes.now self.old.skip self.old.output.items stock.new
+            (drop result bytes.now) self.new.skip self.new.output.items }
+        ensures kept { self.new.is_closed ≡ false
+            → (self.old.is_closed ≡ false) × (self.new.input ≡ self.old.input) }
+        ensures may_follow { IsMoment (T.view stock.new.shelf) moment }
+    {
+        let mut start = 0;
+        while !self.is_closed && !self.is_full() && start < bytes.len() {
+            let Arrived::Request { request, used } = read_request(stock.most, &bytes[start..])
+            else {
+                break;
+            };
+            self.serve(stock, &request, moment);
+            let there = used.min(bytes.len() - start);
+            self.skip = used - there;
+            start += there;
+        }
+        start
+    }
+
+    /// Runs a request.
+    fn serve<T: Shelf>(&mut self, stock: &mut Stock<T>, request: &Request<'_>, moment: u64)
+        requires { IsMoment (T.view stock.old.shelf) moment }
+        ensures served { self.new.is_closed ≡ false → IsServed T.view moment (record {
+          command = asks request.now.command;
+          quiet = request.now.quiet;
+        }) stock.old stock.new self.old.output.items self.new.output.items }
+        ensures kept { self.new.is_closed ≡ false
+            → (self.old.is_closed ≡ false) × (self.new.input ≡ self.old.input) }
+        ensures may_follow { IsMoment (T.view stock.new.shelf) moment }
+        ensures most { stock.new.most ≡ stock.old.most }
+    {
+        match stock.serve(request, moment, &mut self.output) {
+            Ok(()) => {
+                if ends(&request.command) {
+                    self.close();
+                }
+            }
+            Err(AllocError) => self.close(),
+        }
+    }
+}
+
+/// Whether a connection ends behind a command.
+fn ends(command: &Command<'_>) -> bool {
+    match *command {
+        Command::Quit | Command::Malformed(ProtocolError::TooLong) => true,
+        _ => false,
+    }
+}
+
+/// Drops the first `count` bytes.
+fn drop_front(bytes: &mut Vec<u8>, count: usize)
+    requires { count ≤ vec_len bytes.old }
+    ensures { bytes.new.items ≡ drop count bytes.old.items }
+{
+    let len = bytes.len();
+    bytes.as_mut_slice().copy_within(count..len, 0);
+    bytes.truncate(len - count);
+}

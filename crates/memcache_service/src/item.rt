@@ -1,0 +1,158 @@
+//! Items.
+ghost use Rattle.std.specs.Prelude.{◌≡◌, ◌+◌, ◌++◌, ◌<◌, ◌≤◌, ◌^◌, length, decimal, nat_lt, IfOk, Some, None, if◌then◌else◌, option_map};
+ghost use Rattle.memcache_model.specs.Items.{deadline_of};
+ghost use Rattle.memcache_model.specs.Outcomes.{new_item};
+
+use itoa::Buffer;
+use memcache_model::Exptime;
+use std::alloc::{AllocError, Global};
+use std::marker::Model;
+
+/// What a key has: its bytes, the client's flags, its unique, the moment at which it expires, in milliseconds of Unix time, whether it is
+/// stale, and whether a client holds the lease to renew it.
+#[derive(Drop)]
+pub struct StoredItem {
+    pub bytes: Vec<u8>,
+    pub flags: u32,
+    pub unique: u64,
+    pub deadline: Option<u64>,
+    pub stale: bool,
+    pub leased: bool,
+}
+
+impl Model for StoredItem {
+    ghost use Rattle.memcache_model.specs.Items.{Item};
+
+    ghost Value = { Item };
+
+    ghost view = { λ item. record {
+      bytes = item.bytes.items;
+      flags = item.flags;
+      unique = item.unique;
+      deadline = item.deadline;
+      stale = item.stale;
+      leased = item.leased;
+    } };
+}
+
+impl Clone for StoredItem {
+    ghost is_clone = { λ old made. made ≡ old };
+
+    fn clone(&self) -> Result<StoredItem, AllocError> {
+        let bytes = self.bytes.clone()?;
+        Ok(self.with_bytes(bytes))
+    }
+}
+
+impl StoredItem {
+    /// An item that nobody has leased; it gets its unique as it is stored.
+    pub fn new(bytes: Vec<u8>, flags: u32, deadline: Option<u64>) -> StoredItem
+        ensures { result ≡ new_item bytes.items flags deadline }
+    {
+        StoredItem {
+            bytes,
+            flags,
+            unique: 0,
+            deadline,
+            stale: false,
+            leased: false,
+        }
+    }
+
+    /// The item with other bytes.
+    pub fn with_bytes(&self, bytes: Vec<u8>) -> StoredItem
+        ensures { result ≡ record self.now { bytes = bytes.items } }
+    {
+        StoredItem {
+            bytes,
+            flags: self.flags,
+            unique: self.unique,
+            deadline: self.deadline,
+            stale: self.stale,
+            leased: self.leased,
+        }
+    }
+
+    /// The item with another unique.
+    pub fn with_unique(self, unique: u64) -> StoredItem
+        ensures { result ≡ record self { unique = unique } }
+    {
+        let mut item = self;
+        item.unique = unique;
+        item
+    }
+
+    /// The item with another deadline.
+    pub fn with_deadline(&self, deadline: Option<u64>) -> Result<StoredItem, AllocError>
+        ensures { IfOk result (λ made. made ≡ record self.now { deadline = deadline }) }
+    {
+        let mut item = self.clone()?;
+        item.deadline = deadline;
+        Ok(item)
+    }
+
+    /// The item with a number in place of its bytes.
+    pub fn with_number(&self, alloc: Global, number: u64) -> Result<StoredItem, AllocError>
+        ensures { IfOk result (λ made. made ≡ record self.now { bytes = decimal number }) }
+    {
+        let mut digits = Buffer::new();
+        let bytes = Vec::from_slice(alloc, digits.format(number).as_bytes())?;
+        Ok(self.with_bytes(bytes))
+    }
+
+    /// The item with more bytes behind its own.
+    pub fn with_behind(&self, alloc: Global, more: &[u8]) -> Result<StoredItem, AllocError>
+        requires { length self.now.bytes + length more.now < 2 ^ 63 }
+        ensures { IfOk result
+            (λ made. made ≡ record self.now { bytes = self.now.bytes ++ more.now }) }
+    {
+        let bytes = concat(alloc, self.bytes.as_slice(), more)?;
+        Ok(self.with_bytes(bytes))
+    }
+
+    /// The item with more bytes before its own.
+    pub fn with_before(&self, alloc: Global, more: &[u8]) -> Result<StoredItem, AllocError>
+        requires { length more.now + length self.now.bytes < 2 ^ 63 }
+        ensures { IfOk result
+            (λ made. made ≡ record self.now { bytes = more.now ++ self.now.bytes }) }
+    {
+        let bytes = concat(alloc, more, self.bytes.as_slice())?;
+        Ok(self.with_bytes(bytes))
+    }
+}
+
+/// The bytes one behind the other.
+fn concat(alloc: Global, first: &[u8], second: &[u8]) -> Result<Vec<u8>, AllocError>
+    requires { length first.now + length second.now < 2 ^ 63 }
+    ensures { IfOk result (λ v. v.items ≡ first.now ++ second.now) }
+{
+    let mut bytes = Vec::with_capacity(alloc, first.len() + second.len())?;
+    bytes.extend_from_slice(first)?;
+    bytes.extend_from_slice(second)?;
+    Ok(bytes)
+}
+
+/// When an item expires that is written at a moment of milliseconds of Unix time.
+pub fn deadline_of(moment: u64, exptime: Exptime) -> Option<u64>
+    requires { moment < 2 ^ 63 }
+    ensures { result ≡ deadline_of moment exptime }
+{
+    match exptime {
+        Exptime::Never => None,
+        Exptime::AtOnce => Some(moment),
+        Exptime::Seconds(seconds) => deadline_in(moment, seconds),
+    }
+}
+
+/// The same for a number of seconds.
+fn deadline_in(moment: u64, seconds: u32) -> Option<u64>
+    requires { moment < 2 ^ 63 }
+    ensures { result ≡ deadline_of moment (Exptime.Seconds seconds) }
+{
+    let milliseconds = 1000 * u64::from(seconds);
+    if seconds <= 2_592_000 {
+        Some(moment + milliseconds)
+    } else {
+        Some(milliseconds)
+    }
+}

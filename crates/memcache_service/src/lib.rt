@@ -1,0 +1,18 @@
+//! A server of the memcache text protocol over a shelf of items: connections, what requests do, statistics.
+#![tactic(auto)]
+
+mod connection;
+mod counters;
+mod item;
+pub mod laws;
+mod replies;
+mod service;
+mod shelf;
+mod stock;
+
+pub use connection::Connection;
+pub use counters::{Counters, Tally};
+pub use item::StoredItem;
+pub use service::{Conn, Service};
+pub use shelf::Shelf;
+pub use stock::{Setup, Stock};

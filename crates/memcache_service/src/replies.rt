@@ -1,0 +1,201 @@
+//! The texts of replies.
+ghost use Rattle.std.specs.Prelude.{◌≡◌, ◌≤◌, ◌+◌, ◌++◌, OnOk, OnErr, length, codes, decimal, vec_len, vec_capacity};
+ghost use Rattle.memcache_model.specs.Replies.{error_text, unique_text, value_text};
+ghost use Rattle.memcache_service.specs.Lines.{head_text, reply_text};
+
+use crate::item::StoredItem;
+use itoa::Buffer;
+use memcache_model::ProtocolError;
+use std::alloc::AllocError;
+
+/// Room for each reply of one line but those of meta commands.
+pub const SHORT: usize = 96;
+
+/// A reply of one line, or one that was written already.
+#[derive(Clone, Copy, PartialEq, Eq, Drop)]
+pub enum Reply {
+    Written,
+    Stored,
+    NotStored,
+    Exists,
+    NotFound,
+    Deleted,
+    Touched,
+    Done,
+    Reset,
+    Version,
+    NoOp,
+    TooLarge,
+    NoNumber,
+    Number(u64),
+    Fault(ProtocolError),
+    /// There is no memory for what a request stores.
+    NoMemory,
+    /// There is no memory for the values of a `get`, or they are more than a reply may have.
+    NoRoom,
+    /// There is no memory for statistics.
+    NoStatistics,
+}
+
+impl Reply {
+    /// Writes its text behind what is there, in room that was reserved.
+    pub fn write(self, output: &mut Vec<u8>)
+        requires { vec_len output.old + SHORT ≤ vec_capacity output.old }
+        ensures { output.new.items ≡ output.old.items ++ reply_text self }
+    {
+        match self {
+            Reply::Written => {}
+            Reply::Stored => write(output, b"STORED\r\n"),
+            Reply::NotStored => write(output, b"NOT_STORED\r\n"),
+            Reply::Exists => write(output, b"EXISTS\r\n"),
+            Reply::NotFound => write(output, b"NOT_FOUND\r\n"),
+            Reply::Deleted => write(output, b"DELETED\r\n"),
+            Reply::Touched => write(output, b"TOUCHED\r\n"),
+            Reply::Done => write(output, b"OK\r\n"),
+            Reply::Reset => write(output, b"RESET\r\n"),
+            Reply::Version => write(output, b"VERSION 1.6.18\r\n"),
+            Reply::NoOp => write(output, b"MN\r\n"),
+            Reply::TooLarge => write(output, b"SERVER_ERROR object too large for cache\r\n"),
+            Reply::NoNumber => write(
+                output,
+                b"CLIENT_ERROR cannot increment or decrement non-numeric value\r\n",
+            ),
+            Reply::Number(number) => write_number(output, number),
+            Reply::Fault(error) => write(output, error_text(error)),
+            Reply::NoMemory => write(output, b"SERVER_ERROR out of memory storing object\r\n"),
+            Reply::NoRoom => {
+                write(
+                    output,
+                    b"SERVER_ERROR out of memory writing get response\r\n",
+                )
+            }
+            Reply::NoStatistics => {
+                write(output, b"SERVER_ERROR out of memory writing stats\r\n")
+            }
+        }
+    }
+}
+
+/// Writes a number and the end of the line, in room that was reserved.
+fn write_number(output: &mut Vec<u8>, number: u64)
+    requires { vec_len output.old + SHORT ≤ vec_capacity output.old }
+    ensures { output.new.items ≡ output.old.items ++ (decimal number ++ codes "\r\n") }
+{
+    let mut digits = Buffer::new();
+    write(output, digits.format(number).as_bytes());
+    write(output, b"\r\n")
+}
+
+/// Writes a short text behind what is there, in room that was reserved.
+fn write(output: &mut Vec<u8>, text: &[u8])
+    requires { vec_len output.old + length text.now ≤ vec_capacity output.old }
+    ensures items { output.new.items ≡ output.old.items ++ text.now }
+    ensures capacity { vec_capacity output.old ≤ vec_capacity output.new }
+    ensures len { vec_len output.new ≡ vec_len output.old + length text.now }
+{
+    output.extend_from_slice(text).unwrap();
+}
+
+/// The text of an error.
+pub fn error_text(error: ProtocolError) -> &'static [u8]
+    ensures text { result.now ≡ error_text error }
+    ensures short { length result.now ≤ SHORT }
+{
+    match error {
+        ProtocolError::Unknown => b"ERROR\r\n",
+        ProtocolError::Format => b"CLIENT_ERROR bad command line format\r\n",
+        ProtocolError::Delete => {
+            b"CLIENT_ERROR bad command line format.  Usage: delete <key> [noreply]\r\n"
+        }
+        ProtocolError::Chunk => b"CLIENT_ERROR bad data chunk\r\n",
+        ProtocolError::Exptime => b"CLIENT_ERROR invalid exptime argument\r\n",
+        ProtocolError::Delta => b"CLIENT_ERROR invalid numeric delta argument\r\n",
+        ProtocolError::Flag => b"CLIENT_ERROR invalid flag\r\n",
+        ProtocolError::Token => b"CLIENT_ERROR bad token in command line format\r\n",
+        ProtocolError::Mode => b"CLIENT_ERROR invalid mode for ms M token\r\n",
+        ProtocolError::TooLong => b"CLIENT_ERROR line too long\r\n",
+    }
+}
+
+/// Writes a text behind what is there. If it is refused, nothing is written.
+pub fn say(output: &mut Vec<u8>, text: &[u8]) -> Result<(), AllocError>
+    ensures ok { OnOk result (output.new.items ≡ output.old.items ++ text.now) }
+    ensures err { OnErr result (output.new.items ≡ output.old.items) }
+    ensures capacity { vec_capacity output.old ≤ vec_capacity output.new }
+{
+    output.extend_from_slice(text)
+}
+
+/// Writes a number behind what is there. If it is refused, nothing is written.
+pub fn say_number(output: &mut Vec<u8>, number: u64) -> Result<(), AllocError>
+    ensures ok { OnOk result (output.new.items ≡ output.old.items ++ decimal number) }
+    ensures err { OnErr result (output.new.items ≡ output.old.items) }
+    ensures capacity { vec_capacity output.old ≤ vec_capacity output.new }
+{
+    let mut digits = Buffer::new();
+    say(output, digits.format(number).as_bytes())
+}
+
+/// Writes a statistic's line.
+pub fn say_figure(output: &mut Vec<u8>, name: &[u8], number: u64) -> Result<(), AllocError>
+    ensures { vec_capacity output.old ≤ vec_capacity output.new }
+{
+    say(output, b"STAT ")?;
+    say(output, name)?;
+    say(output, b" ")?;
+    say_number(output, number)?;
+    say(output, b"\r\n")
+}
+
+/// Writes an item as a `get` tells it. If it is refused, nothing is written.
+pub fn say_value(
+    output: &mut Vec<u8>,
+    uniques: bool,
+    key: &[u8],
+    item: &StoredItem,
+) -> Result<(), AllocError>
+    ensures ok { OnOk result
+        (output.new.items ≡ output.old.items ++ value_text uniques key.now item.now) }
+    ensures err { OnErr result (output.new.items ≡ output.old.items) }
+    ensures capacity { vec_capacity output.old ≤ vec_capacity output.new }
+{
+    let needed = key
+        .len()
+        .saturating_add(item.bytes.len())
+        .saturating_add(SHORT);
+    output.reserve(needed)?;
+    write_head(output, uniques, key, item);
+    write(output, item.bytes.as_slice());
+    write(output, b"\r\n");
+    Ok(())
+}
+
+/// Writes what stands before an item's bytes, in room that was reserved.
+fn write_head(output: &mut Vec<u8>, uniques: bool, key: &[u8], item: &StoredItem)
+    requires { vec_len output.old + length key.now + 80 ≤ vec_capacity output.old }
+    ensures items { output.new.items ≡ output.old.items
+        ++ head_text uniques key.now item.now }
+    ensures len { vec_len output.new ≤ vec_len output.old + length key.now + 80 }
+    ensures capacity { vec_capacity output.old ≤ vec_capacity output.new }
+{
+    write(output, b"VALUE ");
+    write(output, key);
+    write_spaced(output, u64::from(item.flags));
+    write_spaced(output, item.bytes.len() as u64);
+    if uniques {
+        write_spaced(output, item.unique);
+    }
+    write(output, b"\r\n")
+}
+
+/// Writes a space and a number, in room that was reserved.
+fn write_spaced(output: &mut Vec<u8>, number: u64)
+    requires { vec_len output.old + 21 ≤ vec_capacity output.old }
+    ensures items { output.new.items ≡ output.old.items ++ (codes " " ++ decimal number) }
+    ensures len { vec_len output.new ≤ vec_len output.old + 21 }
+    ensures capacity { vec_capacity output.old ≤ vec_capacity output.new }
+{
+    let mut digits = Buffer::new();
+    write(output, b" ");
+    write(output, digits.format(number).as_bytes())
+}

@@ -1,0 +1,104 @@
+//! A service: a stock of items, and the connections that use it.
+ghost use Rattle.std.specs.Prelude.{◌≡◌, ◌≤◌, ◌<◌, ◌^◌};
+ghost use Rattle.memcache_service.specs.Shelves.{IsMoment};
+
+use crate::connection::Connection;
+use crate::counters::Tally;
+use crate::shelf::Shelf;
+use crate::stock::{Setup, Stock};
+use slab::Slab;
+use std::alloc::{AllocError, Global};
+
+/// Moments are below this many milliseconds of Unix time, which are 557 years.
+const MOMENTS: u64 = 1 << 44;
+
+/// The number of a connection.
+pub type Conn = usize;
+
+/// A stock of items, and the connections that use it. Moments are in milliseconds of Unix time; one that is before that of the last call,
+/// or 2^44 or later, counts as that of the last call.
+#[derive(Drop)]
+pub struct Service<T: Shelf> {
+    stock: Stock<T>,
+    connections: Slab<Connection>,
+    moment: u64,
+    ghost in_time: { IsMoment (T.view stock.shelf) moment },
+}
+
+impl<T: Shelf> Service<T> {
+    /// A service over a shelf.
+    pub fn new(alloc: Global, shelf: T, setup: Setup, moment: u64) -> Result<Service<T>, AllocError>
+        requires { IsMoment (T.view shelf) moment }
+    {
+        let stock = Stock::new(alloc, shelf, setup, moment)?;
+        Ok(Service {
+            stock,
+            connections: Slab::new(alloc),
+            moment,
+        })
+    }
+
+    /// Opens a connection.
+    pub fn open(&mut self) -> Result<Conn, AllocError> {
+        let alloc = self.stock.alloc;
+        let conn = self.connections.insert(Connection::new(alloc))?;
+        self.stock.connections = self.connections.len() as u64;
+        self.stock.counters.up(Tally::TotalConnections);
+        Ok(conn)
+    }
+
+    /// Closes a connection. Its number may then be that of another.
+    pub fn close(&mut self, conn: Conn) {
+        let _ = self.connections.try_remove(conn);
+        self.stock.connections = self.connections.len() as u64;
+    }
+
+    /// Feeds a connection a piece of bytes at a moment, and runs the requests that it completes. Returns false if the connection has ended:
+    /// its replies are to be taken, and then it is to be closed.
+    pub fn feed(&mut self, conn: Conn, piece: &[u8], moment: u64) -> bool {
+        let now = later(self.moment, moment);
+        match self.connections.get_mut(conn) {
+            Some(connection) => {
+                self.stock
+                    .counters
+                    .add(Tally::BytesRead, piece.len() as u64);
+                connection.feed(&mut self.stock, piece, now);
+                self.moment = now;
+                !connection.is_closed()
+            }
+            None => false,
+        }
+    }
+
+    /// Whether requests of a connection are held back until its replies are taken: then it is to be fed, if only an empty piece.
+    pub fn is_full(&self, conn: Conn) -> bool {
+        match self.connections.get(conn) {
+            Some(connection) => connection.is_full(),
+            None => false,
+        }
+    }
+
+    /// Moves the replies of a connection out, in exchange for what `into` has as memory.
+    pub fn take_output(&mut self, conn: Conn, into: &mut Vec<u8>) {
+        into.clear();
+        if let Some(connection) = self.connections.get_mut(conn) {
+            connection.take_output(into);
+            self.stock
+                .counters
+                .add(Tally::BytesWritten, into.len() as u64);
+        }
+    }
+}
+
+/// The later of two moments, or the first if the second is too late.
+fn later(last: u64, moment: u64) -> u64
+    requires { last < 2 ^ 44 }
+    ensures later { last ≤ result }
+    ensures early { result < 2 ^ 44 }
+{
+    if last < moment && moment < MOMENTS {
+        moment
+    } else {
+        last
+    }
+}

@@ -1,0 +1,58 @@
+//! Items by key, in a cache.
+ghost use Rattle.std.specs.Prelude.{◌≡◌, OnOk, OnErr, Some, None, is_some, option_map};
+ghost use Rattle.memcache_model.specs.Items.{nothing, with_item};
+ghost use Rattle.memcache_service.specs.Shelves.{Becomes, IsMoment, Shelved, live_on};
+
+use crate::counters::Counters;
+use crate::item::StoredItem;
+use audit_model::Key;
+use std::alloc::AllocError;
+
+/// Items by key, in a cache: an item that was put may have gone, but no call makes any other appear.
+///
+/// Moments are milliseconds of Unix time below 2^44, and never fall from call to call. After an `Err` nothing has changed.
+pub trait Shelf: Drop {
+    ghost view: { Self → Shelved };
+
+    /// The live item of a key. It is no use of it.
+    fn peek(&self, key: &Key, moment: u64) -> Option<&StoredItem>
+        requires { IsMoment (view self.now) moment }
+        ensures { option_map (λ item. item.now) result
+            ≡ live_on (view self.now) moment key.now };
+
+    /// Uses the live item of a key, and says whether there is one.
+    fn note_use(&mut self, key: &Key, moment: u64) -> bool
+        requires { IsMoment (view self.old) moment }
+        ensures found { result ≡ is_some (live_on (view self.old) moment key.now) }
+        ensures used { Becomes moment (view self.old).items (view self.new) };
+
+    /// Gives a key an item.
+    fn put(&mut self, key: &Key, item: StoredItem, moment: u64) -> Result<(), AllocError>
+        requires { IsMoment (view self.old) moment }
+        ensures puts { OnOk result (Becomes moment
+            (with_item key.now (Some item) (view self.old).items) (view self.new)) }
+        ensures unchanged { OnErr result (self.new ≡ self.old) };
+
+    /// Takes the item of a key away.
+    fn remove(&mut self, key: &Key, moment: u64) -> Result<(), AllocError>
+        requires { IsMoment (view self.old) moment }
+        ensures removes { OnOk result
+            (Becomes moment (with_item key.now None (view self.old).items) (view self.new)) }
+        ensures unchanged { OnErr result (self.new ≡ self.old) };
+
+    /// Takes all items away. It allocates nothing, and is refused after 2^64 - 1 times.
+    fn clear(&mut self, moment: u64) -> Result<(), AllocError>
+        requires { IsMoment (view self.old) moment }
+        ensures clears { OnOk result (Becomes moment nothing (view self.new)) }
+        ensures unchanged { OnErr result (self.new ≡ self.old) };
+
+    /// Counts the items that left by themselves since the last time.
+    fn count_removals(&mut self, counters: &mut Counters)
+        ensures { view self.new ≡ view self.old };
+
+    /// How many items there are, as far as maintenance has come.
+    fn item_count(&self) -> u64;
+
+    /// What they weigh.
+    fn weight(&self) -> u64;
+}

@@ -1,0 +1,239 @@
+//! What requests do.
+ghost use Rattle.std.specs.Prelude.{◌≡◌, ◌≤◌, ◌+◌, ◌++◌, [], true, take, None, IfOk, OnOk, OnErr, vec_capacity, if◌then◌else◌};
+ghost use Rattle.memcache_lines.specs.Said.{asks};
+ghost use Rattle.memcache_model.specs.Answers.{Service, answer};
+ghost use Rattle.memcache_model.specs.Items.{live_at, nothing};
+ghost use Rattle.memcache_service.specs.Lines.{reply_text, said_from};
+ghost use Rattle.memcache_service.specs.Shelves.{IsMoment};
+ghost use Rattle.memcache_service.specs.Stocks.{Answers, Does, Keeps, Leaves, Serves, is_plain, is_short, kept, stock_at};
+
+use crate::counters::{Counters, Tally};
+use crate::replies::{Reply, SHORT};
+use crate::shelf::Shelf;
+use audit_model::Key;
+use memcache_lines::{Command, Request};
+use std::alloc::{AllocError, Global};
+
+mod flags;
+mod keys;
+mod meta;
+mod reading;
+mod statistics;
+mod storing;
+mod telling;
+
+/// The longest key, in bytes.
+const MAX_KEY: usize = 250;
+
+/// What a stock is made with.
+#[derive(Clone, Copy, Debug, PartialEq, Eq, Drop)]
+pub struct Setup {
+    /// How many bytes all items may have, with what they cost.
+    pub capacity: u64,
+    /// How many bytes a data block may have.
+    pub item_size: u32,
+}
+
+/// Items, the uniques that were given, when all items are to go, and what was counted. Moments are milliseconds of Unix time.
+#[derive(Drop)]
+pub struct Stock<T: Shelf> {
+    pub alloc: Global,
+    pub shelf: T,
+    /// The key that a request names, so that look-ups take no memory.
+    pub key: Key,
+    /// How many uniques were given.
+    pub uniques: u64,
+    /// The moment at which all items are to go, if there is one.
+    pub flush: Option<u64>,
+    pub counters: Counters,
+    /// How many bytes a data block may have.
+    pub most: u32,
+    /// How many bytes all items may have.
+    pub capacity: u64,
+    /// When it was made.
+    pub made: u64,
+    /// How many connections are open.
+    pub connections: u64,
+}
+
+impl<T: Shelf> Stock<T> {
+    /// A stock over a shelf, at a moment.
+    pub fn new(alloc: Global, shelf: T, setup: Setup, moment: u64) -> Result<Stock<T>, AllocError>
+        requires { IsMoment (T.view shelf) moment }
+        ensures shelf { IfOk result (λ made. made.shelf ≡ shelf) }
+        ensures fresh { IfOk result (λ made. (made.uniques ≡ 0) × (made.flush ≡ None)) }
+        ensures most { IfOk result (λ made. made.most ≡ setup.item_size) }
+    {
+        let key = Key::with_capacity(alloc, MAX_KEY)?;
+        Ok(Stock {
+            alloc,
+            shelf,
+            key,
+            uniques: 0,
+            flush: None,
+            counters: Counters::new(),
+            most: setup.item_size,
+            capacity: setup.capacity,
+            made: moment,
+            connections: 0,
+        })
+    }
+
+    /// Serves a request at a moment, and writes its reply. If there is no memory for the reply, nothing has happened, and the connection is
+    /// to end.
+    pub fn serve(
+        &mut self,
+        request: &Request<'_>,
+        moment: u64,
+        output: &mut Vec<u8>,
+    ) -> Result<(), AllocError>
+        requires { IsMoment (T.view self.old.shelf) moment }
+        ensures served { (service : Service) → service.most ≡ self.old.most
+            → is_plain (asks request.now.command) ≡ true
+            → OnOk result (let all = live_at moment (kept T.view self.old) in
+            Serves T.view moment all (answer service moment (asks request.now.command) all)
+            request.now.quiet self.old self.new output.old.items output.new.items) }
+        ensures refused { OnErr result (Keeps T.view moment self.old self.new
+            × (output.new.items ≡ output.old.items)) }
+        ensures may_follow { IsMoment (T.view self.new.shelf) moment }
+        ensures most { self.new.most ≡ self.old.most }
+    {
+        output.reserve(SHORT)?;
+        self.flush_if_due(moment)?;
+        let start = output.len();
+        let reply = self.answer(&request.command, moment, output);
+        self.shelf.count_removals(&mut self.counters);
+        end_reply(request.quiet, start, reply, output);
+        Ok(())
+    }
+
+    /// Takes all items away, if the moment for it has come.
+    fn flush_if_due(&mut self, moment: u64) -> Result<(), AllocError>
+        requires { IsMoment (T.view self.old.shelf) moment }
+        ensures ok { OnOk result (stock_at T.view moment self.new
+            ≡ live_at moment (kept T.view self.old)) }
+        ensures err { OnErr result (Keeps T.view moment self.old self.new) }
+        ensures may_follow { IsMoment (T.view self.new.shelf) moment }
+        ensures most { self.new.most ≡ self.old.most }
+    {
+        match self.flush {
+            Some(at) => {
+                if at <= moment {
+                    self.flush_now(moment)
+                } else {
+                    Ok(())
+                }
+            }
+            None => Ok(()),
+        }
+    }
+
+    /// Takes all items away.
+    fn flush_now(&mut self, moment: u64) -> Result<(), AllocError>
+        requires { IsMoment (T.view self.old.shelf) moment }
+        ensures ok { OnOk result (Leaves T.view moment
+            (record (stock_at T.view moment self.old) { items = nothing; flush = None }) self.old
+            self.new) }
+        ensures err { OnErr result (Keeps T.view moment self.old self.new) }
+        ensures may_follow { IsMoment (T.view self.new.shelf) moment }
+        ensures most { self.new.most ≡ self.old.most }
+    {
+        self.shelf.clear(moment)?;
+        self.flush = None;
+        Ok(())
+    }
+
+    /// Does what a command asks for. It writes the reply, or returns it if it is one of a line.
+    fn answer(&mut self, command: &Command<'_>, moment: u64, output: &mut Vec<u8>) -> Reply
+        requires { IsMoment (T.view self.old.shelf) moment }
+        ensures answered { (service : Service) → service.most ≡ self.old.most
+            → is_plain (asks command.now) ≡ true → Answers T.view moment (answer service moment
+            (asks command.now) (stock_at T.view moment self.old)) self.old self.new
+            output.old.items output.new.items result }
+        ensures may_follow { IsMoment (T.view self.new.shelf) moment }
+        ensures most { self.new.most ≡ self.old.most }
+        ensures capacity { vec_capacity output.old ≤ vec_capacity output.new }
+    {
+        match *command {
+            Command::Get { uniques, keys } => {
+                self.get(uniques, keys, moment, output)
+                    .unwrap_or(Reply::NoRoom)
+            }
+            Command::Gat {
+                uniques,
+                exptime,
+                keys,
+            } => {
+                self.gat(uniques, exptime, keys, moment, output)
+                    .unwrap_or(Reply::NoRoom)
+            }
+            Command::Stats { words } => {
+                self.stats(words, moment, output)
+                    .unwrap_or(Reply::NoStatistics)
+            }
+            Command::Meta { kind, key, flags } => {
+                self.meta(kind, key, flags, moment, output)
+                    .unwrap_or(Reply::NoMemory)
+            }
+            Command::MetaSet { key, flags, block } => {
+                self.meta_set(key, flags, block, moment, output)
+                    .unwrap_or(Reply::NoMemory)
+            }
+            _ => self
+                .answer_shortly(command, moment)
+                .unwrap_or(Reply::NoMemory),
+        }
+    }
+
+    /// Does what a command asks for whose reply is one of a line.
+    #[tactic(auto, using(crate::proofs::Keeping::may_follow, crate::proofs::Keeping::most_kept))]
+    fn answer_shortly(&mut self, command: &Command<'_>, moment: u64) -> Result<Reply, AllocError>
+        requires { IsMoment (T.view self.old.shelf) moment }
+        ensures ok { IfOk result (λ reply. (service : Service) → service.most ≡ self.old.most
+            → is_short (asks command.now) ≡ true → Does T.view moment (answer service moment
+            (asks command.now) (stock_at T.view moment self.old)) self.old self.new
+            (reply_text reply)) }
+        ensures err { OnErr result (Keeps T.view moment self.old self.new) }
+        ensures may_follow { IsMoment (T.view self.new.shelf) moment }
+        ensures most { self.new.most ≡ self.old.most }
+    {
+        match *command {
+            Command::Store {
+                storage,
+                key,
+                flags,
+                exptime,
+                block,
+            } => { self.store(storage, key, flags, exptime, block, moment) }
+            Command::Oversize { storage, key } => self.pass_over(storage, key, moment),
+            Command::Delete { key } => self.delete(key, moment),
+            Command::Arithmetic {
+                direction,
+                key,
+                delta,
+            } => { self.count(direction, key, delta, moment) }
+            Command::Touch { key, exptime } => self.touch(key, exptime, moment),
+            Command::FlushAll { exptime } => self.flush_all(exptime, moment),
+            Command::Version => Ok(Reply::Version),
+            Command::Verbosity => Ok(Reply::Done),
+            Command::MetaNoOp => Ok(Reply::NoOp),
+            Command::Malformed(error) => Ok(Reply::Fault(error)),
+            _ => Ok(Reply::Written),
+        }
+    }
+}
+
+/// Ends a reply that begins at `start`: writes one of a line, in room that was reserved, in place of what was written; and leaves all of it
+/// out, if the request is quiet.
+fn end_reply(is_quiet: bool, start: usize, reply: Reply, output: &mut Vec<u8>)
+    requires { start + SHORT ≤ vec_capacity output.old }
+    ensures { output.new.items ≡ take start output.old.items
+        ++ (if is_quiet then [] else said_from start output.old.items reply) }
+{
+    if is_quiet {
+        output.truncate(start);
+    } else if reply != Reply::Written {
+        output.truncate(start);
+        reply.write(output);
+    }
+}

@@ -1,0 +1,123 @@
+//! `delete`, `incr`, `decr`, `touch` and `flush_all`.
+ghost use Rattle.std.specs.Prelude.{◌≡◌, IfOk, OnErr, Some, None};
+ghost use Rattle.memcache_model.specs.Answers.{counts, deletes, flushes, touches_one};
+ghost use Rattle.memcache_model.specs.Items.{deadline_of};
+ghost use Rattle.memcache_model.specs.Outcomes.{counted};
+ghost use Rattle.memcache_service.specs.Shelves.{IsMoment};
+ghost use Rattle.memcache_service.specs.Stocks.{Does, Keeps, stock_at};
+ghost use Rattle.memcache_service.specs.Lines.{reply_text};
+
+use super::Stock;
+use crate::counters::Tally;
+use crate::item::deadline_of;
+use crate::replies::Reply;
+use crate::shelf::Shelf;
+use memcache_lines::number;
+use memcache_model::{Direction, Exptime};
+use std::alloc::AllocError;
+
+impl<T: Shelf> Stock<T> {
+    /// Deletes the live item of a key.
+    pub fn delete(&mut self, key: &[u8], moment: u64) -> Result<Reply, AllocError>
+        requires { IsMoment (T.view self.old.shelf) moment }
+        ensures ok { IfOk result (λ reply. Does T.view moment (deletes key.now
+            ((stock_at T.view moment self.old).items key.now) (stock_at T.view moment self.old))
+            self.old self.new (reply_text reply)) }
+        ensures err { OnErr result (Keeps T.view moment self.old self.new) }
+    {
+        self.key.fill(key)?;
+        if self.shelf.peek(&self.key, moment).is_none() {
+            self.counters.up(Tally::DeleteMisses);
+            return Ok(Reply::NotFound);
+        }
+        self.shelf.remove(&self.key, moment)?;
+        self.counters.up(Tally::DeleteHits);
+        Ok(Reply::Deleted)
+    }
+
+    /// Counts the live item of a key.
+    pub fn count(
+        &mut self,
+        direction: Direction,
+        key: &[u8],
+        delta: u64,
+        moment: u64,
+    ) -> Result<Reply, AllocError>
+        requires { IsMoment (T.view self.old.shelf) moment }
+        ensures ok { IfOk result (λ reply. Does T.view moment (counts direction key.now delta
+            ((stock_at T.view moment self.old).items key.now) (stock_at T.view moment self.old))
+            self.old self.new (reply_text reply)) }
+        ensures err { OnErr result (Keeps T.view moment self.old self.new) }
+    {
+        self.key.fill(key)?;
+        let Some(item) = self.shelf.peek(&self.key, moment) else {
+            self.counters.up(miss_of(direction));
+            return Ok(Reply::NotFound);
+        };
+        let Some(old) = number(item.bytes.as_slice()) else {
+            return Ok(Reply::NoNumber);
+        };
+        let number = counted(direction, old, delta);
+        let item = item.with_number(self.alloc, number)?;
+        self.put(item, moment)?;
+        self.counters.up(hit_of(direction));
+        Ok(Reply::Number(number))
+    }
+
+    /// Gives the live item of a key another expiry.
+    pub fn touch(&mut self, key: &[u8], exptime: Exptime, moment: u64) -> Result<Reply, AllocError>
+        requires { IsMoment (T.view self.old.shelf) moment }
+        ensures ok { IfOk result (λ reply. Does T.view moment (touches_one key.now
+            (deadline_of moment exptime) ((stock_at T.view moment self.old).items key.now)
+            (stock_at T.view moment self.old)) self.old self.new (reply_text reply)) }
+        ensures err { OnErr result (Keeps T.view moment self.old self.new) }
+    {
+        self.key.fill(key)?;
+        let deadline = deadline_of(moment, exptime);
+        self.retime(deadline, moment)
+    }
+
+    /// Takes all items away, now or at a moment to come.
+    pub fn flush_all(&mut self, exptime: Exptime, moment: u64) -> Result<Reply, AllocError>
+        requires { IsMoment (T.view self.old.shelf) moment }
+        ensures ok { IfOk result (λ reply. Does T.view moment (flushes moment exptime
+            (stock_at T.view moment self.old)) self.old self.new (reply_text reply)) }
+        ensures err { OnErr result (Keeps T.view moment self.old self.new) }
+    {
+        self.counters.up(Tally::CmdFlush);
+        match exptime {
+            Exptime::Seconds(_) => self.flush = deadline_of(moment, exptime),
+            _ => {
+                self.shelf.clear(moment)?;
+                self.flush = None;
+            }
+        }
+        Ok(Reply::Done)
+    }
+}
+
+/// What is counted where there is nothing to count up or down.
+fn miss_of(direction: Direction) -> Tally {
+    match direction {
+        Direction::Up => Tally::IncrMisses,
+        Direction::Down => Tally::DecrMisses,
+    }
+}
+
+/// What is counted where something was counted up or down.
+fn hit_of(direction: Direction) -> Tally {
+    match direction {
+        Direction::Up => Tally::IncrHits,
+        Direction::Down => Tally::DecrHits,
+    }
+}
+
+/// The number, counted up, from 2^64 - 1 on to 0, or down, and never below 0.
+pub fn counted(direction: Direction, number: u64, delta: u64) -> u64
+    ensures { result ≡ counted direction number delta }
+{
+    match direction {
+        Direction::Up => number.wrapping_add(delta),
+        Direction::Down => number.saturating_sub(delta),
+    }
+}

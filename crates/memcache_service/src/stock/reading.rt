@@ -1,0 +1,174 @@
+//! `get` and `gat`.
+ghost use Rattle.std.specs.Prelude.{◌≡◌, ◌≤◌, ◌++◌, take, length, vec_capacity, IfOk, OnOk, OnErr};
+ghost use Rattle.memcache_model.specs.Answers.{tells, touches_one};
+ghost use Rattle.memcache_model.specs.Bytes.{tokens};
+ghost use Rattle.memcache_model.specs.Replies.{values_text};
+ghost use Rattle.memcache_service.specs.Shelves.{IsMoment, live_on};
+ghost use Rattle.memcache_service.specs.Stocks.{Does, Keeps, stock_at};
+ghost use Rattle.memcache_service.specs.Lines.{reply_text};
+
+use super::Stock;
+use crate::counters::Tally;
+use crate::item::deadline_of;
+use crate::replies::{Reply, say, say_value};
+use crate::shelf::Shelf;
+use audit_model::Key;
+use memcache_lines::next_token;
+use memcache_model::Exptime;
+use std::alloc::AllocError;
+
+/// A reply has at most this many bytes: 64 MiB.
+const MAX_REPLY: usize = 1 << 26;
+
+impl<T: Shelf> Stock<T> {
+    /// Tells the live items of the keys, and uses them.
+    pub fn get(
+        &mut self,
+        uniques: bool,
+        keys: &[u8],
+        moment: u64,
+        output: &mut Vec<u8>,
+    ) -> Result<Reply, AllocError>
+        requires { IsMoment (T.view self.old.shelf) moment }
+        ensures told { OnOk result (output.new.items ≡ output.old.items
+            ++ tells uniques (tokens keys.now) (stock_at T.view moment self.old).items) }
+        ensures written { IfOk result (λ reply. reply ≡ Reply.Written) }
+        ensures begun { take (length output.old.items) output.new.items ≡ output.old.items }
+        ensures capacity { vec_capacity output.old ≤ vec_capacity output.new }
+        ensures keeps { Keeps T.view moment self.old self.new }
+    {
+        say_live(&self.shelf, &mut self.key, uniques, keys, moment, output)?;
+        self.use_all(keys, moment);
+        Ok(Reply::Written)
+    }
+
+    /// Uses the live items of the keys.
+    fn use_all(&mut self, keys: &[u8], moment: u64)
+        requires { IsMoment (T.view self.old.shelf) moment }
+        ensures { Keeps T.view moment self.old self.new }
+    {
+        let mut rest = keys;
+        while let Some((key, behind)) = next_token(rest) {
+            self.use_one(key, moment);
+            rest = behind;
+        }
+    }
+
+    /// Uses the live item of a key, and counts whether it is there.
+    fn use_one(&mut self, key: &[u8], moment: u64)
+        requires { IsMoment (T.view self.old.shelf) moment }
+        ensures { Keeps T.view moment self.old self.new }
+    {
+        self.counters.up(Tally::CmdGet);
+        if self.key.fill(key).is_ok() {
+            let found = self.shelf.note_use(&self.key, moment);
+            self.counters.up(if found {
+                Tally::GetHits
+            } else {
+                Tally::GetMisses
+            });
+        }
+    }
+
+    /// Tells the live items of the keys, and gives them another expiry. If there is no memory for one, those of the keys before it have it.
+    pub fn gat(
+        &mut self,
+        uniques: bool,
+        exptime: Exptime,
+        keys: &[u8],
+        moment: u64,
+        output: &mut Vec<u8>,
+    ) -> Result<Reply, AllocError>
+        requires { IsMoment (T.view self.old.shelf) moment }
+        ensures may_follow { IsMoment (T.view self.new.shelf) moment }
+        ensures most { self.new.most ≡ self.old.most }
+        ensures capacity { vec_capacity output.old ≤ vec_capacity output.new }
+    {
+        let deadline = deadline_of(moment, exptime);
+        let start = output.len();
+        let mut rest = keys;
+        while let Some((key, behind)) = next_token(rest) {
+            self.key.fill(key)?;
+            say_one(&self.shelf, &self.key, uniques, moment, output)?;
+            self.retime(deadline, moment)?;
+            check_size(start, output.len())?;
+            rest = behind;
+        }
+        say(output, b"END\r\n")?;
+        Ok(Reply::Written)
+    }
+
+    /// Gives the live item of the key that was named another deadline.
+    pub fn retime(&mut self, deadline: Option<u64>, moment: u64) -> Result<Reply, AllocError>
+        requires { IsMoment (T.view self.old.shelf) moment }
+        ensures ok { IfOk result (λ reply. Does T.view moment (touches_one self.old.key deadline
+            ((stock_at T.view moment self.old).items self.old.key) (stock_at T.view moment self.old))
+            self.old self.new (reply_text reply)) }
+        ensures err { OnErr result (Keeps T.view moment self.old self.new) }
+    {
+        self.counters.up(Tally::CmdTouch);
+        let Some(old) = self.shelf.peek(&self.key, moment) else {
+            self.counters.up(Tally::TouchMisses);
+            return Ok(Reply::NotFound);
+        };
+        let item = old.with_deadline(deadline)?;
+        self.shelf.put(&self.key, item, moment)?;
+        self.counters.up(Tally::TouchHits);
+        Ok(Reply::Touched)
+    }
+}
+
+/// Writes the live items of the keys, and the end.
+fn say_live<T: Shelf>(
+    shelf: &T,
+    key: &mut Key,
+    uniques: bool,
+    keys: &[u8],
+    moment: u64,
+    output: &mut Vec<u8>,
+) -> Result<(), AllocError>
+    requires { IsMoment (T.view shelf.now) moment }
+    ensures told { OnOk result (output.new.items ≡ output.old.items
+        ++ tells uniques (tokens keys.now) (live_on (T.view shelf.now) moment)) }
+    ensures begun { take (length output.old.items) output.new.items ≡ output.old.items }
+    ensures capacity { vec_capacity output.old ≤ vec_capacity output.new }
+{
+    let start = output.len();
+    let mut rest = keys;
+    while let Some((word, behind)) = next_token(rest) {
+        key.fill(word)?;
+        say_one(shelf, key, uniques, moment, output)?;
+        check_size(start, output.len())?;
+        rest = behind;
+    }
+    say(output, b"END\r\n")
+}
+
+/// Writes the live item of a key, if there is one. If it is refused, nothing is written.
+fn say_one<T: Shelf>(
+    shelf: &T,
+    key: &Key,
+    uniques: bool,
+    moment: u64,
+    output: &mut Vec<u8>,
+) -> Result<(), AllocError>
+    requires { IsMoment (T.view shelf.now) moment }
+    ensures ok { OnOk result (output.new.items ≡ output.old.items
+        ++ values_text uniques key.now (live_on (T.view shelf.now) moment key.now)) }
+    ensures err { OnErr result (output.new.items ≡ output.old.items) }
+    ensures capacity { vec_capacity output.old ≤ vec_capacity output.new }
+{
+    match shelf.peek(key, moment) {
+        Some(item) => say_value(output, uniques, key.as_bytes(), item),
+        None => Ok(()),
+    }
+}
+
+/// Refuses a reply from `start` to `end` that is longer than it may be.
+fn check_size(start: usize, end: usize) -> Result<(), AllocError> {
+    if end.saturating_sub(start) > MAX_REPLY {
+        Err(AllocError)
+    } else {
+        Ok(())
+    }
+}

@@ -1,0 +1,263 @@
+//! The storage commands.
+ghost use Rattle.std.specs.Prelude.{◌≡◌, ◌↔◌, ◌≤◌, ◌+◌, ◌++◌, [], length, nat_lt, IsTrue, IfOk, OnOk, OnErr, Some, None, if◌then◌else◌};
+ghost use Rattle.memcache_model.specs.Answers.{passes_over, store_over};
+ghost use Rattle.memcache_model.specs.Outcomes.{new_item, stores};
+ghost use Rattle.memcache_model.specs.Items.{deadline_of};
+ghost use Rattle.memcache_service.specs.Shelves.{IsMoment};
+ghost use Rattle.memcache_service.specs.Stocks.{Does, Keeps, Leaves, block_item, joins, stock_at};
+ghost use Rattle.memcache_service.specs.Lines.{reply_text};
+
+use super::Stock;
+use crate::counters::Tally;
+use crate::item::{StoredItem, deadline_of};
+use crate::replies::Reply;
+use crate::shelf::Shelf;
+use memcache_model::{Exptime, Storage};
+use std::alloc::{AllocError, Global};
+
+/// A block that a storage command brings, with its flags and when it expires.
+#[derive(Clone, Copy)]
+pub struct Block<'a> {
+    pub bytes: &'a [u8],
+    pub flags: u32,
+    pub deadline: Option<u64>,
+}
+
+impl<'a> Block<'a> {
+    /// An item of the block.
+    fn item(&self, alloc: Global) -> Result<StoredItem, AllocError>
+        ensures { IfOk result (λ item. item ≡ block_item self.now) }
+    {
+        let bytes = Vec::from_slice(alloc, self.bytes)?;
+        Ok(StoredItem::new(bytes, self.flags, self.deadline))
+    }
+}
+
+impl<T: Shelf> Stock<T> {
+    /// Stores a block as the command says.
+    pub fn store(
+        &mut self,
+        storage: Storage,
+        key: &[u8],
+        flags: u32,
+        exptime: Exptime,
+        bytes: &[u8],
+        moment: u64,
+    ) -> Result<Reply, AllocError>
+        requires { IsMoment (T.view self.old.shelf) moment }
+        ensures ok { IfOk result (λ reply. Does T.view moment (store_over self.old.most storage
+            key.now (new_item bytes.now flags (deadline_of moment exptime))
+            ((stock_at T.view moment self.old).items key.now) (stock_at T.view moment self.old))
+            self.old self.new (reply_text reply)) }
+        ensures err { OnErr result (Keeps T.view moment self.old self.new) }
+    {
+        self.counters.up(Tally::CmdSet);
+        self.key.fill(key)?;
+        let deadline = deadline_of(moment, exptime);
+        self.store_block(
+            storage,
+            Block {
+                bytes,
+                flags,
+                deadline,
+            },
+            moment,
+        )
+    }
+
+    /// Stores a block under the key that was named.
+    fn store_block(
+        &mut self,
+        storage: Storage,
+        block: Block<'_>,
+        moment: u64,
+    ) -> Result<Reply, AllocError>
+        requires { IsMoment (T.view self.old.shelf) moment }
+        ensures ok { IfOk result (λ reply. Does T.view moment (store_over self.old.most storage
+            self.old.key (block_item block.entry)
+            ((stock_at T.view moment self.old).items self.old.key) (stock_at T.view moment self.old))
+            self.old self.new (reply_text reply)) }
+        ensures err { OnErr result (Keeps T.view moment self.old self.new) }
+    {
+        match storage {
+            Storage::Set => self.put_block(block, moment),
+            Storage::Add => match self.shelf.peek(&self.key, moment) {
+                Some(_) => Ok(Reply::NotStored),
+                None => self.put_block(block, moment),
+            },
+            Storage::Replace => match self.shelf.peek(&self.key, moment) {
+                Some(_) => self.put_block(block, moment),
+                None => Ok(Reply::NotStored),
+            },
+            Storage::Append => self.append(block, moment),
+            Storage::Prepend => self.prepend(block, moment),
+            Storage::Cas(unique) => self.compare(unique, block, moment),
+        }
+    }
+
+    /// Gives the key an item of the block.
+    fn put_block(&mut self, block: Block<'_>, moment: u64) -> Result<Reply, AllocError>
+        requires { IsMoment (T.view self.old.shelf) moment }
+        ensures ok { IfOk result (λ reply. (reply ≡ Reply.Stored) × Leaves T.view moment
+            (stores [] self.old.key (block_item block.entry) (stock_at T.view moment self.old)).stock
+            self.old self.new) }
+        ensures err { OnErr result (Keeps T.view moment self.old self.new) }
+    {
+        let item = block.item(self.alloc)?;
+        self.put(item, moment)?;
+        Ok(Reply::Stored)
+    }
+
+    /// Gives the key an item, with the next unique.
+    pub fn put(&mut self, item: StoredItem, moment: u64) -> Result<(), AllocError>
+        requires { IsMoment (T.view self.old.shelf) moment }
+        ensures ok { OnOk result (Leaves T.view moment
+            (stores [] self.old.key item (stock_at T.view moment self.old)).stock self.old
+            self.new) }
+        ensures err { OnErr result (Keeps T.view moment self.old self.new) }
+    {
+        let Some(unique) = self.uniques.checked_add(1) else {
+            return Err(AllocError);
+        };
+        self.shelf.put(&self.key, item.with_unique(unique), moment)?;
+        self.uniques = unique;
+        self.counters.up(Tally::TotalItems);
+        Ok(())
+    }
+
+    /// Puts bytes behind those of the live item.
+    fn append(&mut self, block: Block<'_>, moment: u64) -> Result<Reply, AllocError>
+        requires { IsMoment (T.view self.old.shelf) moment }
+        ensures ok { IfOk result (λ reply. Does T.view moment (store_over self.old.most
+            Storage.Append self.old.key (block_item block.entry)
+            ((stock_at T.view moment self.old).items self.old.key) (stock_at T.view moment self.old))
+            self.old self.new (reply_text reply)) }
+        ensures err { OnErr result (Keeps T.view moment self.old self.new) }
+    {
+        match self.shelf.peek(&self.key, moment) {
+            Some(old) => {
+                let item = behind_within(self.alloc, self.most, old, block.bytes)?;
+                self.put_joined(item, moment)
+            }
+            None => Ok(Reply::NotStored),
+        }
+    }
+
+    /// Puts bytes before those of the live item.
+    fn prepend(&mut self, block: Block<'_>, moment: u64) -> Result<Reply, AllocError>
+        requires { IsMoment (T.view self.old.shelf) moment }
+        ensures ok { IfOk result (λ reply. Does T.view moment (store_over self.old.most
+            Storage.Prepend self.old.key (block_item block.entry)
+            ((stock_at T.view moment self.old).items self.old.key) (stock_at T.view moment self.old))
+            self.old self.new (reply_text reply)) }
+        ensures err { OnErr result (Keeps T.view moment self.old self.new) }
+    {
+        match self.shelf.peek(&self.key, moment) {
+            Some(old) => {
+                let item = before_within(self.alloc, self.most, old, block.bytes)?;
+                self.put_joined(item, moment)
+            }
+            None => Ok(Reply::NotStored),
+        }
+    }
+
+    /// Gives the key this item, if there is one.
+    fn put_joined(&mut self, item: Option<StoredItem>, moment: u64) -> Result<Reply, AllocError>
+        requires { IsMoment (T.view self.old.shelf) moment }
+        ensures ok { IfOk result (λ reply. Does T.view moment (joins self.old.key item
+            (stock_at T.view moment self.old)) self.old self.new (reply_text reply)) }
+        ensures err { OnErr result (Keeps T.view moment self.old self.new) }
+    {
+        match item {
+            Some(item) => {
+                self.put(item, moment)?;
+                Ok(Reply::Stored)
+            }
+            None => Ok(Reply::NotStored),
+        }
+    }
+
+    /// Stores the block if the live item has the unique.
+    fn compare(&mut self, unique: u64, block: Block<'_>, moment: u64) -> Result<Reply, AllocError>
+        requires { IsMoment (T.view self.old.shelf) moment }
+        ensures ok { IfOk result (λ reply. Does T.view moment (store_over self.old.most
+            (Storage.Cas unique) self.old.key (block_item block.entry)
+            ((stock_at T.view moment self.old).items self.old.key) (stock_at T.view moment self.old))
+            self.old self.new (reply_text reply)) }
+        ensures err { OnErr result (Keeps T.view moment self.old self.new) }
+    {
+        let Some(item) = self.shelf.peek(&self.key, moment) else {
+            self.counters.up(Tally::CasMisses);
+            return Ok(Reply::NotFound);
+        };
+        if item.unique != unique {
+            self.counters.up(Tally::CasBadval);
+            return Ok(Reply::Exists);
+        }
+        self.counters.up(Tally::CasHits);
+        self.put_block(block, moment)
+    }
+
+    /// A block was too large: what a `set` was to replace goes.
+    pub fn pass_over(
+        &mut self,
+        storage: Storage,
+        key: &[u8],
+        moment: u64,
+    ) -> Result<Reply, AllocError>
+        requires { IsMoment (T.view self.old.shelf) moment }
+        ensures ok { IfOk result (λ reply. Does T.view moment (passes_over storage key.now
+            (stock_at T.view moment self.old)) self.old self.new (reply_text reply)) }
+        ensures err { OnErr result (Keeps T.view moment self.old self.new) }
+    {
+        self.counters.up(Tally::CmdSet);
+        match storage {
+            Storage::Set => {
+                self.key.fill(key)?;
+                self.shelf.remove(&self.key, moment)?;
+            }
+            _ => {}
+        }
+        Ok(Reply::TooLarge)
+    }
+}
+
+/// The item with more bytes behind its own; none if it would have more than `most`.
+pub fn behind_within(
+    alloc: Global,
+    most: u32,
+    old: &StoredItem,
+    more: &[u8],
+) -> Result<Option<StoredItem>, AllocError>
+    ensures { IfOk result (λ item. item ≡ (if nat_lt most (length (old.now.bytes ++ more.now))
+        then None else Some (record old.now { bytes = old.now.bytes ++ more.now }))) }
+{
+    if !fits(most, old.bytes.len(), more.len()) {
+        return Ok(None);
+    }
+    Ok(Some(old.with_behind(alloc, more)?))
+}
+
+/// The item with more bytes before its own; none if it would have more than `most`.
+pub fn before_within(
+    alloc: Global,
+    most: u32,
+    old: &StoredItem,
+    more: &[u8],
+) -> Result<Option<StoredItem>, AllocError>
+    ensures { IfOk result (λ item. item ≡ (if nat_lt most (length (more.now ++ old.now.bytes))
+        then None else Some (record old.now { bytes = more.now ++ old.now.bytes }))) }
+{
+    if !fits(most, more.len(), old.bytes.len()) {
+        return Ok(None);
+    }
+    Ok(Some(old.with_before(alloc, more)?))
+}
+
+/// Whether so many bytes and so many more are at most `most`.
+fn fits(most: u32, first: usize, second: usize) -> bool
+    ensures { IsTrue result ↔ first + second ≤ most }
+{
+    let most = most as usize;
+    first <= most && second <= most - first
+}
