@@ -1,5 +1,5 @@
 //! All namespaces of a server.
-ghost use Rattle.std.specs.Prelude.{◌≡◌, false, IfOk};
+ghost use Rattle.std.specs.Prelude.{◌≡◌, ◌∷◌, [], false, IfOk};
 ghost use Rattle.cache_shared.specs.Recordings.{bare_spaces, no_journals};
 ghost use Rattle.cache_shared.specs.Events.{StandsAfter};
 
@@ -50,7 +50,8 @@ pub struct House<R> {
 
 /// The service of a namespace, made at moment 0, with a generator of its own that no stranger can foresee.
 fn make_service<R: Machine>(rt: &R, alloc: Global, config: Config) -> Result<Service, Fault>
-    ensures empty { IfOk result (StandsAfter false bare_spaces no_journals 0) }
+    ensures empty { IfOk result
+        (StandsAfter false (config ∷ []) bare_spaces no_journals 0) }
 {
     let mut seed = [0; 32];
     rt.fill_bytes(&mut seed).map_err(|_| Fault::CannotListen)?;
@@ -187,7 +188,7 @@ impl<R: Machine> House<R> {
         listener: &Listener,
         all: &mut Loops,
     ) -> Result<(), Fault>
-        requires empty { StandsAfter false bare_spaces no_journals 0 core }
+        requires empty { StandsAfter false L.configs bare_spaces no_journals 0 core }
         requires name { blank.name ≡ L.name }
         requires parts { (blank.parts ≡ L.parts) × (L.all ≡ L.parts) × (L.parts ≡ 4294967296) }
     {

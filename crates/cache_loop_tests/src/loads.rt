@@ -1,5 +1,5 @@
 //! A load of one loop, for which a connection of another loop waits.
-ghost use Rattle.std.specs.Prelude.{◌≡◌, false, IfSome};
+ghost use Rattle.std.specs.Prelude.{◌≡◌, ◌∷◌, [], false, IfSome};
 ghost use Rattle.cache_shared.specs.Recordings.{bare_spaces, no_journals};
 ghost use Rattle.cache_shared.specs.Events.{StandsAfter};
 
@@ -199,7 +199,7 @@ fn serve_two<L: Seating + Send + Sync + 'static, R: Machine>(
     blank: Blank,
     parts: u64,
 ) -> Option<bool>
-    requires empty { StandsAfter false bare_spaces no_journals 0 core }
+    requires empty { StandsAfter false L.configs bare_spaces no_journals 0 core }
     requires name { blank.name ≡ L.name }
     requires parts { (blank.parts ≡ L.parts) × (L.all ≡ L.parts) × (parts ≡ L.parts) }
 {
@@ -223,21 +223,23 @@ fn serve_two<L: Seating + Send + Sync + 'static, R: Machine>(
     Some(good)
 }
 
+/// Without limits.
+const PLAIN: Config = Config {
+    capacity: None,
+    policy: EvictionPolicy::Lru,
+    parts: 1,
+    weight: Weight::One,
+    live_ms: None,
+    idle_ms: None,
+    own_deadlines: false,
+};
+
 /// A service of one namespace without limits.
 fn make_service(alloc: Global) -> Option<Service>
-    ensures { IfSome result (StandsAfter false bare_spaces no_journals 0) }
+    ensures { IfSome result (StandsAfter false (PLAIN ∷ []) bare_spaces no_journals 0) }
 {
-    let config = Config {
-        capacity: None,
-        policy: EvictionPolicy::Lru,
-        parts: 1,
-        weight: Weight::One,
-        live_ms: None,
-        idle_ms: None,
-        own_deadlines: false,
-    };
     let generator = Xoshiro256PlusPlus::seed_from_u64(1);
-    match Service::new(alloc, &[config], generator, Instant { nanos: 0 }) {
+    match Service::new(alloc, &[PLAIN], generator, Instant { nanos: 0 }) {
         Ok(core) => Some(core),
         Err(_) => None,
     }
