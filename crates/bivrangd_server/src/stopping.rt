@@ -2,6 +2,7 @@
 
 use crate::starting::Told;
 use crossbeam_channel::Sender;
+use std::alloc::Global;
 use std::io::{ErrorKind, Read};
 use std::sync::Wait;
 
