@@ -60,7 +60,7 @@ def end_of(lines, start, indent):
         is_open = False
         for at in range(start, len(lines)):
             line = lines[at]
-            is_clause = re.match(rf"{pad}    (ensures|requires) ", line)
+            is_clause = re.match(rf"{pad}    (ensures|requires)[* ]", line)
             if line == pad + "}" or (at == start or line.startswith(pad + "{")) and line.endswith("}") and depth_of(line) == 0 and "{" in line:
                 return at + 1
             if line.startswith(pad + ")") and line.endswith("}") and not is_clause:
@@ -311,7 +311,7 @@ def parts_of(item):
     pad, signature, clauses, comment = " " * item.indent, [], [], []
     lines = [line[item.indent :] for line in item.text]
     for at, line in enumerate(lines):
-        if re.match(r"    (ensures|requires) ", line):
+        if re.match(r"    (ensures|requires)[* ]", line):
             clauses.append([*comment, line])
             comment = []
         elif clauses or comment:
@@ -319,7 +319,7 @@ def parts_of(item):
                 comment.append(line)
             elif line.startswith("     "):
                 clauses[-1].append(line)
-            else:
+            elif line:
                 break
         elif line.startswith("    //") and at:
             comment.append(line)

@@ -20,11 +20,6 @@ same() { # what, one text, the other
     fi
 }
 
-# README: the example of the library is the one that crates/cache_tests proves and runs.
-same "README.md's example and crates/cache_tests/src/uses/example.rt" \
-    "$(block README.md '## Use as a library' '```rust')" \
-    "$(tail -n +2 crates/cache_tests/src/uses/example.rt)"
-
 # The protocol's example is the stored run of the program.
 example=$(block docs/PROTOCOL.md '## Example' '```')
 same "docs/PROTOCOL.md's example and crates/cached/stdin" \
@@ -52,21 +47,11 @@ same "docs/man/cached.toml.5's keys and docs/PROTOCOL.md's" \
 # The gate checks it: the stored run of cached_check reads a copy.
 same "docs/cached.toml and crates/cached_check/data/cached.toml" "$(cat docs/cached.toml)" "$(cat crates/cached_check/data/cached.toml)"
 
-# FROM_MOKA.md: each of our examples is a region of a module that crates/sync_tests proves and runs, and each region is shown.
-uses=crates/sync_tests/src/uses
-region() { # name
-    awk -v head="// example: $1" '$0 == head { on = 1; next } $0 == "// end" { on = 0 } on' "$uses"/*.rt
-}
-shown=$(sed -n 's/^<!-- example: \(.*\) -->$/\1/p' docs/FROM_MOKA.md)
-same "the names of docs/FROM_MOKA.md's examples and of $uses's regions" \
-    "$(sort <<<"$shown")" "$(sed -n 's|^// example: ||p' "$uses"/*.rt | sort)"
-for name in $shown; do
-    same "docs/FROM_MOKA.md's example $name and its region in $uses" \
-        "$(block docs/FROM_MOKA.md "<!-- example: $name -->" '```rust')" "$(region "$name")"
-done
-
 # The pictures and the tables of figures are those that the file of figures gives.
 PYTHONDONTWRITEBYTECODE=1 python3 benches/plots.py check
+
+# The pages of promises, the table of crates and the examples in Rattle are those that the sources give.
+python3 -B tools/proved.py --check
 
 # The documents' links lead somewhere.
 python3 tools/test_links.py

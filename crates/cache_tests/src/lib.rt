@@ -30,6 +30,4 @@ mod stores;
 #[cfg(test)]
 mod texts;
 #[cfg(test)]
-mod uses;
-#[cfg(test)]
 mod without_memory;

@@ -11,6 +11,8 @@ mod model;
 #[cfg(test)]
 mod played;
 #[cfg(test)]
+mod refused_in_turn;
+#[cfg(test)]
 mod rows;
 #[cfg(test)]
 mod transcripts;

@@ -3,5 +3,5 @@
 mod hostile;
 mod loads;
 mod reading;
-mod rows;
+pub mod rows;
 mod wrong;

@@ -83,11 +83,19 @@ fn text_of(alloc: Global, head: &[u8], lines: &[u8]) -> Result<Vec<u8>, AllocErr
 }
 
 /// The record at which a transcript breaks a rule, or 0. None where memory is wanted.
-fn breaks_at(alloc: Global, config: &Config, transcript: &Transcript) -> Option<u64> {
+pub fn breaks_at(alloc: Global, config: &Config, transcript: &Transcript) -> Option<u64> {
     match audit(alloc, config, transcript) {
         Verdict::Yes => Some(0),
         Verdict::Breaks(number) => Some(number),
         Verdict::OutOfMemory => None,
+    }
+}
+
+/// The transcript of a row's lines. None where memory is wanted.
+pub fn read_lines(alloc: Global, head: &[u8], lines: &[u8]) -> Option<(Config, Transcript)> {
+    match text_of(alloc, head, lines) {
+        Ok(text) => read_transcript(alloc, &text).ok(),
+        Err(_) => None,
     }
 }
 

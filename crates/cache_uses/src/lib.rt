@@ -1,0 +1,5 @@
+//! How `cache_service` is used, proved and run.
+#![tactic(auto)]
+
+#[cfg(test)]
+mod uses;
