@@ -43,10 +43,10 @@ pub struct ConfigReport {
 }
 
 /// Why a file is not taken.
-#[derive(Clone, Copy, Debug, PartialEq, Eq, Drop)]
+#[derive(Debug, Drop)]
 pub enum ConfigError {
-    /// It is no such file.
-    Bad,
+    /// It is no such file: the first of its faults, by line.
+    Bad(ConfigFault),
     /// There was no memory.
     OutOfMemory,
 }

@@ -45,10 +45,9 @@ pub fn read_config(alloc: Global, text: &str) -> Result<Vec<HostedNamespace>, Co
     ensures text { parse_document text.now ≡ None → IsErr result }
 {
     let Read { spaces, report } = read_text(alloc, text)?;
-    if report.faults.is_empty() {
-        Ok(spaces)
-    } else {
-        Err(ConfigError::Bad)
+    match report.faults.into_iter().next() {
+        None => Ok(spaces),
+        Some(first) => Err(ConfigError::Bad(first)),
     }
 }
 

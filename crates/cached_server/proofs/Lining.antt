@@ -1,12 +1,8 @@
 -- Lines that are gathered, and written out.
-use Rattle.std.proofs.Common.{◌≡◌, ℕ, ◌+◌, ◌<◌, List, [], ◌∷◌, ◌++◌, length, take, get_or, Bor, Option, sym, ap, ◌∙◌, subst}
-use Rattle.std.specs.Prelude.{Result, Ok, Err, OnOk}
-use Rattle.std.specs.Io.KnownBytes.{Appends}
+use Rattle.std.proofs.Common.{◌≡◌, ℕ, ◌+◌, ◌<◌, List, [], ◌∷◌, ◌++◌, length, take, get_or, Bor, ap, ◌∙◌}
 use Rattle.std.proofs.lemmas.Grind.{flat_map-append}
 use Rattle.std.proofs.lemmas.List.{append-nil, take_more}
 use Rattle.cached_server.specs.Lines.{joined}
-use Rattle.cached_server.specs.Script.Gathering.{Gathers}
-use Rattle.cached_server.proofs.script.Gathered.{gathers-more}
 
 -- one text more
 pub joined-more : (texts : List (Bor (List ℕ))) (i : ℕ) (d : Bor (List ℕ)) → i < length texts → joined (take (i + 1) texts) ≡ joined (take i texts) ++ (get_or texts i d).now

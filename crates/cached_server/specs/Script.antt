@@ -1,3 +1,4 @@
+pub mod Called
 pub mod Faults
 pub mod Gathering
 pub mod Notes

@@ -4,6 +4,7 @@ ghost use Rattle.cache_shared.specs.Recordings.{bare_spaces, no_journals};
 ghost use Rattle.cache_shared.specs.Events.{StandsAfter};
 
 use crate::announcing::{Outlet, Scribe, Site};
+use crate::endings::Ending;
 use crate::machine::{Machine, Shown};
 use crate::script::Fault;
 use audit_model::{Config, Instant};
@@ -72,29 +73,30 @@ fn host_all<L: Seating + Send + Sync + 'static, W: Shown, E: Shown, R: Machine>(
     spaces: Vec<HostedNamespace>,
     listeners: Vec<TcpListener>,
     scribe: Scribe<W, E>,
-) -> Result<(), Fault>
+) -> Result<(), Ending>
     requires empty { StandsAfter false bare_spaces no_journals 0 core }
     requires name { blank.name ≡ L.name }
     requires parts { (blank.parts ≡ L.parts) × (L.all ≡ L.parts) × (L.parts ≡ 4294967296) }
-    ensures { IfErr result (λ e. (e ≡ Fault.CannotListen) ⊎ (e ≡ Fault.OutOfMemory)) }
+    ensures { IfErr result
+        (λ e. (e.fault ≡ Fault.CannotListen) ⊎ (e.fault ≡ Fault.OutOfMemory)) }
 {
     let (rt, alloc) = (hall.rt, hall.alloc);
     let Ok(shared) = SharedService::<L, Service>::new(alloc, core, blank, SEATS) else {
-        return Err(Fault::OutOfMemory);
+        return Err(Ending::from(Fault::OutOfMemory));
     };
     let outlet = Arc::try_clone(&hall.outlet)?;
     let writing = thread::spawn(&rt, move || scribe.write_all(&rt, &outlet));
-    let writing = writing.map_err(|_| Fault::OutOfMemory)?;
+    let writing = writing.map_err(|_| AllocError)?;
     let (ending, ended) = bounded(alloc, listeners.len())?;
     let mut threads = Vec::with_capacity(alloc, listeners.len())?;
     for (namespace, (space, listener)) in spaces.into_iter().zip(listeners).enumerate() {
         let thread = hall.start(&shared, &ending, namespace as u64, space, listener)?;
         if threads.push(thread).is_err() {
-            return Err(Fault::OutOfMemory);
+            return Err(Ending::from(Fault::OutOfMemory));
         }
     }
     if ended.iter(&rt).take(threads.len()).any(|failed| failed) {
-        return Err(Fault::CannotListen);
+        return Err(Ending::from(Fault::CannotListen));
     }
     for thread in threads {
         thread.join(&rt);
@@ -106,19 +108,20 @@ fn host_all<L: Seating + Send + Sync + 'static, W: Shown, E: Shown, R: Machine>(
 
 /// The service of these namespaces, made at moment 0. Its generator is one that no stranger can foresee: its seed comes from the machine's
 /// random source.
-fn make_core<R: Machine>(hall: &Hall<R>, spaces: &[HostedNamespace]) -> Result<Service, Fault>
+fn make_core<R: Machine>(hall: &Hall<R>, spaces: &[HostedNamespace]) -> Result<Service, Ending>
     ensures empty { IfOk result (StandsAfter false bare_spaces no_journals 0) }
-    ensures err { IfErr result (λ e. (e ≡ Fault.CannotListen) ⊎ (e ≡ Fault.OutOfMemory)) }
+    ensures err { IfErr result
+        (λ e. (e.fault ≡ Fault.CannotListen) ⊎ (e.fault ≡ Fault.OutOfMemory)) }
 {
     let mut seed = [0; 32];
     hall.rt
         .fill_bytes(&mut seed)
-        .map_err(|_| Fault::CannotListen)?;
+        .map_err(|error| Ending::machine("the random source", error))?;
     let generator = Xoshiro256PlusPlus::from_seed(seed);
     let configs: Vec<Config> = spaces.iter().map(|space| space.config).collect(hall.alloc)?;
     match Service::new(hall.alloc, &configs, generator, Instant { nanos: 0 }) {
         Ok(core) => Ok(core),
-        Err(_) => Err(Fault::OutOfMemory),
+        Err(_) => Err(Ending::from(Fault::OutOfMemory)),
     }
 }
 
@@ -128,8 +131,9 @@ pub fn serve_spaces<W: Shown, E: Shown, R: Machine>(
     spaces: Vec<HostedNamespace>,
     listeners: Vec<TcpListener>,
     scribe: Scribe<W, E>,
-) -> Result<(), Fault>
-    ensures { IfErr result (λ e. (e ≡ Fault.CannotListen) ⊎ (e ≡ Fault.OutOfMemory)) }
+) -> Result<(), Ending>
+    ensures { IfErr result
+        (λ e. (e.fault ≡ Fault.CannotListen) ⊎ (e.fault ≡ Fault.OutOfMemory)) }
 {
     let core = make_core(&hall, &spaces)?;
     host_all::<Brand, W, E, R>(hall, core, Blank::new(SEATS), spaces, listeners, scribe)

@@ -3,6 +3,7 @@
 
 mod announcing;
 mod devices;
+mod endings;
 mod hosts;
 mod lines;
 mod machine;
@@ -11,6 +12,7 @@ mod program;
 pub mod script;
 
 pub use announcing::Outlet;
+pub use endings::{Cause, Ending};
 pub use lines::Lines;
 pub use machine::Machine;
 pub use outbox::{Outbox, ROOM};

@@ -1,21 +1,23 @@
 //! The program over its words and streams.
-ghost use Rattle.std.specs.Prelude.{◌≡◌, ◌≢◌, ◌≤◌, ◌⊎◌, None, IsErr, IfErr};
+ghost use Rattle.std.specs.Prelude.{◌≡◌, ◌≢◌, ◌≤◌, ◌⊎◌, ◌++◌, ℕ, List, None, map, IsErr, IfErr};
 ghost use Rattle.toml.specs.Parse.{parse_document};
 ghost use Rattle.cache_run.specs.Devices.Watched.{device, failures};
-ghost use Rattle.cached_server.specs.Script.Faults.{Tells, fault_message, usage_text};
+ghost use Rattle.cached_server.specs.Script.Called.{call_of};
+ghost use Rattle.cached_server.specs.Script.Faults.{EndsCallBy, MayEnd, Tells, fault_message, usage_text};
 ghost use Rattle.cached_server.specs.Script.Scripts.{ServesStreams};
 
 use crate::announcing::{Outlet, Scribe};
+use crate::endings::Ending;
 use crate::hosts::{Hall, serve_spaces};
 use crate::lines::Lines;
 use crate::machine::{Machine, Shown, Threaded};
 use crate::script::{Chosen, Fault, fail, run_script, take_words, without_words};
 use cache_run::Watched;
 use cached_config::{HostedNamespace, read_config};
-use std::alloc::Global;
+use std::alloc::{AllocError, Global};
 use std::convert::AsStr;
 use std::fs;
-use std::io::{ErrorKind, Read, Write};
+use std::io::{Read, Write};
 use std::net::{Ipv4Addr, Net, SocketAddr, TcpListener, TcpStream};
 use std::rt::Files;
 use std::time::Instant;
@@ -47,6 +49,10 @@ where
         (E.contents (device errors.new)) (failures errors.old) (failures errors.new) }
     ensures unread { result ≡ 2 → reader.new ≡ reader.old }
     ensures unwritten { result ≡ 2 → writer.new ≡ writer.old }
+    // 2 only of bad words, 0 only of a script
+    ensures words { MayEnd (call_of (map S.text words.now)) result }
+    ensures stopped { result ≡ 1 → EndsCallBy (call_of (map S.text words.now)) E.contents
+        reader.old reader.new writer.old writer.new errors.old errors.new }
 {
     match take_words(alloc, words) {
         Ok(Chosen::Script) => run_script(alloc, reader, writer, errors),
@@ -55,7 +61,8 @@ where
     }
 }
 
-/// Serves what the configuration file at a path says, until that is no longer possible. Then it writes what was wrong, and the status is 1.
+/// Serves what the configuration file at a path says, until that is no longer possible. Then it writes what was wrong and, on a second line,
+/// what caused it, as far as that is known; the status is 1.
 pub fn serve_config<E: Write, W: Shown, V: Shown, R: Machine + Files + AllocGlobal>(
     rt: R,
     alloc: Global,
@@ -64,15 +71,29 @@ pub fn serve_config<E: Write, W: Shown, V: Shown, R: Machine + Files + AllocGlob
     errors: &mut Watched<E>,
 ) -> u8
     ensures status { result ≡ 1 }
-    ensures told { (fault : Fault) × Tells (fault_message fault) (E.contents (device errors.old))
+    // the text of a fault other than of input, and what caused it
+    ensures told { (fault : Fault) × (cause : List ℕ) × (fault ≢ Fault.Read)
+        × Tells (fault_message fault ++ cause) (E.contents (device errors.old))
         (E.contents (device errors.new)) (failures errors.old) (failures errors.new) }
 {
-    let Ok(begun) = Instant::now(&rt) else {
-        return fail(errors, Fault::CannotListen);
-    };
-    let serve = |text: String| serve_text(rt, alloc, text.as_str(), begun, shown, None);
-    let served = read_text(&rt, path).and_then(serve);
-    fail(errors, served.err().unwrap_or(Fault::UsedUp))
+    match serve_file(rt, alloc, path, shown) {
+        Ok(()) => fail(errors, Fault::UsedUp),
+        Err(ending) => ending.tell(alloc, path, errors),
+    }
+}
+
+/// Serves what the configuration file at a path says.
+fn serve_file<W: Shown, V: Shown, R: Machine + Files + AllocGlobal>(
+    rt: R,
+    alloc: Global,
+    path: &str,
+    shown: (W, V),
+) -> Result<(), Ending>
+    ensures { IfErr result (λ e. (e.fault ≢ Fault.Read) × (e.fault ≢ Fault.UsedUp)) }
+{
+    let begun = Instant::now(&rt).map_err(|error| Ending::machine("the clock", error))?;
+    let text = fs::read_to_string(&rt, path).map_err(Ending::file)?;
+    serve_text(rt, alloc, text.as_str(), begun, shown, None)
 }
 
 /// Serves what the text of a configuration file says: without end, or until each namespace has served as many connections as the limit
@@ -85,11 +106,11 @@ pub fn serve_text<W: Shown, V: Shown, R: Machine>(
     begun: Instant,
     shown: (W, V),
     limit: Option<u64>,
-) -> Result<(), Fault>
+) -> Result<(), Ending>
     ensures text { parse_document text.now ≡ None → IsErr result }
-    ensures causes { parse_document text.now ≡ None
-        → IfErr result (λ e. (e ≡ Fault.BadConfiguration) ⊎ (e ≡ Fault.OutOfMemory)) }
-    ensures faults { IfErr result (λ e. (e ≢ Fault.Read) × (e ≢ Fault.UsedUp)) }
+    ensures causes { parse_document text.now ≡ None → IfErr result
+        (λ e. (e.fault ≡ Fault.BadConfiguration) ⊎ (e.fault ≡ Fault.OutOfMemory)) }
+    ensures faults { IfErr result (λ e. (e.fault ≢ Fault.Read) × (e.fault ≢ Fault.UsedUp)) }
 {
     let spaces = read_config(alloc, text)?;
     let listeners = listen(&rt, alloc, &spaces)?;
@@ -97,7 +118,7 @@ pub fn serve_text<W: Shown, V: Shown, R: Machine>(
     let mut lines = Lines::new(alloc, shown)?;
     for space in &spaces {
         let shown = lines.show(space.name.as_slice(), space.port);
-        shown.map_err(|_| Fault::Write)?;
+        shown.map_err(|_| Ending::from(Fault::Write))?;
     }
     let scribe = Scribe::new(alloc, lines, alarms)?;
     let hall = Hall {
@@ -110,27 +131,21 @@ pub fn serve_text<W: Shown, V: Shown, R: Machine>(
     serve_spaces(hall, spaces, listeners, scribe)
 }
 
-/// The text of a file. One that cannot be read, or is not text, is a bad configuration.
-fn read_text<R: Files + AllocGlobal>(rt: &R, path: &str) -> Result<String, Fault> {
-    fs::read_to_string(rt, path).map_err(|error| match error.kind() {
-        ErrorKind::OutOfMemory => Fault::OutOfMemory,
-        _ => Fault::BadConfiguration,
-    })
-}
-
 /// A listener on 127.0.0.1 for each namespace, in their order.
 fn listen<R: Machine>(
     rt: &R,
     alloc: Global,
     spaces: &[HostedNamespace],
-) -> Result<Vec<TcpListener>, Fault>
-    ensures { IfErr result (λ e. (e ≡ Fault.CannotListen) ⊎ (e ≡ Fault.OutOfMemory)) }
+) -> Result<Vec<TcpListener>, Ending>
+    ensures { IfErr result
+        (λ e. (e.fault ≡ Fault.CannotListen) ⊎ (e.fault ≡ Fault.OutOfMemory)) }
 {
     let mut listeners = Vec::with_capacity(alloc, spaces.len())?;
     for space in spaces {
         let address = SocketAddr::from((Ipv4Addr::LOCALHOST, space.port));
-        let listener = TcpListener::bind(rt, address).map_err(|_| Fault::CannotListen)?;
-        listeners.push(listener).map_err(|_| Fault::OutOfMemory)?;
+        let bound = TcpListener::bind(rt, address);
+        let listener = bound.map_err(|error| Ending::port(space.port, error))?;
+        listeners.push(listener).map_err(|_| AllocError)?;
     }
     Ok(listeners)
 }

@@ -285,11 +285,18 @@ fn headers_in(text: &str) -> usize {
     text.lines().filter(|line| *line == "[[namespace]]").count()
 }
 
-/// Whether a file is read, with each namespace that it begins, or is none.
-fn is_judged(alloc: Global, text: &str, is_good: bool) -> bool {
+/// Whether a fault is told first in this text.
+fn is_first(alloc: Global, fault: ConfigFault, faults: &str) -> bool {
+    let mut told = String::new(alloc);
+    add_faults(&mut told, &[fault]).is_ok() && faults.starts_with(told.as_str())
+}
+
+/// Whether a file is read, with each namespace that it begins, or is none for the first of these faults.
+fn is_judged(alloc: Global, text: &str, faults: &str) -> bool {
     match read_config(alloc, text) {
-        Ok(spaces) => is_good && spaces.len() == headers_in(text),
-        Err(error) => !is_good && error == ConfigError::Bad,
+        Ok(spaces) => faults.is_empty() && spaces.len() == headers_in(text),
+        Err(ConfigError::Bad(fault)) => is_first(alloc, fault, faults),
+        Err(ConfigError::OutOfMemory) => false,
     }
 }
 
@@ -339,7 +346,7 @@ fn all_are_warned(alloc: Global) -> bool {
 fn comes_so(alloc: Global, lines: &[Lines<'_>], faults: &str) -> bool {
     match text_of(alloc, lines) {
         Some(text) => has_faults(alloc, text.as_str(), faults)
-            && is_judged(alloc, text.as_str(), faults.is_empty()),
+            && is_judged(alloc, text.as_str(), faults),
         None => false,
     }
 }
@@ -381,10 +388,12 @@ fn all_long_come_so(alloc: Global) -> bool {
 
 /// Whether the first fault of a text that is no configuration is in this line.
 fn is_broken(alloc: Global, text: &str, line: usize) -> bool {
-    match check_config(alloc, text) {
-        Ok(report) => matches!(report.faults.as_slice(), [first, ..] if first.line == line)
-            && is_judged(alloc, text, false),
-        Err(_) => false,
+    match (check_config(alloc, text), read_config(alloc, text)) {
+        (Ok(report), Err(ConfigError::Bad(fault))) => {
+            fault.line == line
+                && matches!(report.faults.as_slice(), [first, ..] if first.line == line)
+        }
+        _ => false,
     }
 }
 

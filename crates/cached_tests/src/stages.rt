@@ -2,7 +2,8 @@
 use crate::clients::{connect, send_only, talks, talks_in_turn, use_up};
 use crate::meetings::Meeting;
 use crate::sinks::{Sink, Written, is_written, make_sink, make_written};
-use cached_server::{Fault, Machine, serve_text};
+use cache_run::Watched;
+use cached_server::{Ending, Fault, Machine, serve_text};
 use std::alloc::{AllocError, Global};
 use std::sync::Wait;
 use std::thread;
@@ -141,11 +142,11 @@ fn serve_cast<R: Machine>(
     config: &str,
     cast: Cast,
     sinks: (Sink<R>, Sink<R>),
-) -> Result<(), Fault> {
+) -> Result<(), Ending> {
     let limit = u64::from(counts_of(cast).0.max(1));
     match Instant::now(&rt) {
         Ok(begun) => serve_text(rt, alloc, config, begun, sinks, Some(limit)),
-        Err(_) => Err(Fault::Read),
+        Err(_) => Err(Ending::from(Fault::Read)),
     }
 }
 
@@ -157,11 +158,44 @@ fn serve_them<R: Machine>(
     cast: Cast,
     sinks: (Sink<R>, Sink<R>),
     meeting: &Meeting,
-) -> Option<Result<(), Fault>> {
+) -> Option<Result<(), Ending>> {
     if meeting.meets(&rt) {
         Some(serve_cast(rt, alloc, config, cast, sinks))
     } else {
         None
+    }
+}
+
+/// What is told of a fault; of a port that is taken, as far as the system's words.
+fn told_of(alloc: Global, fault: Fault, stage: Stage<'_>) -> Result<String, AllocError> {
+    let port = stage.ports.1;
+    match fault {
+        Fault::CannotListen => Ok(format!(in alloc; "cached: cannot listen\nport {port}: ")?),
+        _ => String::from_str(alloc, "cached: write failed\n"),
+    }
+}
+
+/// Whether an ending tells so of its fault.
+fn tells_so(alloc: Global, ending: &Ending, stage: Stage<'_>) -> bool {
+    let mut told = Watched::new(Vec::new(alloc));
+    let status = ending.tell(alloc, "f", &mut told);
+    match told_of(alloc, ending.fault, stage) {
+        Ok(wanted) => status == 1 && told.inner().as_slice().starts_with(wanted.as_bytes()),
+        Err(_) => false,
+    }
+}
+
+/// Whether a server ends so, and tells its fault.
+fn ends_so(
+    alloc: Global,
+    ended: Result<(), Ending>,
+    wanted: Result<(), Fault>,
+    stage: Stage<'_>,
+) -> bool {
+    match (ended, wanted) {
+        (Ok(()), Ok(())) => true,
+        (Err(ending), Err(fault)) => ending.fault == fault && tells_so(alloc, &ending, stage),
+        _ => false,
     }
 }
 
@@ -180,7 +214,7 @@ fn is_served<R: Machine>(
         move || clients_come(lent, alloc, stage.ports, row, meeting),
         move || serve_them(rt, alloc, stage.config, row.cast, sinks, meeting),
     );
-    is_read && ended == Some(row.ended)
+    is_read && ended.is_some_and(|ended| ends_so(alloc, ended, row.ended, stage))
 }
 
 /// The server's two writers. The first one takes just what it shows where the row says so.

@@ -15,8 +15,6 @@ use std::{env, fs, io, process};
 
 const USAGE: &[u8] = b"usage: cached --script | --config FILE\n";
 
-const BAD: &[u8] = b"cached: bad configuration\n";
-
 /// Words, and the status, the output and the errors of the program over them.
 type Row<'a> = (&'a [&'a str], u8, &'a [u8], &'a [u8]);
 
@@ -90,18 +88,37 @@ const ROWS: &[Row<'static>] = &[
     (&["cached", "--help"], 2, b"", USAGE),
     (&["cached", "--script", "x"], 2, b"", USAGE),
     (&["cached", "--script", "--script"], 2, b"", USAGE),
-    (&["cached", "--config", "no/such/file"], 1, b"", BAD),
+    (
+        &["cached", "--config", "no/such/file"],
+        1,
+        b"",
+        b"cached: bad configuration\nno/such/file: there is no such file\n",
+    ),
 ];
 
-/// Files that are no configurations.
-const FILES: &[&str] = &[
-    "",
-    "[[namespace]]\nname = \"a\"\nport = 1\n[[namespace]]\nname = \"b\"\nport = 1\n",
-    "[[namespace]]\nname = \"a\"\nport = 1\n[[namespace]]\nname = \"a\"\nport = 2\n",
-    "[[namespace]]\nname = \"a\"\nport = 1\ndeadlines = true\nlive_ms = 5\n",
-    "[[namespace]]\nname = \"a\"\nport = 1\nspeed = 3\n",
-    "[[namespace]]\nname = \"a\"\nport = 65536\n",
-    "[[namespace]\n",
+/// Files that are no configurations, and the first fault of each, with its line.
+const FILES: &[(&str, &str)] = &[
+    ("", "1: there is no [[namespace]]"),
+    (
+        "[[namespace]]\nname = \"a\"\nport = 1\n[[namespace]]\nname = \"b\"\nport = 1\n",
+        "6: port is that of another namespace",
+    ),
+    (
+        "[[namespace]]\nname = \"a\"\nport = 1\n[[namespace]]\nname = \"a\"\nport = 2\n",
+        "5: name is that of another namespace",
+    ),
+    (
+        "[[namespace]]\nname = \"a\"\nport = 1\ndeadlines = true\nlive_ms = 5\n",
+        "4: deadlines does not go with live_ms",
+    ),
+    (
+        "[[namespace]]\nname = \"a\"\nport = 1\nspeed = 3\ncapacty = 3\n",
+        "4: unknown key speed",
+    ),
+    (
+        "[[namespace]]\nname = \"a\"\nport = 65536\nparts = 0\n",
+        "3: port is a number from 1 to 65535",
+    ),
 ];
 
 /// Whether the program over its words comes to what each row says.
@@ -127,21 +144,61 @@ where
     true
 }
 
-/// Whether a file of a text, written to that path and removed behind it, is a bad configuration of the program.
-fn is_bad<R: Machine + Files + AllocGlobal>(rt: R, alloc: Global, path: &str, text: &str) -> bool {
-    let is_written = fs::write(&rt, path, text).is_ok();
-    let came = comes_so(rt, alloc, (&["cached", "--config", path], 1, b"", BAD));
+/// What the program says of a bad file at a path, whose first fault this is.
+fn told_of(alloc: Global, path: &str, fault: &str) -> Result<String, AllocError> {
+    let told = "cached: bad configuration\n";
+    Ok(format!(in alloc; "{told}{path}:{fault} (`cached_check {path}` lists all)\n")?)
+}
+
+/// What the program says of a file at a path that is not UTF-8.
+fn told_of_bytes(alloc: Global, path: &str) -> Result<String, AllocError> {
+    Ok(format!(in alloc; "cached: bad configuration\n{path}: it is not UTF-8\n")?)
+}
+
+/// Whether the program says so of the file at a path.
+fn is_told<R: Machine + Files + AllocGlobal>(
+    rt: R,
+    alloc: Global,
+    path: &str,
+    told: Result<String, AllocError>,
+) -> bool {
+    match told {
+        Ok(told) => comes_so(
+            rt,
+            alloc,
+            (&["cached", "--config", path], 1, b"", told.as_bytes()),
+        ),
+        Err(_) => false,
+    }
+}
+
+/// Whether the program says so of a file of these bytes, written to that path and removed behind it.
+fn is_bad<R: Machine + Files + AllocGlobal>(
+    rt: R,
+    alloc: Global,
+    path: &str,
+    bytes: &[u8],
+    told: Result<String, AllocError>,
+) -> bool {
+    let is_written = fs::write(&rt, path, bytes).is_ok();
+    let came = is_told(rt, alloc, path, told);
     fs::remove_file(&rt, path).is_ok() && is_written && came
 }
 
-/// Whether each file is.
+/// Whether each file is, and one that is not UTF-8.
 fn are_bad<R: Machine + Files + AllocGlobal>(rt: R, alloc: Global, path: &str) -> bool {
-    for text in FILES {
-        if !is_bad(rt, alloc, path, text) {
+    for (text, fault) in FILES {
+        if !is_bad(
+            rt,
+            alloc,
+            path,
+            text.as_bytes(),
+            told_of(alloc, path, fault),
+        ) {
             return false;
         }
     }
-    true
+    is_bad(rt, alloc, path, b"\xff\n", told_of_bytes(alloc, path))
 }
 
 /// A path in this directory for the process of this number.

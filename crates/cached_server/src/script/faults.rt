@@ -1,11 +1,10 @@
 //! Why the program ends before its time, and what it then writes.
-ghost use Rattle.std.specs.Prelude.{◌≡◌, ◌≢◌, ◌⊎◌, codes};
+ghost use Rattle.std.specs.Prelude.{◌≡◌, ◌≢◌, ◌≤◌, ◌++◌, codes};
 ghost use Rattle.cache_run.specs.Devices.Watched.{device, failures};
 ghost use Rattle.cached_server.specs.declared.script.faults.Fault.TheVariants as fault;
-ghost use Rattle.cached_server.specs.Script.Faults.{EndsTelling, Tells, fault_message, usage_text};
+ghost use Rattle.cached_server.specs.Script.Faults.{EndsTelling, Tells, fault_after, fault_message, usage_text};
 
 use cache_run::{RunError, Watched, send};
-use cached_config::ConfigError;
 use std::alloc::AllocError;
 use std::io::{ErrorKind, Write};
 
@@ -34,21 +33,10 @@ impl From<AllocError> for Fault {
     }
 }
 
-impl From<ConfigError> for Fault {
-    ghost from_gives = { λ _ e. (e ≡ fault.BadConfiguration) ⊎ (e ≡ fault.OutOfMemory) };
-
-    fn from(e: ConfigError) -> Fault {
-        match e {
-            ConfigError::Bad => Fault::BadConfiguration,
-            ConfigError::OutOfMemory => Fault::OutOfMemory,
-        }
-    }
-}
-
 const USAGE: &[u8] = b"usage: cached --script | --config FILE\n";
 
 /// The text of a fault, with its line end.
-fn text_of(fault: Fault) -> &'static [u8]
+pub fn text_of(fault: Fault) -> &'static [u8]
     ensures { result.now ≡ fault_message fault }
 {
     match fault {
@@ -61,13 +49,34 @@ fn text_of(fault: Fault) -> &'static [u8]
     }
 }
 
+/// Writes a text. What cannot be written is lost.
+fn tell<E: Write>(text: &[u8], errors: &mut Watched<E>)
+    ensures told { Tells text.now (E.contents (device errors.old)) (E.contents (device errors.new))
+        (failures errors.old) (failures errors.new) }
+    ensures later { failures errors.old ≤ failures errors.new }
+{
+    let _ = send(text, errors);
+}
+
+/// Writes two texts, the second only if the first was written whole. What cannot be written is lost.
+pub fn tell_both<E: Write>(first: &[u8], second: &[u8], errors: &mut Watched<E>)
+    ensures { Tells (first.now ++ second.now) (E.contents (device errors.old))
+        (E.contents (device errors.new)) (failures errors.old) (failures errors.new) }
+{
+    match send(first, errors) {
+        Ok(()) => tell(second, errors),
+        Err(_) => (),
+    }
+}
+
 /// Writes the text of a fault, and returns the status after it. What cannot be written is lost.
 pub fn fail<E: Write>(errors: &mut Watched<E>, fault: Fault) -> u8
     ensures status { result ≡ 1 }
     ensures told { Tells (fault_message fault) (E.contents (device errors.old))
         (E.contents (device errors.new)) (failures errors.old) (failures errors.new) }
+    ensures later { failures errors.old ≤ failures errors.new }
 {
-    let _ = send(text_of(fault), errors);
+    tell(text_of(fault), errors);
     1
 }
 
@@ -81,16 +90,13 @@ pub fn without_words<E: Write>(cause: ErrorKind, errors: &mut Watched<E>) -> u8
     if cause == ErrorKind::OutOfMemory {
         return fail(errors, Fault::OutOfMemory);
     }
-    let _ = send(USAGE, errors);
+    tell(USAGE, errors);
     2
 }
 
 /// Why the program ends after a connection ended with an error.
 pub fn fault_of(error: RunError) -> Fault
-    ensures read { error ≡ RunError.Read → result ≡ Fault.Read }
-    ensures write { error ≡ RunError.Write → result ≡ Fault.Write }
-    ensures memory { error ≡ RunError.OutOfMemory → result ≡ Fault.OutOfMemory }
-    ensures used_up { error ≡ RunError.UsedUp → result ≡ Fault.UsedUp }
+    ensures { result ≡ fault_after error }
 {
     match error {
         RunError::Read => Fault::Read,

@@ -1,5 +1,6 @@
 //! A script over standard streams.
 ghost use Rattle.std.specs.Prelude.{◌≡◌, ◌≤◌};
+ghost use Rattle.cached_server.specs.Script.Faults.{EndsScriptBy};
 ghost use Rattle.cached_server.specs.Script.Scripts.{ServesStreams};
 
 use crate::script::faults::{Fault, fail, fault_of};
@@ -45,6 +46,8 @@ pub fn run_script<R: Read, W: Write, E: Write>(
     ensures status { result ≤ 1 }
     ensures served { result ≡ 0 → ServesStreams R.remaining W.contents E.contents reader.old
         reader.new writer.old writer.new errors.old errors.new }
+    ensures stopped { result ≡ 1 → EndsScriptBy E.contents reader.old reader.new writer.old
+        writer.new errors.old errors.new }
 {
     let Ok(mut gathered) = Vec::with_capacity(alloc, NOTES_BYTES) else {
         return fail(errors, Fault::OutOfMemory);

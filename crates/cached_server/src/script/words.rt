@@ -1,6 +1,10 @@
 //! The program's words.
-use clap::{Arg, ArgAction, ArgMatches, Command, Error};
-use std::alloc::Global;
+ghost use Rattle.std.specs.Prelude.{codes, ◌≡◌, ◌≢◌, None, Some, map, option_map, IfOk, IfErr};
+ghost use Rattle.clap.specs.Words.{app_of, first_value, found_of};
+ghost use Rattle.cached_server.specs.Script.Called.{arguments, call_of, chosen, path_of};
+
+use clap::{Arg, ArgAction, ArgMatches, Command};
+use std::alloc::{AllocError, Global};
 use std::convert::AsStr;
 use std::io::ErrorKind;
 
@@ -15,20 +19,40 @@ pub enum Chosen<'a> {
 
 /// Takes the arguments: exactly one of `--script` and `--config FILE`. The first is the program's name. The error is `OutOfMemory`, or
 /// `InvalidInput` for others.
-pub fn take_words<'a, S: AsStr>(alloc: Global, words: &'a [S]) -> Result<Chosen<'a>, ErrorKind> {
-    let matches = match_words(alloc, words).map_err(|error| match error.kind() {
-        clap::error::ErrorKind::OutOfMemory => ErrorKind::OutOfMemory,
-        _ => ErrorKind::InvalidInput,
-    })?;
-    match (matches.get_flag("script"), matches.get_str("config")) {
-        (true, None) => Ok(Chosen::Script),
-        (false, Some(path)) => Ok(Chosen::Config(path)),
-        _ => Err(ErrorKind::InvalidInput),
+pub fn take_words<'a, S: AsStr>(alloc: Global, words: &'a [S]) -> Result<Chosen<'a>, ErrorKind>
+    ensures taken { IfOk result
+        (λ asked. call_of (map S.text words.entry.now) ≡ Some (path_of asked)) }
+    ensures refused { IfErr result (λ e. e ≢ ErrorKind.OutOfMemory
+        → call_of (map S.text words.entry.now) ≡ None) }
+{
+    let Ok(command) = command(alloc) else {
+        return Err(ErrorKind::OutOfMemory);
+    };
+    match command.try_get_matches_from(words) {
+        Ok(matches) => chosen_in(&matches).ok_or(ErrorKind::InvalidInput),
+        Err(error) => match error.kind() {
+            clap::error::ErrorKind::OutOfMemory => Err(ErrorKind::OutOfMemory),
+            _ => Err(ErrorKind::InvalidInput),
+        },
     }
 }
 
-/// The words, matched with the arguments that there are.
-fn match_words<'a, S: AsStr>(alloc: Global, words: &'a [S]) -> Result<ArgMatches<'a>, Error> {
+/// What was asked for; `None` if that is not one of the two.
+fn chosen_in<'a>(matches: &ArgMatches<'a>) -> Option<Chosen<'a>>
+    ensures { option_map path_of result ≡ chosen (first_value (found_of matches.now)
+        (codes "script")) (first_value (found_of matches.now) (codes "config")) }
+{
+    match (matches.get_str("script"), matches.get_str("config")) {
+        (Some("true"), None) => Some(Chosen::Script),
+        (Some("false"), Some(path)) => Some(Chosen::Config(path)),
+        _ => None,
+    }
+}
+
+/// The arguments that there are.
+fn command<'a>(alloc: Global) -> Result<Command<'a>, AllocError>
+    ensures { IfOk result (λ command. app_of command ≡ arguments) }
+{
     let script = Arg::new(alloc, "script")
         .long("script")
         .action(ArgAction::SetTrue);
@@ -36,8 +60,5 @@ fn match_words<'a, S: AsStr>(alloc: Global, words: &'a [S]) -> Result<ArgMatches
         .long("config")
         .action(ArgAction::Set);
     let command = Command::new(alloc, "cached").disable_help_flag(true);
-    command
-        .arg(script)?
-        .arg(config)?
-        .try_get_matches_from(words)
+    command.arg(script)?.arg(config)
 }
