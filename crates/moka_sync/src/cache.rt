@@ -25,7 +25,7 @@ pub(crate) struct Inner<K: Eq + Hash, V, S: BuildHasher, R: Rules<K, V>, E, C> {
 
 /// A cache of one segment that threads share. Its calls are those of `SharedCache`.
 /// ```
-/// let cache: PlainCache<u64, u64, MachineEnv<C, G>> = Cache::new(alloc, 10_000, env)?;
+/// let cache: PlainCache<u64, u64, MachineEnv<C>> = Cache::new(alloc, 10_000, MachineEnv::new(rt)?)?;
 /// cache.insert(&rt, 7, 49)?;
 /// let square = cache.get(&rt, &7)?;
 /// ```
@@ -35,7 +35,7 @@ pub type Cache<K, V, S, R, E> = SharedCache<K, V, S, R, E, Single>;
 /// It is created with its number of segments, `invalidate_entries_if` returns `()` instead of an identifier, and it has
 /// `get_or_insert_with` and `get_or_try_insert_with` in addition.
 /// ```
-/// let cache: SegmentedCache<u64, u64, StdHasher, PlainRules, MachineEnv<C, G>> =
+/// let cache: SegmentedCache<u64, u64, StdHasher, PlainRules, MachineEnv<C>> =
 ///     SegmentedCache::new(alloc, 10_000, 4, env)?;
 /// ```
 pub type SegmentedCache<K, V, S, R, E> = SharedCache<K, V, S, R, E, Segmented>;

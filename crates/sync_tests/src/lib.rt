@@ -12,6 +12,8 @@ mod crowds;
 #[cfg(test)]
 mod leaving;
 #[cfg(test)]
+mod machines;
+#[cfg(test)]
 mod refusing;
 #[cfg(test)]
 mod replacing;
