@@ -10,6 +10,8 @@ mod choosing;
 #[cfg(test)]
 mod crowds;
 #[cfg(test)]
+mod entries;
+#[cfg(test)]
 mod leaving;
 #[cfg(test)]
 mod machines;
