@@ -2,4 +2,5 @@ pub mod Steady
 mod Accessed
 mod Beginning
 mod Covered
+mod Halves
 pub mod Seen

@@ -4,4 +4,4 @@
 mod state;
 
 pub use front_parts::{EvictionPolicy, Notice, RemovalCause, Settings};
-pub use state::{LentState, PredicateId, Segmented, Single};
+pub use state::{LentState, PredicateId, Segmented, Sharded, Single};

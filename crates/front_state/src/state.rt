@@ -25,6 +25,7 @@ mod covering;
 mod looking;
 mod making;
 mod reading;
+mod sharding;
 mod showing;
 mod turning;
 
@@ -35,6 +36,10 @@ pub struct Single;
 /// The form of a cache of several segments.
 #[derive(Clone, Copy, Debug, PartialEq, Eq, Drop)]
 pub struct Segmented;
+
+/// The form of a shard: a cache of one segment that is one of several, which share a hasher and rules.
+#[derive(Clone, Copy, Debug, PartialEq, Eq, Drop)]
+pub struct Sharded;
 
 /// The identifier of a predicate: the text of a version 4 UUID, hyphenated and in lower case, 36 bytes.
 pub type PredicateId = String;

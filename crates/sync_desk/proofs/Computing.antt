@@ -49,18 +49,27 @@ module _ {K V P S R : Type 0} (ways : Ways K V P S R) (key : K) (hash : ℕ) (at
   starts_by_turn kinds.Try begins = making kinds.Try begins
 
 -- a call that makes a value, and finds it where no more can wait
-module _ {K V P S R : Type 0} (ways : Ways K V P S R) (key : K) (at : At) (Ignores : V → Bool → Type 0) (old mid new : Front K V P S R) (same : mid ≡ old) (drawn : IsDrawn old at) (asked : (v : V) → visible_in ways mid at.now key ≡ Some v → Ignores v false) where
-  found : (kind : TurnKind) (value : V) → Some value ≡ visible_in ways mid at.now key → LooksUpIn ways key at mid new → BeginsIn ways kind key (hash_in ways mid key) at Ignores mid new (state.Found value)
-  found kind value is looks = begun_found ways mid new kind key (hash_in ways mid key) at.now at.step Ignores false value asked is looks
+module _ {K V P S R : Type 0} (ways : Ways K V P S R) (key : K) (at : At) (Ignores : V → Bool → Type 0) (old mid new : Front K V P S R) (same : mid ≡ old) (drawn : IsDrawn old at) where
+  abbrev Shows : V → Type 0
+  Shows value = (visible_in ways mid at.now key ≡ Some value) × Ignores value false
 
-  by_kind : (kind : TurnKind) (value : V) → same_kind kind kinds.Compute ≡ false → Some value ≡ visible_in ways mid at.now key → LooksUpIn ways key at mid new → BeginsBy ways kind key (hash_in ways mid key) at Ignores mid new (state.Found value)
-  by_kind kinds.Compute value makes is looks = absurd (true≢false makes)
-  by_kind kinds.With value makes is looks = found kinds.With value is looks
-  by_kind kinds.Optionally value makes is looks = found kinds.Optionally value is looks
-  by_kind kinds.Try value makes is looks = found kinds.Try value is looks
+  asked : (shown : (value : V) × Shows value) (v : V) → visible_in ways mid at.now key ≡ Some v → Ignores v false
+  asked shown v is =
+      let both : Some shown.0 ≡ Some v = sym shown.1.0 ∙ is in
+      let one : shown.0 ≡ v = cc in
+      subst (λ x. Ignores x false) one shown.1.1
 
-  pub begins_found : (kind : TurnKind) (value : V) → same_kind kind kinds.Compute ≡ false → Some value ≡ visible_in ways mid at.now key → LooksUpIn ways key at mid new → BeginsAsDrawn ways kind key Ignores old new (state.Found value)
-  begins_found kind value makes is looks = (at, drawn, subst (λ f. BeginsBy ways kind key (hash_in ways f key) at Ignores f new (state.Found value)) same (by_kind kind value makes is looks))
+  found : (kind : TurnKind) (value : V) → ((v : V) × Shows v) → Some value ≡ visible_in ways mid at.now key → LooksUpIn ways key at mid new → BeginsIn ways kind key (hash_in ways mid key) at Ignores mid new (state.Found value)
+  found kind value shown is looks = begun_found ways mid new kind key (hash_in ways mid key) at.now at.step Ignores false value (asked shown) is looks
+
+  by_kind : (kind : TurnKind) (value : V) → same_kind kind kinds.Compute ≡ false → ((v : V) × Shows v) → Some value ≡ visible_in ways mid at.now key → LooksUpIn ways key at mid new → BeginsBy ways kind key (hash_in ways mid key) at Ignores mid new (state.Found value)
+  by_kind kinds.Compute value makes shown is looks = absurd (true≢false makes)
+  by_kind kinds.With value makes shown is looks = found kinds.With value shown is looks
+  by_kind kinds.Optionally value makes shown is looks = found kinds.Optionally value shown is looks
+  by_kind kinds.Try value makes shown is looks = found kinds.Try value shown is looks
+
+  pub begins_found : (kind : TurnKind) (value : V) → same_kind kind kinds.Compute ≡ false → ((v : V) × (visible_in ways mid at.now key ≡ Some v) × Ignores v false) → Some value ≡ visible_in ways mid at.now key → LooksUpIn ways key at mid new → BeginsAsDrawn ways kind key Ignores old new (state.Found value)
+  begins_found kind value makes shown is looks = (at, drawn, subst (λ f. BeginsBy ways kind key (hash_in ways f key) at Ignores f new (state.Found value)) same (by_kind kind value makes shown is looks))
 
 -- a turn that begins and is given up is no longer there
 module _ {V F : Type 0} (number hash : ℕ) (old mid new : SlotsByNumber V F) (begins : IsPutAt number (Some (opened kinds.Compute hash)) old mid) (ends : ChangesAt kinds.Compute number (ended GivenUp) mid new) where
@@ -84,9 +93,3 @@ module _ {K V P S R : Type 0} (ways : Ways K V P S R) (key : K) (number : ℕ) (
       → OnErr r (ChangesAt kinds.Compute number (ended GivenUp) opens left) → OnErr r (EndsUnstarted ways key slots left old new)
   unled hash slots opens left (Ok start) begins gives told = tt
   unled hash slots opens left (Err e) begins gives told = inr (number, mid, starts, gives, unopened number hash slots opens left begins told)
-
-pub led_turn : {V F E : Type 0} (number hash : ℕ) (slots opens left : SlotsByNumber V F) (r : Result (ComputeStart V) E) (Shown : Option V → Type 0) → IsPutAt number (Some (opened kinds.Compute hash)) slots opens
-    → IfOk r (λ start. (seen : Option V) × (start ≡ computing.Lead number seen) × Shown seen) → OnOk r (left ≡ opens) → IfOk r (λ start. HasStarted kinds.Compute hash slots left (compute_start start))
-led_turn number hash slots opens left (Ok start) Shown begins shown same =
-    subst (λ s. HasStarted kinds.Compute hash slots left (compute_start s)) (sym shown.1) (subst (λ l. IsPutAt number (Some (opened kinds.Compute hash)) slots l) (sym same) begins)
-led_turn number hash slots opens left (Err e) Shown begins shown same = tt

@@ -1,5 +1,5 @@
 -- What a call does to the state, at the moment and step that it draws.
-use Rattle.std.specs.Prelude.{◌≡◌, ◌⊎◌, ℕ, ◌+◌, ◌^◌, ◌≤◌, Bool, Option, Some, None, Result, Ok, Err}
+use Rattle.std.specs.Prelude.{◌≡◌, ◌⊎◌, ℕ, ◌+◌, ◌^◌, ◌≤◌, Bool, false, Option, Some, None, Result, Ok, Err}
 use Rattle.engine_reference.specs.Calls.{cleared_by}
 use Rattle.engine_reference.specs.State.{Answers}
 use Rattle.front_parts.specs.Places.Turning.{IsTurnCause}

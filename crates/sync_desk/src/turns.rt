@@ -79,8 +79,7 @@ impl<
         ensures err { OnErr result ((self.new.state ≡ self.old.state)
             × SlotsStay self.old.slots.slots self.new.slots.slots) }
         ensures writes { self.new.writes ≡ self.old.writes }
-        ensures cause
-            { IsShortOf (LacksNumbers self.old.state self.old.slots.slots) result }
+        ensures cause { IsShortOf (LacksNumbers self.old.state self.old.slots.slots) result }
     {
         let hash = self.state.hash(asked.key());
         let name = LentKey { key: asked.key() };
@@ -113,8 +112,7 @@ impl<
         ensures err { OnErr result ((self.new.state ≡ self.old.state)
             × SlotsStay self.old.slots.slots self.new.slots.slots) }
         ensures writes { self.new.writes ≡ self.old.writes }
-        ensures cause
-            { IsShortOf (LacksNumbers self.old.state self.old.slots.slots) result }
+        ensures cause { IsShortOf (LacksNumbers self.old.state self.old.slots.slots) result }
     {
         let Some(at) = self.draw() else {
             return Err(CacheError::UsedUp);
@@ -160,8 +158,7 @@ impl<
         ensures err { OnErr result ((self.new.state ≡ self.old.state)
             × SlotsStay self.old.slots.slots self.new.slots.slots) }
         ensures writes { self.new.writes ≡ self.old.writes }
-        ensures cause
-            { IsShortOf (LacksNumbers self.old.state self.old.slots.slots) result }
+        ensures cause { IsShortOf (LacksNumbers self.old.state self.old.slots.slots) result }
     {
         if !self.slots.can_join(number) {
             return match self.find_or_refuse(kind, asked.key(), replace_if) {
@@ -206,7 +203,7 @@ impl<
         let Some(at) = self.draw() else {
             return Err(CacheError::UsedUp);
         };
-        if !self.is_found(key, at.now, replace_if) {
+        if self.finds_none(key, at.now, replace_if) {
             return Err(CacheError::UsedUp);
         }
         match self.state.get(key, at) {
@@ -216,18 +213,16 @@ impl<
         }
     }
 
-    /// Whether a key has a visible value for which `replace_if` returns false.
-    fn is_found<P: FnOnce(&V) -> bool + Drop>(&self, key: &K, now: Instant, replace_if: P) -> bool
+    /// Whether no value of a key is found: none is visible, or `replace_if` returns true for it.
+    fn finds_none<P: FnOnce(&V) -> bool + Drop>(&self, key: &K, now: Instant, replace_if: P) -> bool
         requires { P.IsAlwaysCallable replace_if }
-        ensures { result ≡ true → IsSome
-            (visible_in ⟦<R as HasWays<K, V, S>>⟧.ways self.now.state now key.now)
-            × ((value : V)
-            → visible_in ⟦<R as HasWays<K, V, S>>⟧.ways self.now.state now key.now ≡ Some value
-            → FnOnceReturnsAt P.FnOnce replace_if value false) }
+        ensures { result ≡ false → (value : V)
+            × (visible_in ⟦<R as HasWays<K, V, S>>⟧.ways self.now.state now key.now ≡ Some value)
+            × FnOnceReturnsAt P.FnOnce replace_if value false }
     {
         match self.state.peek(key, now) {
-            Some(value) => !replace_if(value),
-            None => false,
+            Some(value) => replace_if(value),
+            None => true,
         }
     }
 
@@ -247,10 +242,9 @@ impl<
         ensures used_up { IsErrOf result errors.UsedUp
             → LacksNumbers self.old.state self.old.slots.slots ⊎ LacksSteps 2 self.old.state }
     {
-        let start = self.begin(TurnKind::Compute, SharedName { key }, |_: &V| -> bool {
+        match self.begin(TurnKind::Compute, SharedName { key }, |_: &V| -> bool {
             false
-        });
-        match start {
+        }) {
             Ok(Start::Lead(number)) => self.show_visible(key, number),
             Ok(Start::Wait(number, _)) => Ok(ComputeStart::Wait(number)),
             Ok(Start::Found(_)) => unreachable!(),

@@ -39,11 +39,33 @@ impl<K: Eq + Hash + Drop, V: Drop, S: BuildHasher + Drop, R: Rules<K, V> + Drop,
         ensures { IfOk result
             (IsMadeWith (option_map string_bytes name) bits settings hasher rules) }
     {
+        let hasher = Shared::new(alloc, hasher)?;
+        let rules = Shared::new(alloc, rules)?;
+        LentState::with_shared(alloc, name, bits, initial_capacity, settings, hasher, rules)
+    }
+
+    /// Like `with_parts`, with a hasher and rules that other caches use, too.
+    /// ```
+    /// let cache: LentState<u64, u64, StdHasher, PlainRules, Sharded> =
+    ///     LentState::with_shared(alloc, None, 0, 0, settings, hasher.clone()?, rules.clone()?)?;
+    /// ```
+    pub fn with_shared(
+        alloc: Global,
+        name: Option<String>,
+        bits: u32,
+        initial_capacity: usize,
+        settings: Settings,
+        hasher: Shared<S>,
+        rules: Shared<R>,
+    ) -> Result<Self, AllocError>
+        requires few { bits ≤ 16 }
+        requires in_range { settings.made ≤ 18446744073709551614 }
+        ensures { IfOk result
+            (IsMadeWith (option_map string_bytes name) bits settings hasher rules) }
+    {
         let count = 2_usize.pow(bits);
         let capacity = settings.capacity;
         let settings = for_part(count as u64, settings);
-        let hasher = Shared::new(alloc, hasher)?;
-        let rules = Shared::new(alloc, rules)?;
         let room = initial_capacity.div_ceil(count);
         let parts = new_parts(alloc, count, room, settings, &hasher, &rules)?;
         Ok(LentState {
