@@ -63,7 +63,7 @@ impl<R: AllocGlobal + Clock + Print + RandomSource + Threads + Wait + Copy + Sen
 fn run<R: Machine + Drop>(rt: R) -> Result<()> {
     let env = MachineEnv::new(rt)?;
     let pages: Pages<_> = CacheBuilder::new(1_000)
-        .weigher(BySize)
+        .weigh_by(BySize)
         .eviction_policy(EvictionPolicy::lru())
         .report_removals()
         .build(rt.alloc(), env)?;
