@@ -38,7 +38,7 @@ pub record ComputesAsDecided {K V E : Type 0} (key : K) (Says : Option V → Res
 -- a closure made a value from the entry that it was shown, it was put, and the entry shows it
 pub record PutsAsMade {K V : Type 0} (key : K) (Makes : Option V → V → Type 0) (shown : Entry K V) : Type 0
   where
-  pub done : CompResult K V
-  pub does : ComputesAsDecided {E = ⊤} key (PutsAlways Makes) (Ok done)
-  pub entry : entry_in done ≡ Some shown
-  pub fresh : shown.is_fresh ≡ true
+    pub done : CompResult K V
+    pub does : ComputesAsDecided {E = ⊤} key (PutsAlways Makes) (Ok done)
+    pub entry : entry_in done ≡ Some shown
+    pub fresh : shown.is_fresh ≡ true

@@ -136,7 +136,10 @@ impl<
         ensures cause { IfErr result IsTurnRefusal }
     {
         let mut attached = self.cache.attached(self.rt)?;
-        attached.entry(self.key).or_insert_with(make)
+        match attached.entry(self.key).or_insert_with(make) {
+            Ok(entry) => Ok(entry),
+            Err(refused) => Err(refused),
+        }
     }
 
     /// Like `or_insert_with`, except that a visible value for which `replace_if` returns true counts as none. `replace_if` is called once,
@@ -152,7 +155,10 @@ impl<
         ensures cause { IfErr result IsTurnRefusal }
     {
         let mut attached = self.cache.attached(self.rt)?;
-        attached.entry(self.key).or_insert_with_if(make, replace_if)
+        match attached.entry(self.key).or_insert_with_if(make, replace_if) {
+            Ok(entry) => Ok(entry),
+            Err(refused) => Err(refused),
+        }
     }
 
     /// Returns the visible value of the key, or else this one, which is then stored. The call waits for no other call that makes a value.
@@ -162,7 +168,10 @@ impl<
         ensures cause { IfErr result IsShortage }
     {
         let mut attached = self.cache.attached(self.rt)?;
-        attached.entry(self.key).or_insert(value)
+        match attached.entry(self.key).or_insert(value) {
+            Ok(entry) => Ok(entry),
+            Err(refused) => Err(refused),
+        }
     }
 
     /// Returns the visible value of the key, or else the default value, which is then stored. The call waits for no other call that makes a
@@ -175,7 +184,10 @@ impl<
         ensures cause { IfErr result IsShortage }
     {
         let mut attached = self.cache.attached(self.rt)?;
-        attached.entry(self.key).or_default()
+        match attached.entry(self.key).or_default() {
+            Ok(entry) => Ok(entry),
+            Err(refused) => Err(refused),
+        }
     }
 
     /// Returns the visible value of the key, or the one that `make` makes, which is stored, or `None` if it makes none.
@@ -188,7 +200,10 @@ impl<
         ensures cause { IfErr result IsTurnRefusal }
     {
         let mut attached = self.cache.attached(self.rt)?;
-        attached.entry(self.key).or_optionally_insert_with(make)
+        match attached.entry(self.key).or_optionally_insert_with(make) {
+            Ok(found) => Ok(found),
+            Err(refused) => Err(refused),
+        }
     }
 
     /// Returns the visible value of the key, or the one that `make` makes, which is stored, or its error if it fails.
@@ -202,7 +217,10 @@ impl<
         ensures cause { IfErr result IsTurnRefusal }
     {
         let mut attached = self.cache.attached(self.rt)?;
-        attached.entry(self.key).or_try_insert_with(make)
+        match attached.entry(self.key).or_try_insert_with(make) {
+            Ok(answer) => Ok(answer),
+            Err(refused) => Err(refused),
+        }
     }
 
     /// Calls `decide` with the entry, if there is one, and does what it decides; if `decide` fails, nothing is written. Calls of this kind
@@ -217,7 +235,10 @@ impl<
         ensures cause { IfErr result IsEndRefusal }
     {
         let mut attached = self.cache.attached(self.rt)?;
-        attached.entry(self.key).and_try_compute_with(decide)
+        match attached.entry(self.key).and_try_compute_with(decide) {
+            Ok(done) => Ok(done),
+            Err(refused) => Err(refused),
+        }
     }
 
     /// Calls `decide` with the entry, if there is one, and does what it decides. Calls of this kind for one key come one after another.
@@ -231,7 +252,10 @@ impl<
         ensures cause { IfErr result IsEndRefusal }
     {
         let mut attached = self.cache.attached(self.rt)?;
-        attached.entry(self.key).and_compute_with(decide)
+        match attached.entry(self.key).and_compute_with(decide) {
+            Ok(done) => Ok(done),
+            Err(refused) => Err(refused),
+        }
     }
 
     /// Puts the value that `make` computes from the entry, if there is one, and returns it. Calls of this kind for one key come one after
@@ -246,6 +270,9 @@ impl<
         ensures cause { IfErr result IsEndRefusal }
     {
         let mut attached = self.cache.attached(self.rt)?;
-        attached.entry(self.key).and_upsert_with(make)
+        match attached.entry(self.key).and_upsert_with(make) {
+            Ok(entry) => Ok(entry),
+            Err(refused) => Err(refused),
+        }
     }
 }
