@@ -152,13 +152,20 @@ impl<X, W, P, F, C> CacheBuilder<X, W, P, F, C> {
     /// Makes the cache report removals, as notices.
     /// `next_notice` takes them. If nobody does, they accumulate, one for each removal.
     /// ```
-    /// let builder = CacheBuilder::new(1000).eviction_listener();
+    /// let builder = CacheBuilder::new(1000).report_removals();
     /// ```
-    pub fn eviction_listener(mut self) -> Self
+    pub fn report_removals(mut self) -> Self
         ensures { result ≡ record self { plan = record self.plan { tells = true } } }
     {
         self.plan.tells = true;
         self
+    }
+
+    /// The older name of `report_removals`. It takes no listener: `next_notice` takes what is reported.
+    pub fn eviction_listener(self) -> Self
+        ensures { result ≡ record self { plan = record self.plan { tells = true } } }
+    {
+        self.report_removals()
     }
 
     /// Sets how long a value lives after it was written: at most 1000 years of 365 days.

@@ -2,6 +2,7 @@
 //! expirations, calls that make a value once per key, selectors of an entry.
 #![tactic(auto)]
 
+mod bounding;
 mod builder;
 mod calling;
 mod errors;

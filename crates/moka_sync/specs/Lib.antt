@@ -5,3 +5,4 @@ pub use Rattle.moka.specs.Building
 pub mod Turning
 pub mod Accessing
 pub mod Showing
+pub mod Selecting

@@ -39,6 +39,7 @@ impl<
     C: Drop,
 > SharedCache<K, V, S, R, E, C> {
     /// Combines this handle of the cache with an `rt`. `cache.clone()?.attach(rt)` keeps the original handle.
+    /// Which values can be proved is said at `get`.
     /// ```
     /// let mut attached = cache.clone()?.attach(rt);
     /// let entry = attached.entry(7).or_insert(49)?;
@@ -77,6 +78,7 @@ impl<
     }
 
     /// Like `entry`, with a borrowed key, which is cloned at once. Returns an error if there is not enough memory for the clone.
+    /// Which keys can be proved is said at `get_with_by_ref`.
     pub fn entry_by_ref<'b>(
         &'b mut self,
         key: &K,

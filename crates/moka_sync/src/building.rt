@@ -39,7 +39,7 @@ pub trait Build<K: Eq + Hash, V>: Sized {
     /// ```
     /// let cache: PlainCache<u64, u64, _> = CacheBuilder::new(10_000)
     ///     .time_to_live(Duration::from_secs(60))
-    ///     .build(alloc, MachineEnv::new(clock, generator)?)?;
+    ///     .build(alloc, MachineEnv::new(rt)?)?;
     /// ```
     fn build<E: Env + Drop>(
         self,

@@ -25,7 +25,7 @@ pub(crate) struct Inner<K: Eq + Hash, V, S: BuildHasher, R: Rules<K, V>, E, C> {
 
 /// A cache of one segment that threads share. Its calls are those of `SharedCache`.
 /// ```
-/// let cache: PlainCache<u64, u64, MachineEnv<C, G>> = Cache::new(alloc, 10_000, env)?;
+/// let cache: PlainCache<u64, u64, MachineEnv<C>> = Cache::new(alloc, 10_000, MachineEnv::new(rt)?)?;
 /// cache.insert(&rt, 7, 49)?;
 /// let square = cache.get(&rt, &7)?;
 /// ```
@@ -35,7 +35,7 @@ pub type Cache<K, V, S, R, E> = SharedCache<K, V, S, R, E, Single>;
 /// It is created with its number of segments, `invalidate_entries_if` returns `()` instead of an identifier, and it has
 /// `get_or_insert_with` and `get_or_try_insert_with` in addition.
 /// ```
-/// let cache: SegmentedCache<u64, u64, StdHasher, PlainRules, MachineEnv<C, G>> =
+/// let cache: SegmentedCache<u64, u64, StdHasher, PlainRules, MachineEnv<C>> =
 ///     SegmentedCache::new(alloc, 10_000, 4, env)?;
 /// ```
 pub type SegmentedCache<K, V, S, R, E> = SharedCache<K, V, S, R, E, Segmented>;
@@ -155,6 +155,8 @@ impl<
     /// Returns a clone of the value of a key, or `None` if none is visible. This counts as a use of the value: it restarts its idle time,
     /// and makes its eviction less likely.
     /// Returns an error if there is not enough memory for the clone, or if 2^64 - 1 calls have been made.
+    /// The clone must equal the value to contracts. That of a `String`, a `Vec` or an `Arc` does not: with such values the call runs under
+    /// `rt try`, and `rt check` can never prove it. Keep a `Shared<String>`, a `Shared<Vec<X>>` or a `Shared<X>`.
     pub fn get(&self, rt: &impl Wait, key: &K) -> Result<Option<V>, CacheError>
         requires exact { (x y : V) → V.is_clone x y → y ≡ x }
         ensures cause { IfErr result IsShortage }
@@ -185,6 +187,7 @@ impl<
 
     /// Removes a key, and returns a clone of its value, even one that has expired or was invalidated and is still held; `None` if there is
     /// none.
+    /// Which values can be proved is said at `get`.
     pub fn remove(&self, rt: &impl Wait, key: &K) -> Result<Option<V>, CacheError>
         requires exact { (x y : V) → V.is_clone x y → y ≡ x }
         ensures cause { IfErr result IsShortage }
@@ -195,6 +198,7 @@ impl<
     }
 
     /// Removes a key like `remove`, without returning its value.
+    /// Which values can be proved is said at `get`.
     pub fn invalidate(&self, rt: &impl Wait, key: &K) -> Result<(), CacheError>
         requires exact { (x y : V) → V.is_clone x y → y ≡ x }
         ensures cause { IfErr result IsShortage }

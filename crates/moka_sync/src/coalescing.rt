@@ -24,6 +24,7 @@ impl<
     /// If there is not enough memory for the value or a clone of it, the call is refused, and those that wait begin again. A call that has
     /// waited 200 times in vain returns `Abandoned`. A write, a removal or a clear in the meantime does not prevent the value from being
     /// inserted.
+    /// Which values can be proved is said at `get`.
     /// ```
     /// let square = cache.get_with(&rt, 7, || 49)?;
     /// ```
@@ -47,6 +48,8 @@ impl<
     }
 
     /// Like `get_with`, with a borrowed key, which is cloned only if a turn begins.
+    /// The clone must equal the key to contracts. That of a `String` or a `Vec` does not: with such keys the call runs under `rt try`, and
+    /// `rt check` can never prove it. Take a `Shared<String>` or a `Shared<Vec<X>>` as the key.
     /// ```
     /// let page = cache.get_with_by_ref(&rt, &address, || fetch(&address))?;
     /// ```
@@ -75,6 +78,7 @@ impl<
     /// Like `get_with`, except that a visible value for which `replace_if` returns true counts as none.
     /// `replace_if` is called on a clone of the value, without the lock, so it may use the same cache. It is called again if a value of the
     /// key may have been written in the meantime. It is not called on what another call of the same kind makes while this one waits for it.
+    /// Which values can be proved is said at `get`.
     /// ```
     /// let fresh = cache.get_with_if(&rt, 7, || 50, |old| *old < 50)?;
     /// ```
@@ -100,6 +104,7 @@ impl<
 
     /// Like `get_with`, except that `make` may return `None`. Then nothing is stored, and this call and those that wait for it return
     /// `None`.
+    /// Which values can be proved is said at `get`.
     /// ```
     /// let half = cache.optionally_get_with(&rt, number, || (number % 2 == 0).then_some(number / 2))?;
     /// ```
@@ -121,6 +126,7 @@ impl<
     }
 
     /// Like `optionally_get_with`, with a borrowed key, which is cloned only if a turn begins.
+    /// Which keys can be proved is said at `get_with_by_ref`.
     pub fn optionally_get_with_by_ref<H: Wait, M: FnOnce() -> Option<V> + Drop>(
         &self,
         rt: &H,
@@ -143,6 +149,7 @@ impl<
 
     /// Like `get_with`, except that `make` may fail. Then nothing is stored, and this call and those that wait for it return the same
     /// fault, in an `Arc`. The outer error is the cache's own.
+    /// Which values can be proved is said at `get`.
     /// ```
     /// match cache.try_get_with(&rt, 7, || read_row(7))? {
     ///     Ok(row) => show(&row),
@@ -167,6 +174,7 @@ impl<
     }
 
     /// Like `try_get_with`, with a borrowed key, which is cloned only if a turn begins.
+    /// Which keys can be proved is said at `get_with_by_ref`.
     pub fn try_get_with_by_ref<H: Wait, M: FnOnce() -> Result<V, R::Fault> + Drop>(
         &self,
         rt: &H,

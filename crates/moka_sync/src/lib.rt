@@ -10,6 +10,7 @@ mod computing;
 mod iterator;
 mod making;
 mod refusable;
+mod selecting;
 mod shared;
 mod turns;
 mod wholes;
@@ -25,6 +26,7 @@ pub use moka::{
     PlainRules, Policy, Predicate, PredicateError, PredicateId, RefKeyEntrySelector, RemovalCause,
     Rules, Segmented, Shared, Single, StdHasher, TurnKind, WeighBytes, WeighOne, Weigher,
 };
+pub use selecting::SharedSelector;
 pub use shared::SharedDesk;
 pub use sync_desk::{Dial, DialEnv, Ending as WaiterValue, Env, MachineEnv};
 pub use wholes::ConcurrentCacheExt;

@@ -93,7 +93,7 @@ impl<
     C: Drop,
 > SharedCache<K, V, S, R, E, C> {
     /// Takes the oldest notice of the first segment that has one: a key, its value, and why it left. A cache has notices only if its
-    /// builder called `eviction_listener`. They are kept until they are taken.
+    /// builder called `report_removals`. They are kept until they are taken.
     /// ```
     /// if let Some(notice) = cache.next_notice(&rt) {
     ///     log(&notice.key, notice.cause);

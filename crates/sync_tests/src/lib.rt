@@ -10,7 +10,11 @@ mod choosing;
 #[cfg(test)]
 mod crowds;
 #[cfg(test)]
+mod entries;
+#[cfg(test)]
 mod leaving;
+#[cfg(test)]
+mod machines;
 #[cfg(test)]
 mod refusing;
 #[cfg(test)]

@@ -6,6 +6,7 @@ mod hasher;
 mod iteration;
 mod making;
 mod notices;
+mod pages;
 mod predicates;
 mod shared;
 mod template;

@@ -1,31 +1,48 @@
 //! The machine's clock and a generator.
-ghost use Rattle.std.specs.Prelude.{◌≡◌, ◌≤◌};
+ghost use Rattle.std.specs.Prelude.{◌≡◌, ◌≤◌, IfOk};
 
 use crate::env::env::Env;
 use policy_base::Instant;
-use rand_core::Rng;
+use rand_core::{Rng, SeedableRng};
+use rand_xoshiro::Xoshiro256PlusPlus;
+use std::random::RandomSource;
 use std::time::Clock;
 use std::{io, time};
 
 /// The machine's clock and a generator. Moments count the nanoseconds since this was created. If the clock cannot be read, the moment is
 /// the latest that was read.
 ///
-/// The identifiers of predicates come from the generator. If others must not be able to predict them, use a secure generator with a secret
-/// seed.
+/// The identifiers of predicates come from the generator. If others must not be able to predict one from those before it, use a secure
+/// generator with a secret seed (`with_generator`).
 #[derive(Drop)]
-pub struct MachineEnv<C, G> {
+pub struct MachineEnv<C, G = Xoshiro256PlusPlus> {
     clock: C,
     start: time::Instant,
     latest: Instant,
     generator: G,
 }
 
+impl<C: Clock + RandomSource + Drop> MachineEnv<C, Xoshiro256PlusPlus> {
+    /// Creates an environment whose moments count from now on, with a generator that the machine's random source seeds. Returns an error if
+    /// the clock or the random source cannot be read. `RandomState::new(&rt)?` is a hasher that the same source seeds, for
+    /// `build_with_hasher`.
+    /// ```
+    /// let cache: PlainCache<u64, u64, _> = Cache::new(rt.alloc(), 10_000, MachineEnv::new(rt)?)?;
+    /// ```
+    pub fn new(rt: C) -> io::Result<Self> {
+        let mut seed = [0; 32];
+        rt.fill_bytes(&mut seed)?;
+        MachineEnv::with_generator(rt, Xoshiro256PlusPlus::from_seed(seed))
+    }
+}
+
 impl<C: Clock, G> MachineEnv<C, G> {
-    /// Creates an environment whose moments count from now on. Returns an error if the clock cannot be read.
-    pub fn new(clock: C, generator: G) -> io::Result<Self>
+    /// Creates an environment whose moments count from now on, with this generator. Returns an error if the clock cannot be read.
+    pub fn with_generator(clock: C, generator: G) -> io::Result<Self>
     where
         C: Drop,
         G: Drop,
+        ensures { IfOk result (λ env. env.generator ≡ generator) }
     {
         let start = time::Instant::now(&clock)?;
         Ok(MachineEnv {

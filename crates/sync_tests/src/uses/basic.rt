@@ -1,26 +1,17 @@
 //! One cache, which two threads fill.
 use moka_sync::{BuildError, Cache, CacheError, Env, MachineEnv, PlainCache};
-use rand_core::SeedableRng;
-use rand_xoshiro::Xoshiro256PlusPlus;
 use std::alloc::Global;
+use std::random::RandomSource;
 use std::sync::Wait;
+use std::thread;
 use std::thread::Threads;
 use std::time::Clock;
-use std::{io, thread};
 
 // example: basic
 /// Prices by article number.
 type Prices<E> = PlainCache<u64, u64, E>;
 
-/// The machine's clock, and a generator of random words.
-type Machine<C> = MachineEnv<C, Xoshiro256PlusPlus>;
-
-/// The environment of a cache.
-fn make_env<C: Clock + Drop>(clock: C, seed: u64) -> io::Result<Machine<C>> {
-    MachineEnv::new(clock, Xoshiro256PlusPlus::seed_from_u64(seed))
-}
-
-/// An empty cache of at most five thousand prices.
+/// An empty cache of at most five thousand prices. The machine's environment is `MachineEnv::new(rt)?`.
 fn make_prices<E: Env + Drop>(alloc: Global, env: E) -> Result<Prices<E>, BuildError> {
     Cache::new(alloc, 5_000, env)
 }
@@ -62,15 +53,15 @@ fn is_filled<R: Threads + Wait + Sync, E: Env + Drop + Send>(rt: &R, prices: &Pr
 }
 
 /// An empty cache, by the machine's clock.
-fn make<C: Clock + Drop>(alloc: Global, clock: C) -> Option<Prices<Machine<C>>> {
-    match make_env(clock, 7) {
+fn make<C: Clock + RandomSource + Drop>(alloc: Global, rt: C) -> Option<Prices<MachineEnv<C>>> {
+    match MachineEnv::new(rt) {
         Ok(env) => make_prices(alloc, env).ok(),
         Err(_) => None,
     }
 }
 
 /// The same of a new cache.
-fn is_filled_anew<R: Threads + Wait + Sync + Clock + Copy + Drop + Send>(
+fn is_filled_anew<R: Threads + Wait + Sync + Clock + RandomSource + Copy + Drop + Send>(
     rt: &R,
     alloc: Global,
 ) -> bool {

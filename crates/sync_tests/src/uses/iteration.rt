@@ -10,14 +10,13 @@ use std::sync::Wait;
 type Amounts<E> = PlainCache<u64, u64, E>;
 
 /// The sum of the amounts of all accounts from a number on.
-fn sum_from<H: Wait + Copy, E: Env + Drop>(
+fn sum_from<H: Wait, E: Env + Drop>(
     rt: &H,
     amounts: &Amounts<E>,
     first: u64,
 ) -> Result<u64, CacheError> {
     let mut sum: u64 = 0;
-    let attached = amounts.clone()?.attach(*rt);
-    for item in &attached {
+    for item in amounts.iter(rt) {
         let (account, amount) = item?;
         if first <= *account {
             sum = sum.saturating_add(amount);
@@ -30,7 +29,7 @@ fn sum_from<H: Wait + Copy, E: Env + Drop>(
 /// The amounts of two of three accounts are summed.
 struct Summing;
 
-impl<H: Wait + Copy> Play<H> for Summing {
+impl<H: Wait> Play<H> for Summing {
     type Cache = Amounts<Moments>;
 
     fn make(

@@ -11,7 +11,7 @@ type Files<E> = PlainCache<u64, u64, E>;
 
 /// An empty cache of two files, which reports removals.
 fn make_files<E: Env + Drop>(alloc: Global, env: E) -> Result<Files<E>, BuildError> {
-    CacheBuilder::new(2).eviction_listener().build(alloc, env)
+    CacheBuilder::new(2).report_removals().build(alloc, env)
 }
 
 /// Takes all notices, and counts the files that were evicted.

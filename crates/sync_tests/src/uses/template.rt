@@ -104,9 +104,9 @@ type Documents<E> = Cache<u64, Document, StdHasher, DocumentRules, E>;
 /// An empty cache of documents.
 fn make_documents<E: Env + Drop>(alloc: Global, env: E) -> Result<Documents<E>, BuildError> {
     CacheBuilder::new(1 << 20)
-        .expire_after(Freshness)
-        .weigher(BySize)
-        .support_invalidation_closures::<WrittenBy>()
+        .expire_by(Freshness)
+        .weigh_by(BySize)
+        .invalidate_by::<u64, Document, WrittenBy>()
         .build(alloc, env)
 }
 // end

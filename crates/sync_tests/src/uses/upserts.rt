@@ -15,8 +15,7 @@ fn count<H: Wait + Copy, E: Env + Drop>(
     counts: &Counts<E>,
     number: u64,
 ) -> Result<u64, CacheError> {
-    let mut counts = counts.clone()?.attach(*rt);
-    let entry = counts.entry(number).and_upsert_with(|seen| match seen {
+    let entry = counts.entry(rt, number).and_upsert_with(|seen| match seen {
         Some(entry) => entry.into_value().saturating_add(1),
         None => 1,
     })?;
@@ -31,14 +30,15 @@ fn take<H: Wait + Copy, E: Env + Drop>(
     counts: &Counts<E>,
     number: u64,
 ) -> Result<bool, CacheError> {
-    let mut counts = counts.clone()?.attach(*rt);
-    let done = counts.entry(number).and_compute_with(|seen| match seen {
-        Some(entry) => match entry.into_value() {
-            0 | 1 => Op::Remove,
-            more => Op::Put(more - 1),
-        },
-        None => Op::Nop,
-    })?;
+    let done = counts
+        .entry(rt, number)
+        .and_compute_with(|seen| match seen {
+            Some(entry) => match entry.into_value() {
+                0 | 1 => Op::Remove,
+                more => Op::Put(more - 1),
+            },
+            None => Op::Nop,
+        })?;
     Ok(!matches!(done, CompResult::StillNone(_)))
 }
 // end

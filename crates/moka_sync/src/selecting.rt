@@ -1,0 +1,278 @@
+//! Selectors of an entry, on a handle that others share.
+ghost use Rattle.std.specs.Prelude.{◌≡◌, false, Ok, IfOk, IfErr, ⊤};
+ghost use Rattle.std.specs.Arc.{arc_value};
+ghost use Rattle.front_parts.specs.Access.Entries.{entry_with, seen_entry};
+ghost use Rattle.front_parts.specs.Access.Selecting.{DecidesAlways, with_fault};
+ghost use Rattle.front_reference.specs.declared.errors.CacheError.TheVariants as errors;
+ghost use Rattle.moka_sync.specs.Selecting.{ComputesAsDecided, IsMadeIfFresh, IsOptionMade, IsResultMade, PutsAsMade};
+ghost use Rattle.sync_desk.specs.Slots.Refusals.{IsEndRefusal, IsShortage, IsTurnRefusal};
+
+use crate::attached::Attached;
+use crate::cache::SharedCache;
+use crate::iterator::Iter;
+use engine_reference::Rules;
+use front_parts::{CompResult, Entry};
+use front_reference::{CacheError, Op};
+use front_state::Single;
+use std::alloc::AllocError;
+use std::hash::{BuildHasher, Hash};
+use std::sync::{Arc, Wait};
+use sync_desk::Env;
+
+/// The entry of one key of a shared cache, on which one call can be made. Its calls are those of `EntrySelector`, and are refused for the
+/// same reasons as the cache's own call of their kind.
+#[derive(Drop)]
+pub struct SharedSelector<
+    'a,
+    K: Eq + Hash,
+    V: Clone,
+    S: BuildHasher,
+    R: Rules<K, V>,
+    E,
+    H,
+    C = Single,
+> {
+    cache: &'a SharedCache<K, V, S, R, E, C>,
+    rt: &'a H,
+    key: K,
+    ghost exact: { (x y : V) → V.is_clone x y → y ≡ x },
+}
+
+impl<
+    K: Eq + Hash + Drop,
+    V: Clone + Drop,
+    S: BuildHasher + Drop,
+    R: Rules<K, V> + Drop,
+    E: Env + Drop,
+    C: Drop,
+> SharedCache<K, V, S, R, E, C> {
+    /// Combines another handle of the cache with an `rt`, like `clone()?.attach(*rt)`: for `{:?}`, and for several selectors.
+    /// ```
+    /// println!(rt; "{:?}", cache.attached(&rt)?)?;
+    /// ```
+    pub fn attached<H: Wait + Copy>(
+        &self,
+        rt: &H,
+    ) -> Result<Attached<K, V, S, R, E, H, C>, AllocError>
+        requires exact { (x y : V) → V.is_clone x y → y ≡ x }
+    {
+        let other = self.clone()?;
+        Ok(other.attach(*rt))
+    }
+
+    /// Returns a selector of the entry of a key, on which one call can be made: `or_insert`, `or_insert_with`, `and_compute_with` and so
+    /// on.
+    /// Which values can be proved is said at `get`.
+    /// ```
+    /// let entry = cache.entry(&rt, 7).and_upsert_with(|seen| match seen {
+    ///     Some(entry) => entry.into_value().saturating_add(1),
+    ///     None => 1,
+    /// })?;
+    /// ```
+    pub fn entry<'a, H: Wait + Copy>(
+        &'a self,
+        rt: &'a H,
+        key: K,
+    ) -> SharedSelector<'a, K, V, S, R, E, H, C>
+        requires exact { (x y : V) → V.is_clone x y → y ≡ x }
+        ensures key { result.key ≡ key }
+    {
+        SharedSelector {
+            cache: self,
+            rt,
+            key,
+        }
+    }
+
+    /// Like `entry`, with a borrowed key, which is cloned at once. Returns an error if there is not enough memory for the clone.
+    /// Which keys can be proved is said at `get_with_by_ref`.
+    pub fn entry_by_ref<'a, H: Wait + Copy>(
+        &'a self,
+        rt: &'a H,
+        key: &K,
+    ) -> Result<SharedSelector<'a, K, V, S, R, E, H, C>, CacheError>
+    where
+        K: Clone,
+        requires exact_key { (x y : K) → K.is_clone x y → y ≡ x }
+        requires exact { (x y : V) → V.is_clone x y → y ≡ x }
+        ensures key { IfOk result (λ s. s.key ≡ key.now) }
+        ensures cause { IfErr result (λ e. e ≡ errors.OutOfMemory) }
+    {
+        let own = key.clone()?;
+        Ok(self.entry(rt, own))
+    }
+
+    /// Returns an iterator over the visible keys, like that of `Attached`.
+    /// Which values can be proved is said at `get`.
+    /// ```
+    /// for item in cache.iter(&rt) {
+    ///     let (key, value) = item?;
+    ///     show(&key, value);
+    /// }
+    /// ```
+    pub fn iter<'a, H: Wait>(&'a self, rt: &'a H) -> Iter<'a, K, V, S, R, E, H, C>
+        requires exact { (x y : V) → V.is_clone x y → y ≡ x }
+    {
+        Iter::new(self, rt)
+    }
+}
+
+impl<
+    'a,
+    K: Eq + Hash + Drop,
+    V: Clone + Drop,
+    S: BuildHasher + Drop,
+    R: Rules<K, V> + Drop,
+    E: Env + Drop,
+    H: Wait + Copy,
+    C: Drop,
+> SharedSelector<'a, K, V, S, R, E, H, C> {
+    /// Returns the visible value of the key, or the one that `make` makes, which is stored. Of several callers for the key one makes it,
+    /// and the others wait for it.
+    pub fn or_insert_with<M: FnOnce() -> V + Drop>(self, make: M) -> Result<Entry<K, V>, CacheError>
+        requires callable { M.IsAlwaysCallable make }
+        ensures made { IfOk result (IsMadeIfFresh (M.post make)) }
+        ensures shown { IfOk result (λ e. e ≡ entry_with self.entry.key e.value e.is_fresh false) }
+        ensures cause { IfErr result IsTurnRefusal }
+    {
+        let mut attached = self.cache.attached(self.rt)?;
+        match attached.entry(self.key).or_insert_with(make) {
+            Ok(entry) => Ok(entry),
+            Err(refused) => Err(refused),
+        }
+    }
+
+    /// Like `or_insert_with`, except that a visible value for which `replace_if` returns true counts as none. `replace_if` is called once,
+    /// without the lock, on the value that is visible when the call begins.
+    pub fn or_insert_with_if<M: FnOnce() -> V + Drop, P: FnOnce(&V) -> bool + Drop>(
+        self,
+        make: M,
+        replace_if: P,
+    ) -> Result<Entry<K, V>, CacheError>
+        requires callable { P.IsAlwaysCallable replace_if × M.IsAlwaysCallable make }
+        ensures made { IfOk result (IsMadeIfFresh (M.post make)) }
+        ensures shown { IfOk result (λ e. e ≡ entry_with self.entry.key e.value e.is_fresh false) }
+        ensures cause { IfErr result IsTurnRefusal }
+    {
+        let mut attached = self.cache.attached(self.rt)?;
+        match attached.entry(self.key).or_insert_with_if(make, replace_if) {
+            Ok(entry) => Ok(entry),
+            Err(refused) => Err(refused),
+        }
+    }
+
+    /// Returns the visible value of the key, or else this one, which is then stored. The call waits for no other call that makes a value.
+    pub fn or_insert(self, value: V) -> Result<Entry<K, V>, CacheError>
+        ensures made { IfOk result (IsMadeIfFresh (λ made. made ≡ value)) }
+        ensures shown { IfOk result (λ e. e ≡ entry_with self.entry.key e.value e.is_fresh false) }
+        ensures cause { IfErr result IsShortage }
+    {
+        let mut attached = self.cache.attached(self.rt)?;
+        match attached.entry(self.key).or_insert(value) {
+            Ok(entry) => Ok(entry),
+            Err(refused) => Err(refused),
+        }
+    }
+
+    /// Returns the visible value of the key, or else the default value, which is then stored. The call waits for no other call that makes a
+    /// value.
+    pub fn or_default(self) -> Result<Entry<K, V>, CacheError>
+    where
+        V: Default,
+        ensures made { IfOk result (IsMadeIfFresh V.is_default) }
+        ensures shown { IfOk result (λ e. e ≡ entry_with self.entry.key e.value e.is_fresh false) }
+        ensures cause { IfErr result IsShortage }
+    {
+        let mut attached = self.cache.attached(self.rt)?;
+        match attached.entry(self.key).or_default() {
+            Ok(entry) => Ok(entry),
+            Err(refused) => Err(refused),
+        }
+    }
+
+    /// Returns the visible value of the key, or the one that `make` makes, which is stored, or `None` if it makes none.
+    pub fn or_optionally_insert_with<M: FnOnce() -> Option<V> + Drop>(
+        self,
+        make: M,
+    ) -> Result<Option<Entry<K, V>>, CacheError>
+        requires callable { M.IsAlwaysCallable make }
+        ensures made { IfOk result (IsOptionMade R.Fault self.entry.key (M.post make)) }
+        ensures cause { IfErr result IsTurnRefusal }
+    {
+        let mut attached = self.cache.attached(self.rt)?;
+        match attached.entry(self.key).or_optionally_insert_with(make) {
+            Ok(found) => Ok(found),
+            Err(refused) => Err(refused),
+        }
+    }
+
+    /// Returns the visible value of the key, or the one that `make` makes, which is stored, or its error if it fails.
+    pub fn or_try_insert_with<M: FnOnce() -> Result<V, R::Fault> + Drop>(
+        self,
+        make: M,
+    ) -> Result<Result<Entry<K, V>, Arc<R::Fault>>, CacheError>
+        requires callable { M.IsAlwaysCallable make }
+        ensures made { IfOk result
+            (λ r. IsResultMade self.entry.key (M.post make) (with_fault arc_value r)) }
+        ensures cause { IfErr result IsTurnRefusal }
+    {
+        let mut attached = self.cache.attached(self.rt)?;
+        match attached.entry(self.key).or_try_insert_with(make) {
+            Ok(answer) => Ok(answer),
+            Err(refused) => Err(refused),
+        }
+    }
+
+    /// Calls `decide` with the entry, if there is one, and does what it decides; if `decide` fails, nothing is written. Calls of this kind
+    /// for one key come one after another.
+    pub fn and_try_compute_with<X: Drop, D: FnOnce(Option<Entry<K, V>>) -> Result<Op<V>, X> + Drop>(
+        self,
+        decide: D,
+    ) -> Result<Result<CompResult<K, V>, X>, CacheError>
+        requires callable { D.IsAlwaysCallable decide }
+        ensures does { IfOk result (ComputesAsDecided self.entry.key
+            (λ seen decided. D.post decide (seen_entry self.entry.key seen) decided)) }
+        ensures cause { IfErr result IsEndRefusal }
+    {
+        let mut attached = self.cache.attached(self.rt)?;
+        match attached.entry(self.key).and_try_compute_with(decide) {
+            Ok(done) => Ok(done),
+            Err(refused) => Err(refused),
+        }
+    }
+
+    /// Calls `decide` with the entry, if there is one, and does what it decides. Calls of this kind for one key come one after another.
+    pub fn and_compute_with<D: FnOnce(Option<Entry<K, V>>) -> Op<V> + Drop>(
+        self,
+        decide: D,
+    ) -> Result<CompResult<K, V>, CacheError>
+        requires callable { D.IsAlwaysCallable decide }
+        ensures does { IfOk result (λ done. ComputesAsDecided {E = ⊤} self.entry.key (DecidesAlways
+            (λ seen does. D.post decide (seen_entry self.entry.key seen) does)) (Ok done)) }
+        ensures cause { IfErr result IsEndRefusal }
+    {
+        let mut attached = self.cache.attached(self.rt)?;
+        match attached.entry(self.key).and_compute_with(decide) {
+            Ok(done) => Ok(done),
+            Err(refused) => Err(refused),
+        }
+    }
+
+    /// Puts the value that `make` computes from the entry, if there is one, and returns it. Calls of this kind for one key come one after
+    /// another.
+    pub fn and_upsert_with<M: FnOnce(Option<Entry<K, V>>) -> V + Drop>(
+        self,
+        make: M,
+    ) -> Result<Entry<K, V>, CacheError>
+        requires callable { M.IsAlwaysCallable make }
+        ensures puts { IfOk result (PutsAsMade self.entry.key
+            (λ seen value. M.post make (seen_entry self.entry.key seen) value)) }
+        ensures cause { IfErr result IsEndRefusal }
+    {
+        let mut attached = self.cache.attached(self.rt)?;
+        match attached.entry(self.key).and_upsert_with(make) {
+            Ok(entry) => Ok(entry),
+            Err(refused) => Err(refused),
+        }
+    }
+}
