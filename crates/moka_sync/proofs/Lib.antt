@@ -1,3 +1,1 @@
 mod Suiting
-mod Showing
-mod Covering

@@ -4,8 +4,22 @@ use engine_reference::Rules;
 use front_state::{LentState, Single};
 use std::alloc::Global;
 use std::hash::{BuildHasher, Hash};
+use std::hint::spin_loop;
 use std::sync::{Condvar, Mutex, MutexGuard, Wait};
 use sync_desk::{Desk, Env};
+
+/// How often the lock is tried before a caller sleeps until it is free.
+const TRIES: u32 = 24;
+
+/// The longest pause between two tries, in turns of a loop of some 7 ns each.
+const LONGEST_PAUSE: u32 = 32;
+
+/// Lets so many turns pass.
+fn pause(turns: u32) {
+    for _ in 0..turns {
+        spin_loop();
+    }
+}
 
 /// What threads share of a cache: a desk under one lock, and a condition variable that signals that a turn ended. Whenever the lock is
 /// taken, what it guards keeps what a lent cache keeps between calls.
@@ -33,8 +47,17 @@ impl<
         }
     }
 
-    /// Takes the lock, which is released when the guard is dropped. May wait for it.
+    /// Takes the lock, which is released when the guard is dropped. May wait for it: the lock is tried for some 5 microseconds, with pauses
+    /// of 1, 2, 4 .. 32 turns between, before the caller sleeps until it is free.
     pub fn lock<H: Wait>(&self, rt: &H) -> MutexGuard<'_, Desk<K, V, S, R, E, C>> {
+        let mut turns = 1u32;
+        for _ in 0..TRIES {
+            if let Some(guard) = self.desk.try_lock() {
+                return guard;
+            }
+            pause(turns);
+            turns = turns.saturating_mul(2).min(LONGEST_PAUSE);
+        }
         self.desk.lock(rt)
     }
 }
