@@ -15,9 +15,9 @@ ROOT = pathlib.Path(__file__).resolve().parent.parent
 # What a figure may be at most. Lower a bound when the figure falls; it is not raised without a reason in the commit.
 BOUNDS = {
     "splits by hand": 730,
-    "relations of the service's specs": 460,
-    "names of relations in several crates": 60,
-    "names of functions in several crates": 60,
+    "relations of the service's specs": 491,
+    "names of relations in several crates": 63,
+    "names of functions in several crates": 86,
 }
 
 
