@@ -146,8 +146,8 @@ impl<R: Machine> House<R> {
         loops: usize,
         all: &mut Loops,
     ) -> Result<(), Fault> {
-        let core = make_service(&self.rt, self.alloc, space.config)?;
         let plan = self.plan(space, hosting, loops)?;
+        let core = make_service(&self.rt, self.alloc, plan.config)?;
         self.share::<Brand>(core, Blank::new(SEATS), plan, listener, all)
     }
 
@@ -159,9 +159,11 @@ impl<R: Machine> House<R> {
         loops: usize,
     ) -> Result<Plan<R>, Fault> {
         let loops = hosting.loops.map_or(loops, |loops| loops as usize);
+        let config = space.config;
         let source = Source::new(self.alloc, &space, hosting)?;
         let space = Arc::new(self.alloc, space).map_err(|_| Fault::OutOfMemory)?;
         Ok(Plan {
+            config,
             loops,
             source,
             notices: hosting.notices,
@@ -236,6 +238,7 @@ impl<R: Machine> House<R> {
 /// How a namespace is served.
 #[derive(Drop)]
 struct Plan<R: time::Clock + Wait + Copy> {
+    config: Config,
     site: Site<R>,
     notices: Notices,
     rules: Rules,
