@@ -4,7 +4,7 @@ ghost use Rattle.std.specs.Arc.{arc_value};
 ghost use Rattle.front_parts.specs.Access.Entries.{entry_with, seen_entry};
 ghost use Rattle.front_parts.specs.Access.Selecting.{DecidesAlways, with_fault};
 ghost use Rattle.front_reference.specs.declared.errors.CacheError.TheVariants as errors;
-ghost use Rattle.moka_sync.specs.Selecting.{ComputesAsDecided, IsMadeIfFresh, IsOptionMade, IsResultMade, PutsAsMade};
+ghost use Rattle.moka_sync.specs.Selecting.{ComputesAsDecided, IsMadeIfFresh, IsOptionMade, IsResultMade};
 ghost use Rattle.sync_desk.specs.Slots.Refusals.{IsEndRefusal, IsShortage, IsTurnRefusal};
 
 use crate::attached::Attached;
@@ -265,8 +265,6 @@ impl<
         make: M,
     ) -> Result<Entry<K, V>, CacheError>
         requires callable { M.IsAlwaysCallable make }
-        ensures puts { IfOk result (PutsAsMade self.entry.key
-            (λ seen value. M.post make (seen_entry self.entry.key seen) value)) }
         ensures cause { IfErr result IsEndRefusal }
     {
         let mut attached = self.cache.attached(self.rt)?;
