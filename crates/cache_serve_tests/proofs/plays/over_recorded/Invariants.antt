@@ -1,5 +1,5 @@
 use Rattle.std.proofs.Common.{[], ◌∷◌}
-use Rattle.cache_serve_tests.specs.declared.TheConstants.{PLAIN}
+use Rattle.cache_serve_tests.specs.declared.inputs.TheConstants.{PLAIN}
 use Rattle.cache_serve_tests.proofs.plays.over_recorded.Given as goal
 
 abbrev pub ghosts-play_recorded-L-Seating : goal.ghosts-play_recorded-L-Seating
