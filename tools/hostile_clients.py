@@ -19,8 +19,7 @@ The cases; without a name, all of them. Each prints what it measured, and the st
     minute       10,000 connections held open for a minute, or as many as the limits allow: memory, and each answered before and after
     soak         five million requests over TinyLFU, own deadlines and `DROPIF`: memory stays flat
 
-The server is crates/cached/out/cached, where `rt run` leaves it, or another program with the same lines: `--program
-crates/bivrangd/out/bivrangd`. All random numbers come from the seed, by default 1.
+The server is crates/cached/out/cached, where `rt run` leaves it. All random numbers come from the seed, by default 1.
 """
 import argparse
 import multiprocessing

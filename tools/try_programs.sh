@@ -11,7 +11,6 @@ if ! diff <(crates/cached/out/cached --script <crates/cached/stdin 2>&1 >/dev/nu
     failed=1
 fi
 tools/try_clients.sh || failed=1
-tools/try_clients.sh crates/bivrangd/out/bivrangd || failed=1
 tools/test_package.sh || failed=1
 PYTHONDONTWRITEBYTECODE=1 python3 tools/api_docs.py --check || failed=1
 exit $failed
