@@ -53,19 +53,6 @@ fn is_replaced<H: Wait + Copy>(rt: &H, cache: &Numbers) -> bool {
         }
 }
 
-/// Whether a closure that makes nothing, or fails, is answered so.
-fn may_fail<H: Wait + Copy>(rt: &H, cache: &Numbers) -> bool {
-    matches!(
-        cache
-            .entry(rt, 4)
-            .or_optionally_insert_with(|| -> Option<u64> { None }),
-        Ok(None)
-    ) && matches!(
-        cache.entry(rt, 4).or_try_insert_with(|| -> Result<u64, u64> { Err(5) }),
-        Ok(Err(fault)) if *fault == 5
-    )
-}
-
 /// Whether a value is computed from the one before, and removed.
 fn is_computed<H: Wait + Copy>(rt: &H, cache: &Numbers) -> bool {
     is_entry(cache.entry(rt, 5).and_upsert_with(add), 1, true)
@@ -105,7 +92,6 @@ impl<H: Wait + Copy> Play<H> for Choosing {
     fn plays(&self, rt: &H, alloc: Global, stage: &Stage<Numbers>) -> bool {
         are_made(rt, &stage.cache)
             && is_replaced(rt, &stage.cache)
-            && may_fail(rt, &stage.cache)
             && is_computed(rt, &stage.cache)
             && is_printed(rt, alloc, &stage.cache)
     }
