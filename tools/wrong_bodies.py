@@ -247,7 +247,10 @@ class Lane:
         """Copies what checks of the crate kept, once."""
         source = os.path.join(ROOT, "crates", crate, "out", "incremental")
         if crate not in self.copied and os.path.isdir(source):
-            shutil.copytree(source, os.path.join(self.room, "crates", crate, "out", "incremental"))
+            to = os.path.join(self.room, "crates", crate, "out", "incremental")
+            # (a check of one function, whose name several have, has begun one)
+            shutil.rmtree(to, ignore_errors=True)
+            shutil.copytree(source, to)
         self.copied.add(crate)
 
     def leave(self, crate):

@@ -5,7 +5,7 @@ use crate::{engine, policy, sync};
 use std::alloc::{Allocator, Global};
 use std::sync::Wait;
 use std::thread::Threads;
-use std::time::CpuClock;
+use std::time::{Clock, CpuClock};
 
 /// What is to be done, with what.
 #[derive(Clone, Copy)]
@@ -48,7 +48,7 @@ impl Order {
     }
 
     /// Does it, and answers what it came to; or nothing, where memory was refused.
-    pub fn run<R: CpuClock + Threads + Wait + Sync + Copy>(
+    pub fn run<R: CpuClock + Clock + Threads + Wait + Sync + Copy + Drop>(
         self,
         rt: &R,
         alloc: Global,

@@ -1,3 +1,5 @@
 mod Suiting
 mod Showing
 mod Covering
+mod Shards
+mod Spreading

@@ -4,4 +4,6 @@ pub use Rattle.sync_desk.specs.Slots.Refusals
 pub use Rattle.moka.specs.Building
 pub mod Turning
 pub mod Accessing
+pub mod Covering
 pub mod Showing
+pub mod Spreading

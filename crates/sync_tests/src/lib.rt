@@ -22,6 +22,8 @@ mod resolving;
 #[cfg(test)]
 mod rows;
 #[cfg(test)]
+mod sharding;
+#[cfg(test)]
 mod turns;
 #[cfg(test)]
 mod uses;

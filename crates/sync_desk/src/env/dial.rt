@@ -2,8 +2,10 @@
 ghost use Rattle.std.specs.Prelude.{◌≡◌, ◌≤◌};
 
 use crate::env::env::Env;
+use crate::env::fork::Fork;
 use policy_base::{Instant, MAX_NANOS};
-use rand_core::Rng;
+use rand_core::{Rng, SeedableRng};
+use std::alloc::AllocError;
 use std::sync::Arc;
 use std::sync::atomic::{AtomicU64, Ordering};
 
@@ -79,5 +81,14 @@ impl<G: Rng> Env for DialEnv<G> {
         ensures { self.new.generator ≡ self.old.generator }
     {
         self.dial.read()
+    }
+}
+
+impl<G: Rng + SeedableRng> Fork for DialEnv<G> {
+    fn fork(&mut self) -> Result<Self, AllocError> {
+        Ok(DialEnv {
+            dial: Arc::try_clone(&self.dial)?,
+            generator: self.generator.fork(),
+        })
     }
 }

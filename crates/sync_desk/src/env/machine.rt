@@ -2,8 +2,10 @@
 ghost use Rattle.std.specs.Prelude.{◌≡◌, ◌≤◌};
 
 use crate::env::env::Env;
+use crate::env::fork::Fork;
 use policy_base::Instant;
-use rand_core::Rng;
+use rand_core::{Rng, SeedableRng};
+use std::alloc::AllocError;
 use std::time::Clock;
 use std::{io, time};
 
@@ -61,5 +63,16 @@ impl<C: Clock, G: Rng> Env for MachineEnv<C, G> {
             self.latest = Instant::from_duration_since_clock_start(passed);
         }
         self.latest
+    }
+}
+
+impl<C: Clock + Copy, G: Rng + SeedableRng> Fork for MachineEnv<C, G> {
+    fn fork(&mut self) -> Result<Self, AllocError> {
+        Ok(MachineEnv {
+            clock: self.clock,
+            start: self.start,
+            latest: self.latest,
+            generator: self.generator.fork(),
+        })
     }
 }

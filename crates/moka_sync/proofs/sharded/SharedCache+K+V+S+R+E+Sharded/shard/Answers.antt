@@ -1,0 +1,7 @@
+use Rattle.std.proofs.Common.{◌∙◌, sym}
+use Rattle.moka_sync.proofs.Spreading.{desk_alike}
+use Rattle.moka_sync.proofs.sharded.«SharedCache+K+V+S+R+E+Sharded».shard.Goals as goal
+
+pub returns-clause-alike : goal.returns-clause-alike
+returns-clause-alike g c = λ other same.
+    sym (desk_alike g.S.Hasher.Hasher.finish g.S.Hasher.Hasher.write g.S.BuildHasher.build_hasher g.K.Hash.hash_input _ c.args.key.now other (g.met.K.Hash.respects_eq c.args.key.now other same)) ∙ sym c.number_of.ensures.number
