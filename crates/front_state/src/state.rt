@@ -24,10 +24,13 @@ mod coalescing;
 mod covering;
 mod looking;
 mod making;
+mod naming;
 mod reading;
 mod sharding;
 mod showing;
 mod turning;
+
+pub use naming::{BytesName, HashedName, TextName};
 
 /// The form of a cache of one segment.
 #[derive(Clone, Copy, Debug, PartialEq, Eq, Drop)]

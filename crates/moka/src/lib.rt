@@ -21,7 +21,7 @@ pub use front_reference::{
     At, CacheError, ClonedKey, Computed, IntoKey, LentKey, Made, Op, OpenTurn, OwnedKey, Shared,
     TurnKind, TurnStart,
 };
-pub use front_state::{LentState, PredicateId, Segmented, Single};
+pub use front_state::{BytesName, HashedName, LentState, PredicateId, Segmented, Single, TextName};
 pub use moka_engine::{
     Bundle, EvictionPolicy, Expiration, ExpirationPolicy, Expiry, Instant, Names, NoExpiry,
     NoPredicate, Notice, Policy, Predicate, PredicateError, RemovalCause, Rules, Settings,

@@ -15,18 +15,17 @@ module _ {K V : Type 0} where
   abbrev pub IsMadeIfFresh : (V → Type 0) → Entry K V → Type 0
   IsMadeIfFresh Makes e = e.is_fresh ≡ true → Makes e.value
 
-module _ {K V F : Type 0} where
-  -- a call that makes a value if none is visible, where what is fresh was made
-  abbrev pub GivesMade : (Made V F → Type 0) → Made V F → Bool → Type 0
-  GivesMade Makes = Gives (λ seen. Unit {0}) (λ ignored made fresh. Unit {0}) passes_none Makes
+-- a call that makes a value if none is visible, where what is fresh was made
+abbrev pub GivesMade : {V F : Type 0} → (Made V F → Type 0) → Made V F → Bool → Type 0
+GivesMade Makes = Gives (λ seen. Unit {0}) (λ ignored made fresh. Unit {0}) passes_none Makes
 
-  -- a call that may make no value
-  abbrev pub IsOptionMade : K → (Option V → Type 0) → Option (Entry K V) → Type 0
-  IsOptionMade key Makes shown = GivesOption key (GivesMade (IsOptionOf Makes)) shown
+-- a call that may make no value
+abbrev pub IsOptionMade : {K V : Type 0} → (F : Type 0) → K → (Option V → Type 0) → Option (Entry K V) → Type 0
+IsOptionMade F key Makes shown = GivesOption {F = F} key (GivesMade (IsOptionOf Makes)) shown
 
-  -- a call that may fail
-  abbrev pub IsResultMade : K → (Result V F → Type 0) → Result (Entry K V) F → Type 0
-  IsResultMade key Makes shown = GivesResult key (GivesMade (IsResultOf Makes)) shown
+-- a call that may fail
+abbrev pub IsResultMade : {K V F : Type 0} → K → (Result V F → Type 0) → Result (Entry K V) F → Type 0
+IsResultMade key Makes shown = GivesResult key (GivesMade (IsResultOf Makes)) shown
 
 -- a closure decided about the entry that it was shown, and what it decided was done; or its error is returned
 pub record ComputesAsDecided {K V E : Type 0} (key : K) (Says : Option V → Result (Op V) E → Type 0)

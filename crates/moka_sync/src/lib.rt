@@ -9,6 +9,7 @@ mod coalescing;
 mod computing;
 mod iterator;
 mod making;
+mod naming;
 mod refusable;
 mod selecting;
 mod shared;
@@ -20,11 +21,12 @@ pub use building::{Build, PlainCache};
 pub use cache::{Cache, SegmentedCache, SharedCache};
 pub use iterator::Iter;
 pub use moka::{
-    Access, BuildError, Bundle, ByCreation, CacheBuilder, CacheError, CompResult, Computed, Entry,
-    EntrySelector, EvictionPolicy, Expiration, ExpirationPolicy, Expiry, Instant, KeyPrefix,
-    Lifetime, Made, Names, NoExpiry, NoPredicate, Notice, Op, OwnedKeyEntrySelector, PlainBuilder,
-    PlainRules, Policy, Predicate, PredicateError, PredicateId, RefKeyEntrySelector, RemovalCause,
-    Rules, Segmented, Shared, Single, StdHasher, TurnKind, WeighBytes, WeighOne, Weigher,
+    Access, BuildError, Bundle, ByCreation, BytesName, CacheBuilder, CacheError, CompResult,
+    Computed, Entry, EntrySelector, EvictionPolicy, Expiration, ExpirationPolicy, Expiry,
+    HashedName, Instant, KeyPrefix, Lifetime, Made, Names, NoExpiry, NoPredicate, Notice, Op,
+    OwnedKeyEntrySelector, PlainBuilder, PlainRules, Policy, Predicate, PredicateError,
+    PredicateId, RefKeyEntrySelector, RemovalCause, Rules, Segmented, Shared, Single, StdHasher,
+    TextName, TurnKind, WeighBytes, WeighOne, Weigher,
 };
 pub use selecting::SharedSelector;
 pub use shared::SharedDesk;

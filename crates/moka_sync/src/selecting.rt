@@ -1,5 +1,5 @@
 //! Selectors of an entry, on a handle that others share.
-ghost use Rattle.std.specs.Prelude.{◌≡◌, Ok, IfOk, IfErr, ⊤};
+ghost use Rattle.std.specs.Prelude.{◌≡◌, false, Ok, IfOk, IfErr, ⊤};
 ghost use Rattle.std.specs.Arc.{arc_value};
 ghost use Rattle.front_parts.specs.Access.Entries.{entry_with, seen_entry};
 ghost use Rattle.front_parts.specs.Access.Selecting.{DecidesAlways, with_fault};
@@ -196,7 +196,7 @@ impl<
         make: M,
     ) -> Result<Option<Entry<K, V>>, CacheError>
         requires callable { M.IsAlwaysCallable make }
-        ensures made { IfOk result (IsOptionMade {F = R.Fault} self.entry.key (M.post make)) }
+        ensures made { IfOk result (IsOptionMade R.Fault self.entry.key (M.post make)) }
         ensures cause { IfErr result IsTurnRefusal }
     {
         let mut attached = self.cache.attached(self.rt)?;

@@ -4,6 +4,7 @@
 mod calls;
 mod desk;
 pub mod env;
+mod naming;
 pub mod slots;
 mod turns;
 mod wholes;
