@@ -11,7 +11,7 @@ use std::hash::{BuildHasher, Hash};
 use std::sync::Wait;
 use sync_desk::Env;
 
-/// Maintenance by its older name.
+/// The older name of `run_pending_tasks`.
 pub trait ConcurrentCacheExt {
     /// Runs maintenance to its end, like `run_pending_tasks`.
     fn sync(&self, rt: &impl Wait) -> Result<(), CacheError>

@@ -28,8 +28,8 @@ impl Dial {
         self.nanos.store(nanos, Ordering::SeqCst);
     }
 
-    /// Returns how often it was read. A call of a cache reads it while it holds the cache's lock, so if the count rises, the call has
-    /// begun.
+    /// Returns how often the dial was read. A call of a cache reads the dial while it holds the cache's lock, so if the count rises, the
+    /// call has begun.
     pub fn readings(&self) -> u64 {
         self.readings.load(Ordering::SeqCst)
     }

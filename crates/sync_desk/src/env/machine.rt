@@ -9,8 +9,8 @@ use std::random::RandomSource;
 use std::time::Clock;
 use std::{io, time};
 
-/// The machine's clock and a generator. Moments count the nanoseconds since this was created. If the clock cannot be read, the moment is
-/// the latest that was read.
+/// The machine's clock and a generator. Moments count the nanoseconds since the environment was created. If the clock cannot be read, the
+/// moment is the latest that was read.
 ///
 /// The identifiers of predicates come from the generator. If others must not be able to predict one from those before it, use a secure
 /// generator with a secret seed (`with_generator`).
