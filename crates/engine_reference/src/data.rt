@@ -31,7 +31,7 @@ pub struct Entry<K, V> {
     pub written: u64,
     /// The moment of the last use, which is a write or a look-up that found the entry.
     pub used: u64,
-    /// When it expires by itself.
+    /// The moment at which the entry expires by itself, if it does.
     pub expires: Option<u64>,
     pub weight: u32,
 }
@@ -45,11 +45,11 @@ pub struct Record<K, V> {
     pub entry: Entry<K, V>,
     /// False after the key was removed.
     pub is_held: bool,
-    /// How many times it was written or removed.
+    /// How many times the record was written or removed.
     pub writes: u64,
-    /// The latest of these that maintenance has applied, or 0.
+    /// The latest of these writes and removals that maintenance has applied, or 0.
     pub applied: u64,
-    /// The weight with which it counts, if it is admitted.
+    /// The weight with which the record counts, if it is admitted.
     pub counts: Option<u32>,
 }
 

@@ -78,7 +78,7 @@ impl Housekeeper {
         cache.run_pending_tasks(now);
     }
 
-    /// The same. It returns true, since no other owner runs maintenance in the meantime.
+    /// Does what `run_pending_tasks` does, and returns true, since no other owner runs maintenance in the meantime.
     pub fn try_run_pending_tasks<T: InnerSync>(&mut self, cache: &mut T, now: Instant) -> bool
         ensures yes { result ≡ true }
         ensures run { T.housekept now cache.old cache.new }

@@ -65,7 +65,7 @@ pub enum TurnStart<V> {
 pub enum Made<V, F> {
     /// A value, which is to be written.
     Value(V),
-    /// No value.
+    /// No value: none was made.
     Nothing,
     /// Why there is no value.
     Fault(F),
@@ -74,7 +74,7 @@ pub enum Made<V, F> {
 /// What a compute call should do.
 #[derive(Clone, Debug, PartialEq, Eq, Drop)]
 pub enum Op<V> {
-    /// Nothing.
+    /// Leave the key as it is.
     Nop,
     /// Write this value.
     Put(V),

@@ -6,17 +6,17 @@ pub fn calls_keep<K, V, P, S, R>()
     ensures { CallsKeep K V P S R }
 {}
 
-/// A coalesced call keeps it too, whatever its closures return.
+/// A coalesced call keeps of its part what the laws of the reference cache require, whatever its closures return.
 pub fn coalesces_keep<K, V, P, S, R, F>()
     ensures { CoalescesKeep K V P S R F }
 {}
 
-/// So does a compute call.
+/// A compute call keeps of its part what the laws of the reference cache require, whatever its closure decides.
 pub fn computes_keep<K, V, P, S, R, E>()
     ensures { ComputesKeep K V P S R E }
 {}
 
-/// Single calls and runs keep a part close.
+/// Single calls and runs keep a part close (`IsClose`): its access list is in the order of uses, except for 300 milliseconds.
 pub fn calls_stay_close<K, V, P, S, R>()
     ensures { CallsStayClose K V P S R }
 {}

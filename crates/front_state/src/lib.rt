@@ -4,4 +4,6 @@
 mod state;
 
 pub use front_parts::{EvictionPolicy, Notice, RemovalCause, Settings};
-pub use state::{LentState, PredicateId, Segmented, Sharded, Single};
+pub use state::{
+    BytesName, HashedName, LentState, PredicateId, Segmented, Sharded, Single, TextName,
+};

@@ -10,8 +10,8 @@ ghost use Rattle.front_parts.specs.Places.Calls.{CoalescesBy, ComputesIn, Insert
 
 use engine_reference::{Hashes, Names, Rules, Settings};
 use front_parts::{
-    BaseCache, HasWays, Turns, clear_all, coalesce_at, compute_at, contains_key_at, get_at,
-    insert_at, invalidate_at, is_table_refused, place_of, remove_at, run_all,
+    BaseCache, HasWays, Turns, clear_all, coalesce_at, compute_at, insert_at, is_table_refused,
+    place_of, run_all,
 };
 use front_reference::{At, CacheError, Computed, IntoKey, LentKey, Made, Op, OwnedKey, Shared};
 use policy_base::Instant;
@@ -24,10 +24,13 @@ mod coalescing;
 mod covering;
 mod looking;
 mod making;
+mod naming;
 mod reading;
 mod sharding;
 mod showing;
 mod turning;
+
+pub use naming::{BytesName, HashedName, TextName};
 
 /// The form of a cache of one segment.
 #[derive(Clone, Copy, Debug, PartialEq, Eq, Drop)]
@@ -136,13 +139,7 @@ impl<K: Eq + Hash, V, S: BuildHasher, R: Rules<K, V>, C> LentState<K, V, S, R, C
         ensures err { OnErr result (self.new ≡ self.old) }
         ensures cause { IfErr result (λ e. e ≡ errors.OutOfMemory) }
     {
-        let At { now, step } = at;
-        let hash = self.hasher.hash_key(key);
-        let place = place_of(self.bits, hash);
-        let found = get_at(&mut self.parts, place, &LentKey { key }, hash, now)?;
-        self.moment = now;
-        self.step = step;
-        Ok(found)
+        self.get_by_name(&LentKey { key }, at)
     }
 
     /// Returns whether a key has a visible value. This does not count as a use of it.
@@ -156,9 +153,7 @@ impl<K: Eq + Hash, V, S: BuildHasher, R: Rules<K, V>, C> LentState<K, V, S, R, C
         ensures { result
             ≡ is_some (visible_in ⟦<R as HasWays<K, V, S>>⟧.ways self.now now key.now) }
     {
-        let hash = self.hasher.hash_key(key);
-        let place = place_of(self.bits, hash);
-        contains_key_at(self.parts.as_slice(), place, &LentKey { key }, hash, now)
+        self.contains_key_by_name(&LentKey { key }, now)
     }
 
     /// Inserts a value. A cache of capacity 0 stores none.
@@ -237,13 +232,7 @@ impl<K: Eq + Hash, V, S: BuildHasher, R: Rules<K, V>, C> LentState<K, V, S, R, C
         ensures cause { IfErr result
             (IsCauseIn ⟦<R as HasWays<K, V, S>>⟧.ways removal_rooms self.old key.now) }
     {
-        let At { now, step } = at;
-        let hash = self.hasher.hash_key(key);
-        let place = place_of(self.bits, hash);
-        let value = remove_at(&mut self.parts, place, &LentKey { key }, hash, now)?;
-        self.moment = now;
-        self.step = step;
-        Ok(value)
+        self.remove_by_name(&LentKey { key }, at)
     }
 
     /// Removes a key, whether its deadline has come or not.
@@ -263,8 +252,7 @@ impl<K: Eq + Hash, V, S: BuildHasher, R: Rules<K, V>, C> LentState<K, V, S, R, C
         ensures cause { IfErr result
             (IsCauseIn ⟦<R as HasWays<K, V, S>>⟧.ways removal_rooms self.old key.now) }
     {
-        let hash = self.hasher.hash_key(key);
-        self.invalidate_with_hash(key, hash, at)
+        self.invalidate_by_name(&LentKey { key }, at)
     }
 
     /// Like `invalidate`, with the hash of the key.
@@ -285,12 +273,7 @@ impl<K: Eq + Hash, V, S: BuildHasher, R: Rules<K, V>, C> LentState<K, V, S, R, C
         ensures cause { IfErr result
             (IsCauseIn ⟦<R as HasWays<K, V, S>>⟧.ways removal_rooms self.old key.now) }
     {
-        let At { now, step } = at;
-        let place = place_of(self.bits, hash);
-        invalidate_at(&mut self.parts, place, &LentKey { key }, hash, now)?;
-        self.moment = now;
-        self.step = step;
-        Ok(())
+        self.invalidate_named(&LentKey { key }, hash, at)
     }
 
     /// Returns the visible value of a key, which counts as a use of it, and false; or else what `make` makes, and true: a value is then

@@ -87,7 +87,7 @@ impl<K: Eq + Hash, V, S: BuildHasher, R: Rules<K, V>> BaseCache<K, V, S, R> {
         self.tables.settings().tells
     }
 
-    /// Returns the settings.
+    /// Returns what the cache shows of its settings.
     pub fn policy(&self) -> Policy
         ensures capacity { result.max_capacity ≡ self.now.settings.capacity }
         ensures parts { result.num_segments ≡ 1 }
@@ -104,7 +104,7 @@ impl<K: Eq + Hash, V, S: BuildHasher, R: Rules<K, V>> BaseCache<K, V, S, R> {
         self.tables.clear(step);
     }
 
-    /// Takes the oldest notice.
+    /// Takes the oldest notice that was not taken, if there is one.
     pub fn next_notice(&mut self) -> Option<Notice<K, V>>
         ensures notice { result ≡ slice_get self.old.notices 0 }
         ensures taken { self.new ≡ without_notice self.old }
@@ -112,7 +112,7 @@ impl<K: Eq + Hash, V, S: BuildHasher, R: Rules<K, V>> BaseCache<K, V, S, R> {
         self.tables.next_notice()
     }
 
-    /// Makes room for one more write.
+    /// Makes room for one more write, which `do_insert_with_hash` or `insert_and_send_with_hash` uses.
     pub fn reserve_write(&mut self) -> Result<(), Refusal>
         ensures ok { OnOk result (self.new ≡ with_room self.old) }
         ensures err { OnErr result (self.new ≡ self.old) }
@@ -207,7 +207,7 @@ impl<K: Eq + Hash, V, S: BuildHasher, R: Rules<K, V>> BaseCache<K, V, S, R> {
         write(&mut self.tables, key, hash, value, now, step, true);
     }
 
-    /// Reports an entry that was removed by its key, which is named in addition.
+    /// Reports an entry that was removed by its key, in the room that the removal left. The key is an argument too.
     pub fn notify_invalidate<Q: Names<K>>(&mut self, _key: &Q, entry: Entry<K, V>, now: Instant)
     where
         K: Drop,

@@ -4,7 +4,8 @@ ghost use Rattle.std.specs.Duration.{as_nanos};
 
 use std::time::Duration;
 
-/// How maintenance runs: for how long, how often they go through the pending operations, and how many records they look at in one batch.
+/// The limits of maintenance: for how long a run goes on, how often it goes through the pending operations, and how many records it looks
+/// at in one batch.
 #[derive(Clone, Copy, Debug, PartialEq, Eq)]
 pub struct HousekeeperConfig {
     pub maintenance_task_timeout: Duration,
@@ -14,6 +15,7 @@ pub struct HousekeeperConfig {
 }
 
 impl HousekeeperConfig {
+    /// Creates limits. A batch has at least one record.
     pub fn new(
         maintenance_task_timeout: Duration,
         max_log_sync_repeats: u32,
@@ -36,7 +38,7 @@ impl Default for HousekeeperConfig {
     ghost is_default = { λ c. (as_nanos c.maintenance_task_timeout ≡ 100_000_000)
         × (c.max_log_sync_repeats ≡ 4) × (c.eviction_batch_size ≡ 500) };
 
-    /// A tenth of a second, 4 and 500.
+    /// Runs of at most a tenth of a second, which go through the pending operations at most 4 times, and look at 500 records in one batch.
     fn default() -> Self {
         HousekeeperConfig {
             maintenance_task_timeout: Duration::from_millis(100),

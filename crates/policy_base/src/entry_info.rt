@@ -16,7 +16,7 @@ const EXPIRATION_STEP: u64 = 4096;
 /// The last own expiration.
 const LAST_EXPIRATION: u64 = 0xFFFF_FFFF_FFFF_E000;
 
-/// A number is used up.
+/// The numbers of the writes of an entry are used up.
 #[derive(Clone, Copy, Debug, PartialEq, Eq, Drop, Error)]
 #[error("used up")]
 pub struct UsedUp;

@@ -17,6 +17,7 @@ pub struct KeyHash<K> {
 }
 
 impl<K> KeyHash<K> {
+    /// Puts a key together with its hash.
     pub fn new(key: Arc<K>, hash: u64) -> Self
         ensures key { result.key ≡ key }
         ensures hash { result.hash ≡ hash }
@@ -45,6 +46,7 @@ pub struct KeyHashDate {
 }
 
 impl KeyHashDate {
+    /// Creates what a queue holds of the entry with this number.
     pub fn new(entry: usize) -> Self
         ensures { result.entry ≡ entry }
     {
@@ -60,6 +62,7 @@ pub struct ValueEntry<V> {
 }
 
 impl<V> ValueEntry<V> {
+    /// Puts a value together with its entry's number.
     pub fn new(value: V, entry: usize) -> Self
         ensures value { result.value ≡ value }
         ensures entry { result.entry ≡ entry }
@@ -87,6 +90,7 @@ pub struct KvEntry<K, V> {
 }
 
 impl<K, V> KvEntry<K, V> {
+    /// Puts a key together with its value and its entry's number.
     pub fn new(key: Arc<K>, entry: ValueEntry<V>) -> Self
         ensures key { result.key ≡ key }
         ensures entry { result.entry ≡ entry }
@@ -123,6 +127,7 @@ pub struct OldEntryInfo<V> {
 }
 
 impl<V> OldEntryInfo<V> {
+    /// Puts a value that was replaced together with the moments of its last use and last write.
     pub fn new(entry: ValueEntry<V>, last_accessed: Instant, last_modified: Instant) -> Self
         ensures entry { result.entry ≡ entry }
         ensures accessed { result.last_accessed ≡ last_accessed }
@@ -214,6 +219,7 @@ pub struct DeqNode<T> {
 }
 
 impl<T> DeqNode<T> {
+    /// Creates a node that holds this element.
     pub fn new(element: T) -> Self
         ensures { result.element ≡ element }
     {
@@ -251,7 +257,7 @@ impl Default for DeqNodes {
     ghost is_default = { λ nodes. nodes
         ≡ record { access_queue = None; write_queue = None; timer = None } };
 
-    /// No place.
+    /// The places of an entry that is in no queue and has no timer.
     fn default() -> Self {
         DeqNodes {
             access_queue: None,

@@ -61,7 +61,7 @@ fn spread_of(hash: u64, i: u64) -> u64
 /// The maximum number of words of a table.
 const MAX_WORDS: u32 = 1 << 24;
 
-/// Counts of hashes.
+/// Approximate counts of how often hashes were requested: each is at most 15, and all are halved regularly.
 #[derive(Drop)]
 pub struct FrequencySketch {
     table: Vec<u64>,

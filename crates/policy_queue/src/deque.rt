@@ -288,7 +288,7 @@ impl<T: Drop> Deque<T> {
         }
     }
 
-    /// Restarts the walk.
+    /// Restarts the walk through the queue at its front.
     pub fn reset_cursor(&mut self)
         ensures { self.new ≡ record self.old { cursor = Cursor.Unstarted } }
     {

@@ -6,11 +6,11 @@ use thiserror::Error;
 /// Why a value left a cache.
 #[derive(Clone, Copy, Debug, PartialEq, Eq)]
 pub enum RemovalCause {
-    /// Its time was over.
+    /// The time of the value was over.
     Expired,
-    /// It was removed by its key, or invalidated by a clear or a predicate.
+    /// The value was removed by its key, or invalidated by a clear or a predicate.
     Explicit,
-    /// Another value was written under its key.
+    /// Another value was written under the same key.
     Replaced,
     /// The cache was heavier than its capacity.
     Size,

@@ -88,7 +88,7 @@ impl<K, V> Expiry<K, V> for NoExpiry {
 /// How a read or an update changes a value's own expiration.
 #[derive(Clone, Copy, Debug, PartialEq, Eq)]
 pub enum Expiration {
-    /// It stays as it is.
+    /// The expiration of the value stays as it is.
     Keep,
     /// The value expires this long after the moment, or does not expire by itself.
     Set(Option<Duration>),

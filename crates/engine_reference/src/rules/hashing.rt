@@ -4,7 +4,7 @@ ghost use Rattle.engine_reference.specs.Rules.Hashing.{hash_of_key};
 
 use std::hash::{BuildHasher, Hash, Hasher};
 
-/// Hashes keys.
+/// Every type of hashers, with the hash that it gives to a key.
 pub trait Hashes<K> {
     ghost hash: { Self → K → ℕ };
 

@@ -7,7 +7,7 @@ pub trait Names<K: PartialEq> {
     /// The key that it names.
     ghost named_key: { Self → K };
 
-    /// Returns whether a key is the one that it names.
+    /// Returns whether a key is the one that this name stands for.
     fn is_name_of(&self, key: &K) -> bool
         ensures { result ≡ K.eq (named_key self.now) key.now };
 }

@@ -13,14 +13,14 @@ pub enum EvictionPolicy {
 }
 
 impl EvictionPolicy {
-    /// By how often and how recently entries are used. The default.
+    /// Returns the policy that evicts by how often and how recently entries are used. This is the default.
     pub fn tiny_lfu() -> Self
         ensures { result ≡ EvictionPolicy.TinyLfu }
     {
         EvictionPolicy::TinyLfu
     }
 
-    /// By how recently entries are used.
+    /// Returns the policy that evicts by how recently entries are used.
     pub fn lru() -> Self
         ensures { result ≡ EvictionPolicy.Lru }
     {
@@ -98,7 +98,7 @@ pub struct Policy {
 }
 
 impl Policy {
-    /// These settings.
+    /// Creates what a cache shows of these settings.
     pub fn new(
         max_capacity: Option<u64>,
         num_segments: usize,

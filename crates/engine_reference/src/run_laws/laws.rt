@@ -51,7 +51,7 @@ pub fn uncut_runs_leave_none_due<K, V, P, S, R>()
     ensures { UncutRunsLeaveNoneDue K V P S R }
 {}
 
-/// Such a run keeps a cache timely.
+/// An uncut run, as in `uncut_runs_leave_none_due`, keeps a cache timely.
 pub fn uncut_runs_stay_timely<K, V, P, S, R>()
     ensures { UncutRunsStayTimely K V P S R }
 {}

@@ -16,7 +16,7 @@ use std::alloc::AllocError;
 ///
 /// A lent cache requires that no turn of the kind and key is under way; a shared one waits for it, and says nothing about values.
 pub trait Access<K, V: Clone> {
-    /// When a call comes, if the caller says so: its moment and its step.
+    /// The moment and the step of a call, for a cache whose callers name them.
     type When: Copy;
 
     /// Why a value could not be made.

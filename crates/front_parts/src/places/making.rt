@@ -41,7 +41,7 @@ pub fn for_part(parts: u64, settings: Settings) -> Settings
     }
 }
 
-/// This many parts, each with room for this many entries.
+/// Creates `count` parts, each with room for `initial_capacity` entries.
 pub fn new_parts<
     K: Eq + Hash + Drop,
     V: Drop,
@@ -68,7 +68,7 @@ pub fn new_parts<
     Ok(parts)
 }
 
-/// One part.
+/// Creates a part with room for `initial_capacity` entries.
 fn new_part<
     K: Eq + Hash + Drop,
     V: Drop,

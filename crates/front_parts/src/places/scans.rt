@@ -9,7 +9,7 @@ use policy_base::Instant;
 use std::alloc::AllocError;
 use std::hash::{BuildHasher, Hash};
 
-/// The value of a key that is visible in the part at a place, without a clone. It is no use of it.
+/// Returns the value of a key that is visible in the part at a place, without a clone. This does not count as a use of the value.
 pub fn peek_at<'a, K: Eq + Hash, V, S: BuildHasher, R: Rules<K, V>, Q: Names<K>>(
     parts: &'a [BaseCache<K, V, S, R>],
     place: usize,
@@ -25,7 +25,7 @@ pub fn peek_at<'a, K: Eq + Hash, V, S: BuildHasher, R: Rules<K, V>, Q: Names<K>>
     parts[place].peek(key, hash, now)
 }
 
-/// A clone of the value of a key that is visible in the part at a place. It is no use of it.
+/// Returns a clone of the value of a key that is visible in the part at a place. This does not count as a use of the value.
 pub fn scan_at<K: Eq + Hash, V: Clone, S: BuildHasher, R: Rules<K, V>, Q: Names<K>>(
     parts: &[BaseCache<K, V, S, R>],
     place: usize,
@@ -42,7 +42,8 @@ pub fn scan_at<K: Eq + Hash, V: Clone, S: BuildHasher, R: Rules<K, V>, Q: Names<
     parts[place].get_with_hash_without_recording(key, hash, now)
 }
 
-/// A clone of the key that the part at a place holds under what names it, whether its value is visible or not. It is no use of it.
+/// Returns a clone of the key that the part at a place holds under what names it, whether its value is visible or not. This does not count
+/// as a use of the value.
 pub fn held_key_at<K: Eq + Hash + Clone + Drop, V, S: BuildHasher, R: Rules<K, V>, Q: Names<K>>(
     parts: &[BaseCache<K, V, S, R>],
     place: usize,

@@ -32,7 +32,7 @@ impl<K> Model for Turns<K> {
 }
 
 impl<K> Turns<K> {
-    /// No turns, which takes no memory.
+    /// Creates an empty table of turns. This allocates nothing.
     pub fn new(alloc: Global) -> Turns<K>
         ensures { result ≡ [] }
     {

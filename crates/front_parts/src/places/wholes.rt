@@ -72,7 +72,7 @@ pub fn sum_numbers<K: Eq + Hash, V, S: BuildHasher, R: Rules<K, V>>(
     total
 }
 
-/// What they weighed.
+/// Returns what the records that the parts admitted weigh together, as of the last run of each part.
 pub fn sum_weights<K: Eq + Hash, V, S: BuildHasher, R: Rules<K, V>>(
     parts: &[BaseCache<K, V, S, R>],
 ) -> u64

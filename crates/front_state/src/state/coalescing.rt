@@ -26,7 +26,7 @@ impl<K: Eq + Hash + Drop, V: Clone + Drop, S: BuildHasher, R: Rules<K, V>, C> Le
     R,
     C,
 > {
-    /// The visible value of a key that is not passed over, or the one that is made.
+    /// Returns the visible value of a key, unless `replace_if` returns true for it, or else the one that `make` makes.
     fn make_value<Q: IntoKey<Shared<K>>, P: FnOnce(&V) -> bool + Drop, M: FnOnce() -> V + Drop>(
         &mut self,
         name: Q,
@@ -57,7 +57,7 @@ impl<K: Eq + Hash + Drop, V: Clone + Drop, S: BuildHasher, R: Rules<K, V>, C> Le
         Ok(value_made(made))
     }
 
-    /// The visible value of a key, or the one that is made, if any.
+    /// Returns the visible value of a key, or the one that `make` makes, or `None` if `make` makes none.
     fn make_option<Q: IntoKey<Shared<K>>, M: FnOnce() -> Option<V> + Drop>(
         &mut self,
         name: Q,
@@ -87,7 +87,7 @@ impl<K: Eq + Hash + Drop, V: Clone + Drop, S: BuildHasher, R: Rules<K, V>, C> Le
         Ok(option_made(made))
     }
 
-    /// The visible value of a key, or the one that is made, or why none is.
+    /// Returns the visible value of a key, or the one that `make` makes, or the error with which `make` failed.
     fn make_result<Q: IntoKey<Shared<K>>, F: Drop, M: FnOnce() -> Result<V, F> + Drop>(
         &mut self,
         name: Q,

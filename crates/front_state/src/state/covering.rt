@@ -36,7 +36,7 @@ impl<K: Eq + Hash, V, S: BuildHasher, R: Rules<K, V>, C> LentState<K, V, S, R, C
         self.part_with_hash(hash)
     }
 
-    /// The part of a hash: its upper bits.
+    /// Returns the part that the keys with this hash belong to, by the upper bits of the hash.
     /// ```
     /// let hash = cache.hash(&7);
     /// let segment = cache.part_with_hash(hash);

@@ -13,7 +13,7 @@ use std::alloc::AllocError;
 use std::hash::{BuildHasher, Hash};
 
 impl<K: Eq + Hash, V, S: BuildHasher, R: Rules<K, V>, C> LentState<K, V, S, R, C> {
-    /// The visible value of a key, lent. It is no use of it.
+    /// Returns the visible value of a key, lent. This does not count as a use of the value.
     /// ```
     /// let length = cache.peek(&7, now).map(|text| text.len());
     /// ```
@@ -26,8 +26,8 @@ impl<K: Eq + Hash, V, S: BuildHasher, R: Rules<K, V>, C> LentState<K, V, S, R, C
         peek_at(self.parts.as_slice(), place, &LentKey { key }, hash, now)
     }
 
-    /// Returns the key that is held and equal to this one, shared with the cache, whether its value is visible or not. It is no use of it,
-    /// and takes no memory.
+    /// Returns the key that is held and equal to this one, shared with the cache, whether its value is visible or not. This does not count
+    /// as a use of the value, and allocates nothing.
     /// ```
     /// let held = cache.held_key(&7, cache.hash(&7))?;
     /// ```
@@ -43,7 +43,8 @@ impl<K: Eq + Hash, V, S: BuildHasher, R: Rules<K, V>, C> LentState<K, V, S, R, C
         held_key_at(self.parts.as_slice(), place, &LentKey { key }, hash)
     }
 
-    /// How many keys have a visible value, up to 2^64 - 1. It is no use of any; it takes no memory, and looks at every record.
+    /// Returns how many keys have a visible value, up to 2^64 - 1. This does not count as a use of any value, allocates nothing, and looks
+    /// at every record.
     /// ```
     /// let number = cache.count_visible(now);
     /// ```
@@ -53,9 +54,9 @@ impl<K: Eq + Hash, V, S: BuildHasher, R: Rules<K, V>, C> LentState<K, V, S, R, C
         count_visible(self.parts.as_slice(), now)
     }
 
-    /// Looks a key up without a clone: `see` is passed the visible value, if there is one, and the value behind `output`. If it returns
-    /// `Ok`, this is a use of the value, or a miss that is counted; if it returns `Err` nothing has changed. The step stays as it was. The
-    /// key is hashed and found once.
+    /// Looks a key up without a clone: `see` is passed the visible value, if there is one, and the value behind `output`. If `see` returns
+    /// `Ok`, the call is a use of the value, or a miss that is counted; if `see` returns `Err`, nothing has changed. The step of the cache
+    /// stays as it was. The key is hashed once, and searched for once.
     /// ```
     /// cache.look_up(&7, now, &mut lengths, |found, lengths| match found {
     ///     Some(text) => lengths.push(text.len()),

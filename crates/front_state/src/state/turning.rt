@@ -23,7 +23,7 @@ use std::alloc::AllocError;
 use std::hash::{BuildHasher, Hash};
 
 impl<K: Eq + Hash, V, S: BuildHasher, R: Rules<K, V>, C> LentState<K, V, S, R, C> {
-    /// Whether no turn of a kind and a key is under way.
+    /// Returns whether no turn of this kind is under way for a key.
     /// ```
     /// if cache.is_turn_free(TurnKind::With, &7) {
     ///     let value = cache.get_with(7, || 49, at)?;
@@ -50,7 +50,8 @@ impl<K: Eq + Hash, V, S: BuildHasher, R: Rules<K, V>, C> LentState<K, V, S, R, C
         self.turns.find(kind, key, hash)
     }
 
-    /// A clone of the visible value of a key, unless `replace_if` says yes of it; then it is passed over, which the first of the two answers. It is no use of it.
+    /// Returns whether `replace_if` returned true for the visible value of a key, which is then passed over, and otherwise a clone of that
+    /// value. This does not count as a use of the value.
     fn look<Q: Names<Shared<K>>, P: FnOnce(&V) -> bool + Drop>(
         &self,
         key: &Q,
@@ -194,7 +195,7 @@ impl<K: Eq + Hash, V, S: BuildHasher, R: Rules<K, V>, C> LentState<K, V, S, R, C
         }
     }
 
-    /// Lets time pass.
+    /// Notes the moment and the step of a call.
     fn pass(&mut self, at: At)
         requires { ComesAfter at.now at.step self.old }
         ensures { self.new ≡ passed at.now at.step self.old }
@@ -333,7 +334,7 @@ impl<K: Eq + Hash, V, S: BuildHasher, R: Rules<K, V>, C> LentState<K, V, S, R, C
         }
     }
 
-    /// Gives up a turn. Only a number under which no turn is under way is refused.
+    /// Gives up a turn. The call is refused only if no turn of this number is under way.
     /// ```
     /// cache.abandon(turn, at)?;
     /// ```
@@ -391,7 +392,9 @@ impl<K: Eq + Hash, V, S: BuildHasher, R: Rules<K, V>, C> LentState<K, V, S, R, C
         }
     }
 
-    /// Ends a turn with what was made: a value is inserted under its key, whatever happened to the key meanwhile; what is no value changes nothing else. Where it is refused the outcome is handed back, and a turn that is under way stays so.
+    /// Ends a turn with what was made. A value is inserted under the key of the turn, whatever happened to that key in the meantime; if no
+    /// value was made, nothing else changes. If the call is refused, what was made is returned with the error, and a turn that is under way
+    /// stays so.
     /// ```
     /// let made: Made<u64, ()> = Made::Value(49);
     /// match cache.finish(turn, made, at) {

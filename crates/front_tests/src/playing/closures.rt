@@ -7,8 +7,8 @@ use front_parts::{CompResult, Entry};
 use front_reference::{At, CacheError, Op, TurnKind};
 
 /// One call with a closure.
-pub(crate) fn perform_closure(
-    state: &mut Numbers,
+pub(crate) fn perform_closure<C>(
+    state: &mut Numbers<C>,
     at: At,
     call: Closure,
 ) -> Result<bool, CacheError>
@@ -30,7 +30,7 @@ pub(crate) fn perform_closure(
     }
 }
 
-fn perform_get(state: &mut Numbers, at: At, call: Closure) -> Result<bool, CacheError>
+fn perform_get<C>(state: &mut Numbers<C>, at: At, call: Closure) -> Result<bool, CacheError>
     requires { ComesAfter at.now at.step state.old }
 {
     match call {
@@ -44,7 +44,7 @@ fn perform_get(state: &mut Numbers, at: At, call: Closure) -> Result<bool, Cache
     }
 }
 
-fn perform_compute(state: &mut Numbers, at: At, call: Closure) -> Result<bool, CacheError>
+fn perform_compute<C>(state: &mut Numbers<C>, at: At, call: Closure) -> Result<bool, CacheError>
     requires { ComesAfter at.now at.step state.old }
 {
     match call {
@@ -55,8 +55,8 @@ fn perform_compute(state: &mut Numbers, at: At, call: Closure) -> Result<bool, C
     }
 }
 
-fn get_with(
-    state: &mut Numbers,
+fn get_with<C>(
+    state: &mut Numbers<C>,
     at: At,
     key: u64,
     made: u64,
@@ -71,8 +71,8 @@ fn get_with(
     Ok(value == answer)
 }
 
-fn get_with_if(
-    state: &mut Numbers,
+fn get_with_if<C>(
+    state: &mut Numbers<C>,
     at: At,
     key: u64,
     old: u64,
@@ -88,8 +88,8 @@ fn get_with_if(
     Ok(value == answer)
 }
 
-fn optionally(
-    state: &mut Numbers,
+fn optionally<C>(
+    state: &mut Numbers<C>,
     at: At,
     key: u64,
     made: Option<u64>,
@@ -104,7 +104,26 @@ fn optionally(
     Ok(value == answer)
 }
 
-fn attempt(
+fn attempt<C>(
+    state: &mut Numbers<C>,
+    at: At,
+    key: u64,
+    made: Result<u64, ()>,
+    answer: Result<u64, ()>,
+) -> Result<bool, CacheError>
+    requires { ComesAfter at.now at.step state.old }
+{
+    if !state.is_turn_free(TurnKind::Try, &key) {
+        return Ok(false);
+    }
+    match state.try_get_with(key, || made, at)? {
+        Ok(value) => Ok(answer == Ok(value)),
+        Err(_fault) => Ok(answer == Err(())),
+    }
+}
+
+/// The same by the call that only segments have.
+pub(crate) fn attempt_in_segments(
     state: &mut Numbers,
     at: At,
     key: u64,
@@ -122,8 +141,8 @@ fn attempt(
     }
 }
 
-fn or_insert(
-    state: &mut Numbers,
+fn or_insert<C>(
+    state: &mut Numbers<C>,
     at: At,
     key: u64,
     value: u64,
@@ -135,8 +154,8 @@ fn or_insert(
     Ok(*entry.key() == key && *entry.value() == answer.0 && entry.is_fresh() == answer.1)
 }
 
-fn or_insert_if(
-    state: &mut Numbers,
+fn or_insert_if<C>(
+    state: &mut Numbers<C>,
     at: At,
     key: u64,
     old: u64,
@@ -162,8 +181,8 @@ fn is_entry(entry: &Entry<u64, u64>, key: u64, answer: (u64, bool, bool)) -> boo
         && entry.is_old_value_replaced() == answer.2
 }
 
-fn upsert(
-    state: &mut Numbers,
+fn upsert<C>(
+    state: &mut Numbers<C>,
     at: At,
     key: u64,
     value: u64,
@@ -195,7 +214,7 @@ fn next_count(seen: Option<Entry<u64, u64>>) -> Op<u64> {
     }
 }
 
-fn count_up(state: &mut Numbers, at: At, key: u64, done: Done) -> Result<bool, CacheError>
+fn count_up<C>(state: &mut Numbers<C>, at: At, key: u64, done: Done) -> Result<bool, CacheError>
     requires { ComesAfter at.now at.step state.old }
 {
     if !state.is_turn_free(TurnKind::Compute, &key) {
@@ -207,7 +226,7 @@ fn count_up(state: &mut Numbers, at: At, key: u64, done: Done) -> Result<bool, C
     Ok(done_of(answer) == done)
 }
 
-fn take_out(state: &mut Numbers, at: At, key: u64, done: Done) -> Result<bool, CacheError>
+fn take_out<C>(state: &mut Numbers<C>, at: At, key: u64, done: Done) -> Result<bool, CacheError>
     requires { ComesAfter at.now at.step state.old }
 {
     if !state.is_turn_free(TurnKind::Compute, &key) {

@@ -2,21 +2,27 @@
 ghost use Rattle.std.specs.Prelude.{◌<◌, IfSome};
 ghost use Rattle.front_reference.specs.Fronts.{ComesAfter};
 
-use crate::playing::closures::perform_closure;
+use crate::playing::closures::{attempt_in_segments, perform_closure};
 use crate::playing::hashing::Times;
 use crate::playing::rules::IsEither;
 use crate::playing::selecting::Select;
 use crate::playing::turning::Turning;
 use engine_reference::{Bundle, EvictionPolicy, NoExpiry, RemovalCause, WeighOne};
 use front_reference::{At, CacheError, ClonedKey, Made, OwnedKey, TurnKind, TurnStart};
-use moka::{BuildError, CacheBuilder, SegmentedState};
+use moka::{BuildError, CacheBuilder, LentState, Segmented, Single};
 use policy_base::Instant;
 use std::alloc::{AllocError, Global};
 use std::process::Abort;
 use std::time::Duration;
 
 /// A cache of numbers.
-pub type Numbers = SegmentedState<u64, u64, Times, Bundle<NoExpiry, WeighOne, IsEither, ()>>;
+pub type Numbers<C = Segmented> = LentState<
+    u64,
+    u64,
+    Times,
+    Bundle<NoExpiry, WeighOne, IsEither, ()>,
+    C,
+>;
 
 /// How a row's cache is made.
 #[derive(Clone, Copy)]
@@ -158,7 +164,7 @@ pub enum Done {
 }
 
 /// When the next call comes: at this moment, or that of the last one where that is later.
-pub fn next(state: &Numbers, nanos: u64) -> Option<At>
+pub fn next<C>(state: &Numbers<C>, nanos: u64) -> Option<At>
     ensures follows { IfSome result (λ at. ComesAfter at.now at.step state.now) }
     ensures rises { IfSome result (λ at. state.now.step < at.step) }
 {
@@ -170,23 +176,37 @@ pub fn next(state: &Numbers, nanos: u64) -> Option<At>
     Some(At { now, step })
 }
 
-/// An empty cache of a form, which lets go what was used least recently, tells removals and takes
-/// predicates.
-fn numbers(alloc: Global, form: Form) -> Result<Numbers, BuildError> {
+/// What builds a cache of numbers.
+type NumbersBuilder = CacheBuilder<NoExpiry, WeighOne, IsEither, ()>;
+
+/// What builds an empty cache of a form, which lets go what was used least recently, tells removals and takes predicates.
+fn builder_of(form: Form) -> NumbersBuilder {
     let builder = CacheBuilder::default()
-        .segments(form.segments)
         .eviction_policy(EvictionPolicy::lru())
         .eviction_listener()
         .support_invalidation_closures()
         .time_to_live(Duration::from_millis(form.live));
+    match form.capacity {
+        Some(capacity) => builder.max_capacity(capacity),
+        None => builder,
+    }
+}
+
+/// Such a cache in as many segments as its form says.
+fn numbers(alloc: Global, form: Form) -> Result<Numbers, BuildError> {
     let hasher = Times {
         factor: form.factor,
     };
-    let builder = match form.capacity {
-        Some(capacity) => builder.max_capacity(capacity),
-        None => builder,
-    };
+    let builder = builder_of(form).segments(form.segments);
     builder.build_state(alloc, hasher, Instant::from_nanos(0))
+}
+
+/// Such a cache of one part.
+fn single(alloc: Global, form: Form) -> Result<Numbers<Single>, BuildError> {
+    let hasher = Times {
+        factor: form.factor,
+    };
+    builder_of(form).build_state(alloc, hasher, Instant::from_nanos(0))
 }
 
 /// Puts what was found behind `output`, and refuses then or not.
@@ -200,7 +220,7 @@ fn put(found: Option<&u64>, output: &mut Option<u64>, refuses: bool) -> Result<(
 }
 
 /// Whether a look-up shows that, and is refused or not.
-fn is_seen(state: &mut Numbers, at: At, key: u64, refuses: bool, value: Option<u64>) -> bool
+fn is_seen<C>(state: &mut Numbers<C>, at: At, key: u64, refuses: bool, value: Option<u64>) -> bool
     requires { ComesAfter at.now at.step state.old }
 {
     let mut output = None;
@@ -214,7 +234,7 @@ fn is_seen(state: &mut Numbers, at: At, key: u64, refuses: bool, value: Option<u
 }
 
 /// Whether a key is held, and is the one that is asked for, or is not held.
-fn is_held_so(state: &Numbers, key: u64, is_held: bool) -> bool {
+fn is_held_so<C>(state: &Numbers<C>, key: u64, is_held: bool) -> bool {
     match state.held_key(&key, state.hash(&key)) {
         Ok(Some(held)) => is_held && *held == key,
         Ok(None) => !is_held,
@@ -223,7 +243,7 @@ fn is_held_so(state: &Numbers, key: u64, is_held: bool) -> bool {
 }
 
 /// Looks a key up without a clone of its value.
-fn perform_lent(state: &mut Numbers, at: At, call: Call) -> bool
+fn perform_lent<C>(state: &mut Numbers<C>, at: At, call: Call) -> bool
     requires { ComesAfter at.now at.step state.old }
 {
     match call {
@@ -241,7 +261,7 @@ fn perform_lent(state: &mut Numbers, at: At, call: Call) -> bool
 }
 
 /// Looks up, inserts and removes.
-fn perform_simple(state: &mut Numbers, at: At, call: Call) -> Result<bool, CacheError>
+fn perform_simple<C>(state: &mut Numbers<C>, at: At, call: Call) -> Result<bool, CacheError>
     requires follows { ComesAfter at.now at.step state.old }
     requires rises { state.old.step < at.step }
 {
@@ -270,7 +290,12 @@ fn perform_simple(state: &mut Numbers, at: At, call: Call) -> Result<bool, Cache
 }
 
 /// Turns and coalesced calls.
-fn perform_turn(alloc: Global, state: &mut Numbers, at: At, call: Call) -> Result<bool, CacheError>
+fn perform_turn<C>(
+    alloc: Global,
+    state: &mut Numbers<C>,
+    at: At,
+    call: Call,
+) -> Result<bool, CacheError>
     requires { ComesAfter at.now at.step state.old }
 {
     match call {
@@ -291,9 +316,9 @@ fn perform_turn(alloc: Global, state: &mut Numbers, at: At, call: Call) -> Resul
     }
 }
 
-fn or_insert(
+fn or_insert<C>(
     alloc: Global,
-    state: &mut Numbers,
+    state: &mut Numbers<C>,
     at: At,
     key: u64,
     value: u64,
@@ -313,9 +338,9 @@ fn or_insert(
     Ok(made == (Made::Value(answer.0), answer.1))
 }
 
-fn insert_named(
+fn insert_named<C>(
     alloc: Global,
-    state: &mut Numbers,
+    state: &mut Numbers<C>,
     at: At,
     key: u64,
     value: u64,
@@ -328,8 +353,8 @@ fn insert_named(
     Ok(true)
 }
 
-fn begin(
-    state: &mut Numbers,
+fn begin<C>(
+    state: &mut Numbers<C>,
     at: At,
     kind: TurnKind,
     key: u64,
@@ -341,25 +366,8 @@ fn begin(
     Ok(start_of(answer) == start)
 }
 
-/// What comes of a predicate.
-fn cover(
-    state: &mut Numbers,
-    at: At,
-    covers: IsEither,
-    zeros: u32,
-    answer: Result<(), CacheError>,
-) -> Result<bool, CacheError>
-    requires follows { ComesAfter at.now at.step state.old }
-    requires rises { state.old.step < at.step }
-{
-    match state.invalidate_entries_if(covers, &mut Turning(zeros), at) {
-        Err(CacheError::OutOfMemory) => Err(CacheError::OutOfMemory),
-        given => Ok(given == answer),
-    }
-}
-
 /// The key of the oldest notice, if that is of this cause.
-fn told(state: &mut Numbers, cause: RemovalCause) -> Option<u64> {
+fn told<C>(state: &mut Numbers<C>, cause: RemovalCause) -> Option<u64> {
     match state.next_notice() {
         Some(notice) if notice.cause == cause => Some(*notice.key),
         _ => None,
@@ -367,7 +375,11 @@ fn told(state: &mut Numbers, cause: RemovalCause) -> Option<u64> {
 }
 
 /// Whether the oldest notice of a key's part is of this key and cause, or there is none.
-fn is_told_of_part(state: &mut Numbers, key: u64, expected: Option<(u64, RemovalCause)>) -> bool {
+fn is_told_of_part<C>(
+    state: &mut Numbers<C>,
+    key: u64,
+    expected: Option<(u64, RemovalCause)>,
+) -> bool {
     let part = state.part(&key);
     match state.next_notice_of_part(part) {
         Some(notice) => expected == Some((*notice.key, notice.cause)),
@@ -375,7 +387,7 @@ fn is_told_of_part(state: &mut Numbers, key: u64, expected: Option<(u64, Removal
     }
 }
 
-fn are_told(state: &mut Numbers, first: u64, second: u64, cause: RemovalCause) -> bool {
+fn are_told<C>(state: &mut Numbers<C>, first: u64, second: u64, cause: RemovalCause) -> bool {
     match (told(state, cause), told(state, cause)) {
         (Some(key), Some(next)) => {
             (key, next) == (first, second) || (key, next) == (second, first)
@@ -384,18 +396,11 @@ fn are_told(state: &mut Numbers, first: u64, second: u64, cause: RemovalCause) -
     }
 }
 
-/// Whether a call answers what it is to. Where it was refused for memory it is made once more.
-fn is_right(alloc: Global, state: &mut Numbers, nanos: u64, call: Call) -> bool {
-    match perform(alloc, state, nanos, call) {
-        Ok(is_right) => is_right,
-        Err(_) => perform(alloc, state, nanos, call) == Ok(true),
-    }
-}
-
-fn perform(alloc: Global, state: &mut Numbers, nanos: u64, call: Call) -> Result<bool, CacheError> {
-    let Some(at) = next(state, nanos) else {
-        return Ok(false);
-    };
+/// The calls of both forms.
+fn perform<C>(alloc: Global, state: &mut Numbers<C>, at: At, call: Call) -> Result<bool, CacheError>
+    requires follows { ComesAfter at.now at.step state.old }
+    requires rises { state.old.step < at.step }
+{
     match call {
         Call::Has(..)
         | Call::Peek(..)
@@ -415,15 +420,72 @@ fn perform(alloc: Global, state: &mut Numbers, nanos: u64, call: Call) -> Result
         Call::ToldBoth(first, second, cause) => Ok(are_told(state, first, second, cause)),
         Call::ToldOfPart(key, expected) => Ok(is_told_of_part(state, key, expected)),
         Call::NoneTold => Ok(state.next_notice().is_none()),
-        Call::Cover(first, second, zeros, answer) => {
-            cover(state, at, IsEither(first, second), zeros, answer)
-        }
         _ => perform_turn(alloc, state, at, call),
     }
 }
 
+/// What comes of a predicate, and was to come of it.
+fn is_covered(
+    covered: Result<(), CacheError>,
+    answer: Result<(), CacheError>,
+) -> Result<bool, CacheError> {
+    match covered {
+        Err(CacheError::OutOfMemory) => Err(CacheError::OutOfMemory),
+        covered => Ok(covered == answer),
+    }
+}
+
+/// A cache that calls are played on.
+pub trait Played {
+    /// Makes a call at a moment, or at the last one where that is later, and returns whether it answers what it is to.
+    fn play(&mut self, alloc: Global, nanos: u64, call: Call) -> Result<bool, CacheError>;
+}
+
+impl Played for Numbers<Single> {
+    fn play(&mut self, alloc: Global, nanos: u64, call: Call) -> Result<bool, CacheError> {
+        let Some(at) = next(self, nanos) else {
+            return Ok(false);
+        };
+        match call {
+            Call::Cover(first, second, zeros, answer) => {
+                let covers = IsEither(first, second);
+                let covered = self.invalidate_entries_if(covers, &mut Turning(zeros), at);
+                is_covered(covered.map(|_id| ()), answer)
+            }
+            _ => perform(alloc, self, at, call),
+        }
+    }
+}
+
+impl Played for Numbers<Segmented> {
+    fn play(&mut self, alloc: Global, nanos: u64, call: Call) -> Result<bool, CacheError> {
+        let Some(at) = next(self, nanos) else {
+            return Ok(false);
+        };
+        match call {
+            Call::Cover(first, second, zeros, answer) => {
+                let covers = IsEither(first, second);
+                let covered = self.invalidate_entries_if(covers, &mut Turning(zeros), at);
+                is_covered(covered, answer)
+            }
+            Call::With(Closure::Try(key, made, answer)) => {
+                attempt_in_segments(self, at, key, made, answer)
+            }
+            _ => perform(alloc, self, at, call),
+        }
+    }
+}
+
+/// Whether a call answers what it is to. Where it was refused for memory it is made once more.
+fn is_right<T: Played>(alloc: Global, state: &mut T, nanos: u64, call: Call) -> bool {
+    match state.play(alloc, nanos, call) {
+        Ok(is_right) => is_right,
+        Err(_) => state.play(alloc, nanos, call) == Ok(true),
+    }
+}
+
 /// The place of the first of these calls, each at its moment, that does not answer what it is to.
-pub fn wrong_call(alloc: Global, state: &mut Numbers, calls: &[(u64, Call)]) -> Option<usize> {
+pub fn wrong_call<T: Played>(alloc: Global, state: &mut T, calls: &[(u64, Call)]) -> Option<usize> {
     for (place, (nanos, call)) in calls.iter().enumerate() {
         if !is_right(alloc, state, *nanos, *call) {
             return Some(place);
@@ -432,11 +494,19 @@ pub fn wrong_call(alloc: Global, state: &mut Numbers, calls: &[(u64, Call)]) -> 
     None
 }
 
-/// An empty cache, made once more where memory was refused.
+/// An empty cache in segments, made once more where memory was refused.
 pub fn empty_cache(alloc: Global, form: Form) -> Option<Numbers> {
     match numbers(alloc, form) {
         Ok(state) => Some(state),
         Err(_) => numbers(alloc, form).ok(),
+    }
+}
+
+/// An empty cache of one part, made once more where memory was refused.
+fn empty_single(alloc: Global, form: Form) -> Option<Numbers<Single>> {
+    match single(alloc, form) {
+        Ok(state) => Some(state),
+        Err(_) => single(alloc, form).ok(),
     }
 }
 
@@ -447,12 +517,24 @@ pub struct Case<'a> {
     pub calls: &'a [(u64, Call)],
 }
 
-/// The place of the first call of a case that does not answer what it is to; the first where no
-/// cache can be made.
-fn wrong_call_of(alloc: Global, case: Case<'_>) -> Option<usize> {
-    match empty_cache(alloc, case.form) {
-        Some(mut state) => wrong_call(alloc, &mut state, case.calls),
+/// The place of the first of these calls on a new cache that does not answer what it is to; the first where none can be made.
+fn wrong_call_on<T: Played + Drop>(
+    alloc: Global,
+    made: Option<T>,
+    calls: &[(u64, Call)],
+) -> Option<usize> {
+    match made {
+        Some(mut state) => wrong_call(alloc, &mut state, calls),
         None => Some(0),
+    }
+}
+
+/// The same of a case, on a cache of one part or in segments as its form says.
+fn wrong_call_of(alloc: Global, case: Case<'_>) -> Option<usize> {
+    if case.form.segments == 1 {
+        wrong_call_on(alloc, empty_single(alloc, case.form), case.calls)
+    } else {
+        wrong_call_on(alloc, empty_cache(alloc, case.form), case.calls)
     }
 }
 

@@ -33,8 +33,8 @@ pub enum Select {
 }
 
 /// One such call.
-pub(crate) fn perform_select(
-    state: &mut Numbers,
+pub(crate) fn perform_select<C>(
+    state: &mut Numbers<C>,
     at: At,
     key: u64,
     call: Select,
@@ -51,7 +51,12 @@ pub(crate) fn perform_select(
     }
 }
 
-fn perform_entry(state: &mut Numbers, at: At, key: u64, call: Select) -> Result<bool, CacheError>
+fn perform_entry<C>(
+    state: &mut Numbers<C>,
+    at: At,
+    key: u64,
+    call: Select,
+) -> Result<bool, CacheError>
     requires { ComesAfter at.now at.step state.old }
 {
     match call {
@@ -63,7 +68,13 @@ fn perform_entry(state: &mut Numbers, at: At, key: u64, call: Select) -> Result<
     }
 }
 
-fn get(state: &mut Numbers, at: At, key: u64, made: u64, answer: u64) -> Result<bool, CacheError>
+fn get<C>(
+    state: &mut Numbers<C>,
+    at: At,
+    key: u64,
+    made: u64,
+    answer: u64,
+) -> Result<bool, CacheError>
     requires { ComesAfter at.now at.step state.old }
 {
     if !state.is_turn_free(TurnKind::With, &key) {
@@ -73,8 +84,8 @@ fn get(state: &mut Numbers, at: At, key: u64, made: u64, answer: u64) -> Result<
     Ok(value == answer)
 }
 
-fn optionally(
-    state: &mut Numbers,
+fn optionally<C>(
+    state: &mut Numbers<C>,
     at: At,
     key: u64,
     made: Option<u64>,
@@ -89,8 +100,8 @@ fn optionally(
     Ok(value == answer)
 }
 
-fn attempt(
-    state: &mut Numbers,
+fn attempt<C>(
+    state: &mut Numbers<C>,
     at: At,
     key: u64,
     made: Result<u64, ()>,
@@ -111,8 +122,8 @@ fn shown(entry: Entry<u64, u64>) -> Shown {
     (*entry.value(), entry.is_fresh())
 }
 
-fn or_insert_with(
-    state: &mut Numbers,
+fn or_insert_with<C>(
+    state: &mut Numbers<C>,
     at: At,
     key: u64,
     made: u64,
@@ -127,15 +138,20 @@ fn or_insert_with(
     Ok(shown(entry) == answer)
 }
 
-fn or_default(state: &mut Numbers, at: At, key: u64, answer: Shown) -> Result<bool, CacheError>
+fn or_default<C>(
+    state: &mut Numbers<C>,
+    at: At,
+    key: u64,
+    answer: Shown,
+) -> Result<bool, CacheError>
     requires { ComesAfter at.now at.step state.old }
 {
     let entry = state.entry(key, at).or_default()?;
     Ok(shown(entry) == answer)
 }
 
-fn or_optionally(
-    state: &mut Numbers,
+fn or_optionally<C>(
+    state: &mut Numbers<C>,
     at: At,
     key: u64,
     made: Option<u64>,
@@ -152,8 +168,8 @@ fn or_optionally(
     Ok(entry.map(shown) == answer)
 }
 
-fn or_try(
-    state: &mut Numbers,
+fn or_try<C>(
+    state: &mut Numbers<C>,
     at: At,
     key: u64,
     made: Result<u64, ()>,
@@ -178,8 +194,8 @@ fn op_of(decided: Result<Option<u64>, ()>) -> Result<Op<u64>, ()> {
     }
 }
 
-fn try_compute(
-    state: &mut Numbers,
+fn try_compute<C>(
+    state: &mut Numbers<C>,
     at: At,
     key: u64,
     decided: Result<Option<u64>, ()>,
@@ -199,7 +215,7 @@ fn try_compute(
     }
 }
 
-fn put(state: &mut Numbers, at: At, key: u64, value: u64) -> Result<bool, CacheError>
+fn put<C>(state: &mut Numbers<C>, at: At, key: u64, value: u64) -> Result<bool, CacheError>
     requires { ComesAfter at.now at.step state.old }
 {
     if !state.is_turn_free(TurnKind::Compute, &key) {

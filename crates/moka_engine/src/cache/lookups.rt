@@ -15,8 +15,8 @@ use std::alloc::AllocError;
 use std::hash::{BuildHasher, Hash};
 
 impl<K: Eq + Hash, V, S: BuildHasher, R: Rules<K, V>> BaseCache<K, V, S, R> {
-    /// The second half of a look-up, which is never refused: runs maintenance if it is due, and then notes the read of what was visible. If
-    /// that was passed over, it is not used, and counts as not found.
+    /// Runs maintenance if it is due, and then notes the read of what was visible: the second half of a look-up, which is never refused. A
+    /// value that was passed over is not used, and counts as not found.
     pub fn note_look_up<Q: Names<K>>(&mut self, key: &Q, hash: u64, now: Instant, ignored: bool)
     where
         K: Drop,
@@ -54,7 +54,8 @@ impl<K: Eq + Hash, V, S: BuildHasher, R: Rules<K, V>> BaseCache<K, V, S, R> {
         Ok(value)
     }
 
-    /// A look-up without a clone: `see` is handed the visible value of a key, if there is one, and what is behind `output`. If it returns `Ok`, this is a use of the value, and maintenance runs before it if it is due. An `Err` changes nothing.
+    /// Looks a key up without a clone: `see` is passed the visible value, if there is one, and what is behind `output`. If `see` returns
+    /// `Ok`, the call is a use of the value, before which maintenance runs if it is due. If `see` returns `Err`, nothing has changed.
     pub fn look_up_with_hash<
         Q: Names<K>,
         O,

@@ -76,7 +76,8 @@ impl<K: Eq + Hash, V, S: BuildHasher, R: Rules<K, V>> BaseCache<K, V, S, R> {
         draw_id(&self.tables, generator)
     }
 
-    /// The second half, which is never refused: registers a predicate under its identifier, in the room that was made for it.
+    /// Registers a predicate under its identifier, in the room that was made for it: the second half of `invalidate_entries_if`, which is
+    /// never refused.
     pub fn commit_predicate(&mut self, id: u128, predicate: R::Predicate, step: u64)
         requires { 0 < self.old.reserved }
         ensures { self.new ≡ registered (record { id = id; predicate = predicate; step = step })

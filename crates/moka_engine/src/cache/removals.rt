@@ -67,10 +67,9 @@ impl<K: Eq + Hash, V, S: BuildHasher, R: Rules<K, V>> BaseCache<K, V, S, R> {
         prepare_removal(&mut self.tables, key, hash)
     }
 
-    /// The second half, which is never refused: removes the key in the room that was made for it, and returns its entry as it is now and
-    /// the ticket of the removal.
-    /// The key and value are those of the first half. If maintenance removed the key in the meantime, nothing changes, and `release_room`
-    /// has to give up the room.
+    /// The second half of `remove_entry`, which is never refused: removes the key in the room that was made for it, and returns its entry
+    /// as it is now and the ticket of the removal. The key and value are those of the first half. If maintenance removed the key in the
+    /// meantime, nothing changes, and `release_room` has to give up the room.
     pub fn remove_reserved<Q: Names<K>>(
         &mut self,
         key: &Q,

@@ -6,7 +6,7 @@ use engine_reference::{Hashes, Rules};
 use std::hash::{BuildHasher, Hash};
 
 impl<K: Eq + Hash, V, S: BuildHasher, R: Rules<K, V>> BaseCache<K, V, S, R> {
-    /// Returns whether the cache stores nothing, because its capacity is 0. Its owner should not write then.
+    /// Returns whether the cache stores nothing, because its capacity is 0. The owner of such a cache should not write.
     pub fn is_map_disabled(&self) -> bool
         ensures { IsTrue result ↔ (self.now.settings.capacity ≡ Some 0) }
     {

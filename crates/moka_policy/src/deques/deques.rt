@@ -145,7 +145,8 @@ impl<K> Deques<K> {
         both(both(first, second), both(third, fourth))
     }
 
-    /// Appends an entry to a region other than `Other`, and stores the name of its node in it; or returns it in the error.
+    /// Appends an entry to the queue of a region other than `Other`, and stores the name of the new node in the entry. A refused entry is
+    /// returned in the error.
     pub fn push_back_ao(
         &mut self,
         region: CacheRegion,
@@ -170,7 +171,8 @@ impl<K> Deques<K> {
         }
     }
 
-    /// Appends an entry to the queue in order of writes, and stores the name of its node in it; or returns it in the error.
+    /// Appends an entry to the queue in order of writes, and stores the name of the new node in the entry. A refused entry is returned in
+    /// the error.
     pub fn push_back_wo(
         &mut self,
         node: KeyHashDate,

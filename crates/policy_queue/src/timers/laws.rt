@@ -12,7 +12,7 @@ use crate::timers::wheel::TimerWheel;
 use policy_base::{Instant, Slot};
 use slab::Slab;
 
-/// One event of an advance.
+/// Returns the next event of an advance to `now`, which begins and is dropped within the call.
 pub fn next_event<K>(
     wheel: &mut TimerWheel<K>,
     now: Instant,

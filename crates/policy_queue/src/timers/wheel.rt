@@ -19,9 +19,9 @@ use thiserror::Error;
 /// What became of a timer whose entry's time may have changed.
 #[derive(Clone, Copy, Debug, PartialEq, Eq)]
 pub enum ReschedulingResult {
-    /// It is at the entry's time.
+    /// The timer is at the entry's time.
     Rescheduled,
-    /// It was removed, since the entry has no time.
+    /// The timer was removed, since the entry has no time.
     Removed(TimerNode),
 }
 
@@ -258,7 +258,7 @@ impl<K> TimerWheel<K> {
         }
     }
 
-    /// Returns the first timer, if it was placed at or before `now`. It stays.
+    /// Returns the first timer, if it was placed at or before `now`. The timer stays.
     pub fn first_due(&self, now: Instant) -> Option<Timer>
         ensures earliest { IfSome result (λ t. All (λ u. t.placed ≤ u.placed) self.now.timers) }
         ensures first { MatchOption result (All (λ t. now < t.placed) self.now.timers)
