@@ -70,6 +70,19 @@ def instructions(kept):
     return table(["Call", "Instructions", "Goal"], rows)
 
 
+def structures(kept):
+    names = {
+        "keys": "keys by hash: the engine's table with its cells",
+        "index_map": "`IndexMap`",
+        "cell_slab": "values in places: the engine's slab of cells",
+        "slab": "`slab`",
+        "vec": "operations that wait: `Vec`, as in the engine",
+        "circular_buffer": "`circular_buffer`",
+    }
+    rows = [[name, *(shown(kept["structures"][which].get(what)) for what in ("find", "swap", "bytes"))] for which, name in names.items()]
+    return table(["Structure", "Look-up", "Removal and insertion", "Bytes"], rows)
+
+
 def threads(kept):
     rows = [
         [count, f"{shown(row['moka'])} ns", f"{shown(row['lru'])} ns", shown(row["factor"], 1)]
@@ -148,6 +161,7 @@ TABLES = {
     "factors": ("factors", factors),
     "longest": ("longest", longest),
     "instructions": ("instructions_of_calls", instructions),
+    "structures": ("structures", structures),
     "threads": ("threads", threads),
     "crafted keys": ("crafted_keys", crafted),
     "policy": ("policy", policy),

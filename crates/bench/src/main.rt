@@ -6,6 +6,7 @@ mod drawing;
 mod engine;
 mod orders;
 mod policy;
+mod structures;
 mod sync;
 
 use orders::{Order, Outcome, first_order};
@@ -14,11 +15,11 @@ use std::env::Env;
 use std::process::ExitCode;
 use std::sync::Wait;
 use std::thread::Threads;
-use std::time::CpuClock;
+use std::time::{Clock, CpuClock};
 use std::{env, io};
 
 /// Does an order, and prints what it came to. It is an error where that is wrong.
-fn do_order<R: Print + CpuClock + Threads + Wait + Sync + Copy>(
+fn do_order<R: Print + CpuClock + Clock + Threads + Wait + Send + Sync + Copy + Drop>(
     rt: &R,
     alloc: Global,
     order: Order,
@@ -38,11 +39,10 @@ fn do_order<R: Print + CpuClock + Threads + Wait + Sync + Copy>(
 }
 
 /// Does the orders of these words, one after another, and answers whether each was one.
-fn do_orders<R: Print + CpuClock + Threads + Wait + Sync + Copy, A: Allocator>(
-    rt: &R,
-    alloc: Global,
-    words: &[String<A>],
-) -> io::Result<bool> {
+fn do_orders<
+    R: Print + CpuClock + Clock + Threads + Wait + Send + Sync + Copy + Drop,
+    A: Allocator,
+>(rt: &R, alloc: Global, words: &[String<A>]) -> io::Result<bool> {
     let mut left = words;
     for _ in 0..words.len() {
         let (order, behind) = first_order(left);
@@ -59,7 +59,7 @@ fn do_orders<R: Print + CpuClock + Threads + Wait + Sync + Copy, A: Allocator>(
 }
 
 /// Does the orders of the words behind the program's name.
-fn do_words<R: Env + Alloc + Print + CpuClock + Threads + Wait + Sync + Copy>(
+fn do_words<R: Env + Alloc + Print + CpuClock + Clock + Threads + Wait + Send + Sync + Copy + Drop>(
     rt: &R,
     alloc: Global,
 ) -> io::Result<bool> {

@@ -1,17 +1,19 @@
 //! What is to be done, as words.
 use crate::sync::soak;
 use crate::sync::soak::Tally;
-use crate::{engine, policy, sync};
+use crate::{engine, policy, structures, sync};
 use std::alloc::{Allocator, Global};
 use std::sync::Wait;
 use std::thread::Threads;
-use std::time::CpuClock;
+use std::time::{Clock, CpuClock};
 
 /// What is to be done, with what.
 #[derive(Clone, Copy)]
 pub enum Order {
     /// With the policy's structures.
     Policy(policy::Order),
+    /// With what the cache of one part is made of, or the kit's crates of the same use.
+    Structures(structures::Order),
     /// With a cache of one part.
     Engine(engine::Order),
     /// The same, and the longest call is looked for.
@@ -37,6 +39,7 @@ impl Order {
         let (first, behind) = words.split_first()?;
         match first.as_str() {
             "policy" => Some(Order::Policy(policy::Order::from_words(behind)?)),
+            "structures" => Some(Order::Structures(structures::Order::from_words(behind)?)),
             "engine" => Some(Order::Engine(engine::Order::from_words(behind)?)),
             "longest" => Some(Order::Longest(engine::Order::from_words(behind)?)),
             "sync" => match soak::Order::from_words(behind) {
@@ -48,13 +51,14 @@ impl Order {
     }
 
     /// Does it, and answers what it came to; or nothing, where memory was refused.
-    pub fn run<R: CpuClock + Threads + Wait + Sync + Copy>(
+    pub fn run<R: CpuClock + Clock + Threads + Wait + Send + Sync + Copy + Drop>(
         self,
         rt: &R,
         alloc: Global,
     ) -> Option<Outcome> {
         match self {
             Order::Policy(order) => policy::run(alloc, order).map(Outcome::Sum),
+            Order::Structures(order) => structures::run(alloc, order).map(Outcome::Sum),
             Order::Engine(order) => engine::run(alloc, order).map(Outcome::Sum),
             Order::Longest(order) => engine::longest::run(rt, alloc, order).map(Outcome::Sum),
             Order::Sync(order) => sync::run(rt, alloc, order).map(Outcome::Sum),

@@ -9,3 +9,4 @@ pub use Rattle.front_state.specs.Beginning
 pub use Rattle.front_state.specs.Covering
 pub use Rattle.front_state.specs.Reading
 pub mod Building
+pub mod Sharding

@@ -16,6 +16,10 @@ use std::hash::{BuildHasher, Hash};
 use std::marker::PhantomData;
 use std::time::Duration;
 
+mod sharding;
+
+pub use sharding::Shards;
+
 /// The settings of a cache other than its rules.
 #[derive(Drop)]
 pub struct Plan {
@@ -31,7 +35,8 @@ pub struct Plan {
 
 /// Collects the settings of a cache and creates it. By default nothing is set: no capacity, no times, TinyLFU, one segment, each value
 /// weighs one and does not expire by itself, removals are not reported, and no predicates are accepted.
-/// The last parameter is the form of what it builds: `Single`, a cache of one segment, or, after `segments`, `Segmented`.
+/// The last parameter is the form of what it builds: `Single`, a cache of one segment, or, after `segments`,
+/// `Segmented`, or, after `shards`, `Sharded`.
 #[derive(Drop)]
 pub struct CacheBuilder<X, W, P, F, C = Single> {
     plan: Plan,

@@ -10,7 +10,7 @@ mod ready;
 mod settling;
 mod states;
 
-pub use builder::CacheBuilder;
+pub use builder::{CacheBuilder, Shards};
 pub use calling::next_call;
 pub use errors::BuildError;
 pub use front_parts::{
@@ -21,7 +21,9 @@ pub use front_reference::{
     At, CacheError, ClonedKey, Computed, IntoKey, LentKey, Made, Op, OpenTurn, OwnedKey, Shared,
     TurnKind, TurnStart,
 };
-pub use front_state::{LentState, PredicateId, Segmented, Single};
+pub use front_state::{
+    BytesName, HashedName, LentState, PredicateId, Segmented, Sharded, Single, TextName,
+};
 pub use moka_engine::{
     Bundle, EvictionPolicy, Expiration, ExpirationPolicy, Expiry, Instant, Names, NoExpiry,
     NoPredicate, Notice, Policy, Predicate, PredicateError, RemovalCause, Rules, Settings,

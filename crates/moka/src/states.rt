@@ -19,7 +19,7 @@ pub type StdHasher = BuildHasherDefault<FoldHasher>;
 /// content.
 pub type PlainRules = Bundle<NoExpiry, WeighOne, NoPredicate, ()>;
 
-/// A builder of a cache with such rules, of either form.
+/// A builder of a cache with `PlainRules`, of one segment or of several.
 pub type PlainBuilder<C = Single> = CacheBuilder<NoExpiry, WeighOne, NoPredicate, (), C>;
 
 /// A cache of one segment, which its owner lends.

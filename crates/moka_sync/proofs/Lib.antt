@@ -1,1 +1,5 @@
+mod Keyed
 mod Suiting
+mod Showing
+mod Shards
+mod Numbering

@@ -1,8 +1,8 @@
 -- What a shared cache says of the calls of its selectors. Nothing is said about what was seen.
-use Rattle.std.specs.Prelude.{◌≡◌, Bool, true, Option, Result}
+use Rattle.std.specs.Prelude.{◌≡◌, Bool, true, Option, Some, Result, Ok, ⊤}
 use Rattle.front_parts.specs.Access.Answering.{Gives, IsOptionOf, IsResultOf, passes_none}
-use Rattle.front_parts.specs.Access.Entries.{result_shown}
-use Rattle.front_parts.specs.Access.Selecting.{GivesOption, GivesResult}
+use Rattle.front_parts.specs.Access.Entries.{entry_in, result_shown}
+use Rattle.front_parts.specs.Access.Selecting.{GivesOption, GivesResult, PutsAlways}
 use Rattle.front_parts.specs.declared.access.entry.CompResult.{CompResult}
 use Rattle.front_parts.specs.declared.access.entry.Entry.{Entry}
 use Rattle.front_reference.specs.declared.data.Computed.{Computed}
@@ -33,3 +33,11 @@ pub record ComputesAsDecided {K V E : Type 0} (key : K) (Says : Option V → Res
   pub answer : Result (Computed V) E
   pub does : DoesAsDecided Says answer
   pub shows : shown ≡ result_shown key answer
+
+-- a closure made a value from the entry that it was shown, it was put, and the entry shows it
+pub record PutsAsMade {K V : Type 0} (key : K) (Makes : Option V → V → Type 0) (shown : Entry K V)
+    : Type 0 where
+  pub done : CompResult K V
+  pub does : ComputesAsDecided {E = ⊤} key (PutsAlways Makes) (Ok done)
+  pub entry : entry_in done ≡ Some shown
+  pub fresh : shown.is_fresh ≡ true

@@ -1,8 +1,9 @@
 -- What a shared cache shows of how it was built.
-use Rattle.std.specs.Prelude.{◌≡◌, ℕ, ◌≤◌, ◌^◌, List, Option, option_map}
+use Rattle.std.specs.Prelude.{◌≡◌, ℕ, ◌≤◌, ◌^◌, List, Option, Some, length, option_map, slice_get}
 use Rattle.std.specs.Duration.{as_nanos}
 use Rattle.std.specs.String.{string_bytes}
 use Rattle.engine_reference.specs.declared.rules.settings.Policy.{Policy}
+use Rattle.front_reference.specs.Fronts.{Front}
 use Rattle.moka.specs.Building.{as_limit}
 use Rattle.moka.specs.declared.builder.Plan.{Plan}
 
@@ -16,3 +17,16 @@ pub record ShowsPlan (p : Plan) (name : Option (List ℕ)) (policy : Policy) : T
   pub segments : policy.num_segments ≡ 2 ^ bits
   pub enough : p.segments ≤ 2 ^ bits
   pub least : (n : ℕ) → p.segments ≤ 2 ^ n → bits ≤ n
+
+-- this capacity, so many shards, and the times of one of them
+pub record ShowsShard {K V P S R : Type 0} (capacity : Option ℕ) (count : ℕ) (f : Front K V P S R)
+    (policy : Policy) : Type 0 where
+  pub wants : policy.max_capacity ≡ capacity
+  pub segments : policy.num_segments ≡ count
+  pub live : option_map as_nanos policy.time_to_live ≡ f.common.settings.live
+  pub idle : option_map as_nanos policy.time_to_idle ≡ f.common.settings.idle
+
+-- the same of several shards: their number, and the times of the first
+abbrev pub ShowsShards : {K V P S R : Type 0} → Option ℕ → List (Front K V P S R) → Policy → Type 0
+ShowsShards {K} {V} {P} {S} {R} capacity fs policy =
+    (f : Front K V P S R) × (slice_get fs 0 ≡ Some f) × ShowsShard capacity (length fs) f policy

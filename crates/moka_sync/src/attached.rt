@@ -113,17 +113,18 @@ impl<
         ensures suits { IfOk result (λ a. Suits kind a.0) }
         ensures cause { IfErr result (IsMakingRefusal kind) }
     {
+        let desk = self.cache.inner.desks.of(&*key);
         match kind {
-            Some(kind) => self
-                .cache
-                .inner
-                .desk
-                .coalesce_asking_once(&self.rt, kind, SharedName { key: &key }, replace_if, make),
-            None => self
-                .cache
-                .inner
-                .desk
-                .coalesce_now(&self.rt, &key, replace_if, make),
+            Some(kind) => {
+                desk.coalesce_asking_once(
+                    &self.rt,
+                    kind,
+                    SharedName { key: &key },
+                    replace_if,
+                    make,
+                )
+            }
+            None => desk.coalesce_now(&self.rt, &key, replace_if, make),
         }
     }
 
@@ -138,7 +139,11 @@ impl<
         ensures does { IfOk result (DoesAsDecided (λ seen decided. D.post decide seen decided)) }
         ensures cause { IfErr result IsEndRefusal }
     {
-        self.cache.inner.desk.compute(&self.rt, &key, decide)
+        self.cache
+            .inner
+            .desks
+            .of(&*key)
+            .compute(&self.rt, &key, decide)
     }
 
     /// Returns an iterator over the visible keys, each once and in any order, with clones of their values. It holds the lock while it

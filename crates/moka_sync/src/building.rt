@@ -20,12 +20,19 @@ use sync_desk::Env;
 /// takes no predicates.
 pub type PlainCache<K, V, E> = Cache<K, V, StdHasher, PlainRules, E>;
 
-/// Builds a cache that threads share.
-pub trait Build<K: Eq + Hash, V>: Sized {
+/// The form of a cache whose calls all take one lock.
+pub trait OneLock {}
+
+impl OneLock for Single {}
+
+impl OneLock for Segmented {}
+
+/// Builds a cache that threads share, in an environment. The environment of a cache of shards makes one for each shard (`Fork`).
+pub trait Build<K: Eq + Hash, V, E>: Sized {
     /// The rules that the cache follows.
     type Rules: Rules<K, V>;
 
-    /// The form of the cache: `Single` for a `Cache`, `Segmented` for a `SegmentedCache`.
+    /// The form of the cache: `Single` for a `Cache`, `Segmented` for a `SegmentedCache`, `Sharded` for a `ShardedCache`.
     type Form;
 
     // what is wrong with what is set, if anything
@@ -41,7 +48,7 @@ pub trait Build<K: Eq + Hash, V>: Sized {
     ///     .time_to_live(Duration::from_secs(60))
     ///     .build(alloc, MachineEnv::new(rt)?)?;
     /// ```
-    fn build<E: Env + Drop>(
+    fn build(
         self,
         alloc: Global,
         env: E,
@@ -58,7 +65,7 @@ pub trait Build<K: Eq + Hash, V>: Sized {
     /// let cache: Cache<String, u64, RandomState, PlainRules, _> =
     ///     CacheBuilder::new(10_000).build_with_hasher(alloc, RandomState::new(&rt), env)?;
     /// ```
-    fn build_with_hasher<S: BuildHasher + Drop, E: Env + Drop>(
+    fn build_with_hasher<S: BuildHasher + Drop>(
         self,
         alloc: Global,
         hasher: S,
@@ -79,8 +86,9 @@ impl<
     W: Weigher<K, V> + Drop,
     P: Predicate<K, V>,
     F: Drop,
-    C: Drop,
-> Build<K, V> for CacheBuilder<X, W, P, F, C> {
+    C: OneLock + Drop,
+    E: Env + Drop,
+> Build<K, V, E> for CacheBuilder<X, W, P, F, C> {
     ghost use Rattle.moka.specs.Building.{fault_of};
     ghost use Rattle.moka_sync.specs.Showing.{ShowsPlan};
 
@@ -92,7 +100,7 @@ impl<
 
     ghost shown = { λ builder name policy. ShowsPlan builder.plan name policy };
 
-    fn build<E: Env + Drop>(
+    fn build(
         self,
         alloc: Global,
         env: E,
@@ -100,7 +108,7 @@ impl<
         self.build_with_hasher(alloc, StdHasher::new(), env)
     }
 
-    fn build_with_hasher<S: BuildHasher + Drop, E: Env + Drop>(
+    fn build_with_hasher<S: BuildHasher + Drop>(
         self,
         alloc: Global,
         hasher: S,

@@ -6,7 +6,7 @@ ghost use Rattle.front_reference.specs.declared.errors.CacheError.TheVariants as
 ghost use Rattle.front_state.specs.Reading.{ShowsPolicy};
 ghost use Rattle.sync_desk.specs.Slots.Refusals.{IsShortage};
 
-use crate::shared::SharedDesk;
+use crate::desks::Desks;
 use engine_reference::{Policy, Rules};
 use front_reference::CacheError;
 use front_state::{LentState, Segmented, Single};
@@ -18,9 +18,9 @@ use sync_desk::Env;
 /// What is under the lock, and the properties of a cache that never change.
 #[derive(Drop)]
 pub(crate) struct Inner<K: Eq + Hash, V, S: BuildHasher, R: Rules<K, V>, E, C> {
-    pub(crate) desk: SharedDesk<K, V, S, R, E, C>,
-    name: Option<String>,
-    policy: Policy,
+    pub(crate) desks: Desks<K, V, S, R, E, C>,
+    pub(crate) name: Option<String>,
+    pub(crate) policy: Policy,
 }
 
 /// A cache of one segment that threads share. Its calls are those of `SharedCache`.
@@ -40,9 +40,11 @@ pub type Cache<K, V, S, R, E> = SharedCache<K, V, S, R, E, Single>;
 /// ```
 pub type SegmentedCache<K, V, S, R, E> = SharedCache<K, V, S, R, E, Segmented>;
 
-/// A cache that threads share, in one of two forms: `Cache` and `SegmentedCache`. A clone is another handle of the same cache.
+/// A cache that threads share, in one of three forms: `Cache` and `SegmentedCache`, which have one lock, and `ShardedCache`, which has one
+/// for each shard. A clone is another handle of the same cache.
 ///
-/// Each call takes a handle `rt`, by which it may wait for the lock, and takes the lock once. A call that makes a value or computes takes
+/// Each call takes a handle `rt`, by which it may wait for the lock, and takes the lock once. With shards, a call on a key takes the lock of
+/// the key's shard, and one on the whole cache takes each lock once, one after another. A call that makes a value or computes takes
 /// it several times, and its closures run in between, so they may use the same cache. Each call has a moment, the later of the
 /// environment's and the last call's, and the next step. Whenever the lock is taken, what it guards keeps what a lent cache keeps between
 /// calls.
@@ -109,10 +111,11 @@ impl<
     {
         let name = copy_name(alloc, state.name())?;
         let policy = state.policy();
+        let desks = Desks::one(alloc, state, env)?;
         let inner = Arc::new(
             alloc,
             Inner {
-                desk: SharedDesk::new(alloc, state, env),
+                desks,
                 name,
                 policy,
             },
@@ -141,15 +144,13 @@ impl<
 
     /// Returns the number of entries as of each segment's last maintenance run, at most 2^64 - 1. It is exact after `run_pending_tasks`.
     pub fn entry_count(&self, rt: &impl Wait) -> u64 {
-        let guard = self.inner.desk.lock(rt);
-        guard.entry_count()
+        self.inner.desks.entry_count(rt)
     }
 
     /// Returns the total weight of the entries as of each segment's last maintenance run, at most 2^64 - 1. It is exact after
     /// `run_pending_tasks`.
     pub fn weighted_size(&self, rt: &impl Wait) -> u64 {
-        let guard = self.inner.desk.lock(rt);
-        guard.weighted_size()
+        self.inner.desks.weighted_size(rt)
     }
 
     /// Returns a clone of the value of a key, or `None` if none is visible. This counts as a use of the value: it restarts its idle time,
@@ -161,7 +162,7 @@ impl<
         requires exact { (x y : V) → V.is_clone x y → y ≡ x }
         ensures cause { IfErr result IsShortage }
     {
-        let mut guard = self.inner.desk.lock(rt);
+        let mut guard = self.inner.desks.of(key).lock(rt);
         let desk = &mut *guard;
         desk.get(key)
     }
@@ -169,7 +170,7 @@ impl<
     /// Returns whether a key has a visible value: one that is neither expired nor invalidated. This does not count as a use, and never
     /// fails.
     pub fn contains_key(&self, rt: &impl Wait, key: &K) -> bool {
-        let mut guard = self.inner.desk.lock(rt);
+        let mut guard = self.inner.desks.of(key).lock(rt);
         let desk = &mut *guard;
         desk.contains_key(key)
     }
@@ -180,7 +181,7 @@ impl<
     pub fn insert(&self, rt: &impl Wait, key: K, value: V) -> Result<(), CacheError>
         ensures cause { IfErr result IsShortage }
     {
-        let mut guard = self.inner.desk.lock(rt);
+        let mut guard = self.inner.desks.of(&key).lock(rt);
         let desk = &mut *guard;
         desk.insert(key, value)
     }
@@ -192,7 +193,7 @@ impl<
         requires exact { (x y : V) → V.is_clone x y → y ≡ x }
         ensures cause { IfErr result IsShortage }
     {
-        let mut guard = self.inner.desk.lock(rt);
+        let mut guard = self.inner.desks.of(key).lock(rt);
         let desk = &mut *guard;
         desk.remove(key)
     }
@@ -203,19 +204,19 @@ impl<
         requires exact { (x y : V) → V.is_clone x y → y ≡ x }
         ensures cause { IfErr result IsShortage }
     {
-        let mut guard = self.inner.desk.lock(rt);
+        let mut guard = self.inner.desks.of(key).lock(rt);
         let desk = &mut *guard;
         desk.invalidate(key)
     }
 
     /// Invalidates all values that were written before. They become invisible at once; maintenance removes them later. It allocates
     /// nothing.
+    /// Returns an error if 2^64 - 1 calls have been made. With shards, a value that is written during the call may be covered or not, and
+    /// the shards before the one that refused are cleared.
     pub fn invalidate_all(&self, rt: &impl Wait) -> Result<(), CacheError>
         ensures cause { IfErr result (λ e. e ≡ errors.UsedUp) }
     {
-        let mut guard = self.inner.desk.lock(rt);
-        let desk = &mut *guard;
-        desk.invalidate_all()
+        self.inner.desks.invalidate_all(rt)
     }
 
     /// Runs the maintenance of every segment to its end: it removes values that have expired or were invalidated, and evicts those above
@@ -224,8 +225,6 @@ impl<
     pub fn run_pending_tasks(&self, rt: &impl Wait) -> Result<(), CacheError>
         ensures cause { IfErr result (λ e. e ≡ errors.UsedUp) }
     {
-        let mut guard = self.inner.desk.lock(rt);
-        let desk = &mut *guard;
-        desk.run_pending_tasks()
+        self.inner.desks.run_pending_tasks(rt)
     }
 }

@@ -38,13 +38,12 @@ impl<
         requires callable { M.IsAlwaysCallable make }
         ensures cause { IfErr result IsTurnRefusal }
     {
+        let desk = self.inner.desks.of(&key);
         let asked = OwnedKey {
             key,
             alloc: self.alloc,
         };
-        self.inner
-            .desk
-            .make_value(rt, asked, Passing::Never, |_: &V| -> bool { false }, make)
+        desk.make_value(rt, asked, Passing::Never, |_: &V| -> bool { false }, make)
     }
 
     /// Like `get_with`, with a borrowed key, which is cloned only if a turn begins.
@@ -66,13 +65,12 @@ impl<
         requires callable { M.IsAlwaysCallable make }
         ensures cause { IfErr result IsTurnRefusal }
     {
+        let desk = self.inner.desks.of(key);
         let asked = ClonedKey {
             key,
             alloc: self.alloc,
         };
-        self.inner
-            .desk
-            .make_value(rt, asked, Passing::Never, |_: &V| -> bool { false }, make)
+        desk.make_value(rt, asked, Passing::Never, |_: &V| -> bool { false }, make)
     }
 
     /// Like `get_with`, except that a visible value for which `replace_if` returns true counts as none.
@@ -93,13 +91,12 @@ impl<
         requires callable { P.IsAlwaysCallable replace_if × M.IsAlwaysCallable make }
         ensures cause { IfErr result IsTurnRefusal }
     {
+        let desk = self.inner.desks.of(&key);
         let asked = OwnedKey {
             key,
             alloc: self.alloc,
         };
-        self.inner
-            .desk
-            .make_value(rt, asked, Passing::Unasked, replace_if, make)
+        desk.make_value(rt, asked, Passing::Unasked, replace_if, make)
     }
 
     /// Like `get_with`, except that `make` may return `None`. Then nothing is stored, and this call and those that wait for it return
@@ -118,11 +115,12 @@ impl<
         requires callable { M.IsAlwaysCallable make }
         ensures cause { IfErr result IsTurnRefusal }
     {
+        let desk = self.inner.desks.of(&key);
         let asked = OwnedKey {
             key,
             alloc: self.alloc,
         };
-        self.inner.desk.make_option(rt, asked, make)
+        desk.make_option(rt, asked, make)
     }
 
     /// Like `optionally_get_with`, with a borrowed key, which is cloned only if a turn begins.
@@ -140,11 +138,12 @@ impl<
         requires callable { M.IsAlwaysCallable make }
         ensures cause { IfErr result IsTurnRefusal }
     {
+        let desk = self.inner.desks.of(key);
         let asked = ClonedKey {
             key,
             alloc: self.alloc,
         };
-        self.inner.desk.make_option(rt, asked, make)
+        desk.make_option(rt, asked, make)
     }
 
     /// Like `get_with`, except that `make` may fail. Then nothing is stored, and this call and those that wait for it return the same
@@ -166,11 +165,12 @@ impl<
         requires callable { M.IsAlwaysCallable make }
         ensures cause { IfErr result IsTurnRefusal }
     {
+        let desk = self.inner.desks.of(&key);
         let asked = OwnedKey {
             key,
             alloc: self.alloc,
         };
-        self.inner.desk.make_result(rt, asked, make)
+        desk.make_result(rt, asked, make)
     }
 
     /// Like `try_get_with`, with a borrowed key, which is cloned only if a turn begins.
@@ -188,11 +188,12 @@ impl<
         requires callable { M.IsAlwaysCallable make }
         ensures cause { IfErr result IsTurnRefusal }
     {
+        let desk = self.inner.desks.of(key);
         let asked = ClonedKey {
             key,
             alloc: self.alloc,
         };
-        self.inner.desk.make_result(rt, asked, make)
+        desk.make_result(rt, asked, make)
     }
 }
 

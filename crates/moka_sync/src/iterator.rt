@@ -50,8 +50,7 @@ impl<
         requires exact { (x y : V) → V.is_clone x y → y ≡ x }
         ensures cause { IfErr result (λ e. e ≡ errors.OutOfMemory) }
     {
-        let guard = self.inner.desk.lock(rt);
-        match guard.keys(segment)? {
+        match self.inner.desks.keys(rt, segment)? {
             Some(keys) => Ok(keys),
             None => Ok(Vec::new(self.alloc)),
         }
@@ -62,7 +61,7 @@ impl<
         requires exact { (x y : V) → V.is_clone x y → y ≡ x }
         ensures cause { IfErr result (λ e. e ≡ errors.OutOfMemory) }
     {
-        let mut guard = self.inner.desk.lock(rt);
+        let mut guard = self.inner.desks.of(&**key).lock(rt);
         let desk = &mut *guard;
         desk.scan(&**key)
     }

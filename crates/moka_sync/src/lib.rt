@@ -1,5 +1,5 @@
-//! Bounded caches of values by key that threads share. All calls take one lock, and each missing value is made by only one of several
-//! callers.
+//! Bounded caches of values by key that threads share, under one lock or one for each shard. Each missing value is made by only one of
+//! several callers.
 #![tactic(auto)]
 
 mod attached;
@@ -7,26 +7,34 @@ mod building;
 mod cache;
 mod coalescing;
 mod computing;
+mod covering;
+mod desks;
 mod iterator;
 mod making;
+mod naming;
 mod refusable;
 mod selecting;
+mod sharded;
 mod shared;
+mod spreading;
 mod turns;
 mod wholes;
 
 pub use attached::Attached;
-pub use building::{Build, PlainCache};
+pub use building::{Build, OneLock, PlainCache};
 pub use cache::{Cache, SegmentedCache, SharedCache};
+pub use covering::AllDesks;
 pub use iterator::Iter;
 pub use moka::{
-    Access, BuildError, Bundle, ByCreation, CacheBuilder, CacheError, CompResult, Computed, Entry,
-    EntrySelector, EvictionPolicy, Expiration, ExpirationPolicy, Expiry, Instant, KeyPrefix,
-    Lifetime, Made, Names, NoExpiry, NoPredicate, Notice, Op, OwnedKeyEntrySelector, PlainBuilder,
-    PlainRules, Policy, Predicate, PredicateError, PredicateId, RefKeyEntrySelector, RemovalCause,
-    Rules, Segmented, Shared, Single, StdHasher, TurnKind, WeighBytes, WeighOne, Weigher,
+    Access, BuildError, Bundle, ByCreation, BytesName, CacheBuilder, CacheError, CompResult,
+    Computed, Entry, EntrySelector, EvictionPolicy, Expiration, ExpirationPolicy, Expiry,
+    HashedName, Instant, KeyPrefix, Lifetime, Made, Names, NoExpiry, NoPredicate, Notice, Op,
+    OwnedKeyEntrySelector, PlainBuilder, PlainRules, Policy, Predicate, PredicateError,
+    PredicateId, RefKeyEntrySelector, RemovalCause, Rules, Segmented, Sharded, Shared, Single,
+    StdHasher, TextName, TurnKind, WeighBytes, WeighOne, Weigher,
 };
 pub use selecting::SharedSelector;
+pub use sharded::ShardedCache;
 pub use shared::SharedDesk;
-pub use sync_desk::{Dial, DialEnv, Ending as WaiterValue, Env, MachineEnv};
+pub use sync_desk::{Dial, DialEnv, Ending as WaiterValue, Env, Fork, MachineEnv};
 pub use wholes::ConcurrentCacheExt;

@@ -48,7 +48,7 @@ impl<
         Ok(value_made(made))
     }
 
-    /// The visible value, or the one that is made, if any.
+    /// Returns the visible value of a key, or the one that `make` makes, or `None` if `make` makes none.
     pub fn make_option<H: Wait, A: Asked<K>, M: FnOnce() -> Option<V> + Drop>(
         &self,
         rt: &H,
@@ -79,7 +79,7 @@ impl<
         Ok(option_made(made))
     }
 
-    /// The visible value, or the one that is made, or why none is.
+    /// Returns the visible value of a key, or the one that `make` makes, or the fault for which `make` made none.
     pub fn make_result<H: Wait, A: Asked<K>, M: FnOnce() -> Result<V, R::Fault> + Drop>(
         &self,
         rt: &H,

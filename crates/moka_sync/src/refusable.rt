@@ -38,11 +38,12 @@ impl<
         requires callable { M.IsAlwaysCallable make }
         ensures cause { IfErr result IsTurnRefusal }
     {
+        let desk = self.inner.desks.of(&key);
         let asked = OwnedKey {
             key,
             alloc: self.alloc,
         };
-        let (made, _is_fresh) = self.inner.desk.coalesce(
+        let (made, _is_fresh) = desk.coalesce(
             rt,
             TurnKind::With,
             asked,

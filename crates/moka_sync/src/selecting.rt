@@ -1,10 +1,10 @@
 //! Selectors of an entry, on a handle that others share.
-ghost use Rattle.std.specs.Prelude.{◌≡◌, false, Ok, IfOk, IfErr};
+ghost use Rattle.std.specs.Prelude.{◌≡◌, false, Ok, IfOk, IfErr, ⊤};
 ghost use Rattle.std.specs.Arc.{arc_value};
 ghost use Rattle.front_parts.specs.Access.Entries.{entry_with, seen_entry};
-ghost use Rattle.front_parts.specs.Access.Selecting.{with_fault};
+ghost use Rattle.front_parts.specs.Access.Selecting.{DecidesAlways, with_fault};
 ghost use Rattle.front_reference.specs.declared.errors.CacheError.TheVariants as errors;
-ghost use Rattle.moka_sync.specs.Selecting.{ComputesAsDecided, IsMadeIfFresh, IsOptionMade, IsResultMade};
+ghost use Rattle.moka_sync.specs.Selecting.{ComputesAsDecided, IsMadeIfFresh, IsOptionMade, IsResultMade, PutsAsMade};
 ghost use Rattle.sync_desk.specs.Slots.Refusals.{IsEndRefusal, IsShortage, IsTurnRefusal};
 
 use crate::attached::Attached;
@@ -247,6 +247,8 @@ impl<
         decide: D,
     ) -> Result<CompResult<K, V>, CacheError>
         requires callable { D.IsAlwaysCallable decide }
+        ensures does { IfOk result (λ done. ComputesAsDecided {E = ⊤} self.entry.key (DecidesAlways
+            (λ seen does. D.post decide (seen_entry self.entry.key seen) does)) (Ok done)) }
         ensures cause { IfErr result IsEndRefusal }
     {
         let mut attached = self.cache.attached(self.rt)?;
@@ -263,6 +265,8 @@ impl<
         make: M,
     ) -> Result<Entry<K, V>, CacheError>
         requires callable { M.IsAlwaysCallable make }
+        ensures puts { IfOk result (PutsAsMade self.entry.key
+            (λ seen value. M.post make (seen_entry self.entry.key seen) value)) }
         ensures cause { IfErr result IsEndRefusal }
     {
         let mut attached = self.cache.attached(self.rt)?;

@@ -38,7 +38,7 @@ impl<
     E: Env + Drop,
     C: Drop,
 > SharedDesk<K, V, S, R, E, C> {
-    /// A cache that was lent, with no turn under way, and the environment that gives its moments.
+    /// Shares a lent cache, of which no turn is under way, with the environment that gives its moments.
     pub fn new(alloc: Global, state: LentState<K, V, S, R, C>, env: E) -> Self {
         SharedDesk {
             alloc,

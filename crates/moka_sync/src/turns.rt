@@ -14,7 +14,8 @@ use std::hash::{BuildHasher, Hash};
 use std::sync::{MutexGuard, Wait};
 use sync_desk::{Asked, Desk, Ending, Env, Start, copy_made};
 
-/// How often a call that makes a value begins. If each turn that it waited for was given up, so is the call.
+/// How many times a call that makes a value begins at most. If each turn for which the call waited was given up, the call is refused as
+/// `Abandoned`.
 pub(crate) const BEGINNINGS: u32 = 200;
 
 /// A turn that the caller leads. It can't be dropped, so each path ends it or gives it up.
@@ -24,7 +25,7 @@ pub(crate) struct Lead<'a, K: Eq + Hash, V, S: BuildHasher, R: Rules<K, V>, E, C
     pub(crate) number: u64,
 }
 
-/// Whether a visible value is passed over, as far as that is known.
+/// What is known of whether `replace_if` passes the visible value over.
 #[derive(Clone, Copy)]
 pub(crate) enum Passing {
     /// No value is passed over.
@@ -36,7 +37,7 @@ pub(crate) enum Passing {
 }
 
 impl Passing {
-    /// What was returned for the visible value, if its last write is at this step.
+    /// What `replace_if` returned for the visible value, if the last write of its key was at this step.
     fn said(&self, written: u64) -> Option<bool> {
         match self {
             Passing::Said(step, is_passed_over) if *step == written => Some(*is_passed_over),
@@ -341,8 +342,8 @@ impl<
         }
     }
 
-    /// `coalesce` with a closure that is called once, on the value that is visible when the call begins. A value that is written after that
-    /// is not passed over.
+    /// Like `coalesce`, with a `replace_if` that is called once, on the value that is visible when the call begins. A value that is written
+    /// after that is not passed over.
     pub fn coalesce_asking_once<
         H: Wait,
         A: Asked<K>,

@@ -11,7 +11,7 @@ use std::hash::{BuildHasher, Hash};
 use std::sync::Wait;
 use sync_desk::Env;
 
-/// Maintenance by its older name.
+/// The older name of `run_pending_tasks`.
 pub trait ConcurrentCacheExt {
     /// Runs maintenance to its end, like `run_pending_tasks`.
     fn sync(&self, rt: &impl Wait) -> Result<(), CacheError>
@@ -51,7 +51,7 @@ impl<
     ) -> Result<PredicateId, CacheError>
         ensures cause { IfErr result IsCoverRefusal }
     {
-        let mut guard = self.inner.desk.lock(rt);
+        let mut guard = self.inner.desks.first().lock(rt);
         let desk = &mut *guard;
         desk.invalidate_entries_if(predicate)
     }
@@ -78,7 +78,7 @@ impl<
     ) -> Result<(), CacheError>
         ensures cause { IfErr result IsCoverRefusal }
     {
-        let mut guard = self.inner.desk.lock(rt);
+        let mut guard = self.inner.desks.first().lock(rt);
         let desk = &mut *guard;
         desk.invalidate_entries_if(predicate)
     }
@@ -93,15 +93,23 @@ impl<
     C: Drop,
 > SharedCache<K, V, S, R, E, C> {
     /// Takes the oldest notice of the first segment that has one: a key, its value, and why it left. A cache has notices only if its
-    /// builder called `report_removals`. They are kept until they are taken.
+    /// builder called `report_removals`. They are kept until they are taken. With shards, the search begins where it found one last.
     /// ```
     /// if let Some(notice) = cache.next_notice(&rt) {
     ///     log(&notice.key, notice.cause);
     /// }
     /// ```
     pub fn next_notice(&self, rt: &impl Wait) -> Option<Notice<Shared<K>, V>> {
-        let mut guard = self.inner.desk.lock(rt);
-        let desk = &mut *guard;
-        desk.next_notice()
+        self.inner.desks.next_notice(rt)
+    }
+
+    /// Adds notices to a vector, as many as it has room for, the oldest of a segment first. It takes each lock at most once, and allocates
+    /// nothing. With shards, each call begins one shard further than the one before it.
+    /// ```
+    /// let mut notices = Vec::with_capacity(alloc, 1000)?;
+    /// cache.take_notices(&rt, &mut notices);
+    /// ```
+    pub fn take_notices(&self, rt: &impl Wait, notices: &mut Vec<Notice<Shared<K>, V>>) {
+        self.inner.desks.take_notices(rt, notices);
     }
 }

@@ -1,4 +1,5 @@
 pub mod Removing
+pub mod Preparing
 pub mod Refusing
 pub mod Telling
 pub mod Computing

@@ -1,4 +1,5 @@
 pub mod Slots
 pub mod Coalescing
 pub mod Drawing
+pub mod Sharding
 pub mod Writing

@@ -12,7 +12,7 @@ use crate::desk::Desk;
 use crate::env::Env;
 use engine_reference::Rules;
 use front_parts::HasWays;
-use front_reference::{At, CacheError, OwnedKey};
+use front_reference::{At, CacheError, LentKey, OwnedKey};
 use std::hash::{BuildHasher, Hash};
 
 impl<
@@ -35,13 +35,7 @@ impl<
         ensures used_up { IsErrOf result errors.UsedUp
             → LacksSteps 1 self.old.state }
     {
-        let Some(at) = self.draw() else {
-            return Err(CacheError::UsedUp);
-        };
-        match self.state.get(key, at) {
-            Ok(found) => Ok(found),
-            Err(_) => Err(CacheError::OutOfMemory),
-        }
+        self.get_by_name(&LentKey { key })
     }
 
     /// Returns whether a key has a visible value. It does not count as a use, and changes nothing.
@@ -53,8 +47,7 @@ impl<
         ensures slots { self.new.slots ≡ self.old.slots }
         ensures writes { self.new.writes ≡ self.old.writes }
     {
-        let now = self.env.now().max(self.state.last_call().now);
-        self.state.contains_key(key, now)
+        self.contains_key_by_name(&LentKey { key })
     }
 
     /// Inserts a value. A cache of capacity 0 stores none.
@@ -104,10 +97,7 @@ impl<
             → LacksSteps 1 self.old.state ⊎ IsCauseIn
             ⟦<R as HasWays<K, V, S>>⟧.ways removal_rooms self.old.state key.now errors.UsedUp }
     {
-        let Some(at) = self.draw() else {
-            return Err(CacheError::UsedUp);
-        };
-        self.state.remove(key, at)
+        self.remove_by_name(&LentKey { key })
     }
 
     /// Removes a key, whether its deadline has come or not.
@@ -123,10 +113,7 @@ impl<
             → LacksSteps 1 self.old.state ⊎ IsCauseIn
             ⟦<R as HasWays<K, V, S>>⟧.ways removal_rooms self.old.state key.now errors.UsedUp }
     {
-        let Some(at) = self.draw() else {
-            return Err(CacheError::UsedUp);
-        };
-        self.state.invalidate(key, at)
+        self.invalidate_by_name(&LentKey { key })
     }
 
     /// Covers every value that was written before.

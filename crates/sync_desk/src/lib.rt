@@ -4,12 +4,14 @@
 mod calls;
 mod desk;
 pub mod env;
+mod naming;
+mod sharding;
 pub mod slots;
 mod turns;
 mod wholes;
 mod writes;
 
 pub use desk::Desk;
-pub use env::{Dial, DialEnv, Env, MachineEnv};
+pub use env::{Dial, DialEnv, Env, Fork, MachineEnv};
 pub use slots::{Asked, Ending, SharedName, Slots, WaitingName, copy_made};
 pub use turns::{ComputeStart, Start};

@@ -89,7 +89,7 @@ impl<
     C: Drop,
 > Desk<K, V, S, R, E, C> {
     /// The moment and step of a call with a predicate. A cache that takes none refuses that first.
-    fn draw_to_cover(&mut self) -> Result<At, CacheError>
+    pub(crate) fn draw_to_cover(&mut self) -> Result<At, CacheError>
         ensures drawn { IfOk result (IsDrawn self.old.state) }
         ensures takes { OnOk result (self.old.state.common.settings.takes_predicates ≡ true) }
         ensures first { self.old.state.common.settings.takes_predicates ≡ false

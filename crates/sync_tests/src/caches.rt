@@ -1,7 +1,7 @@
 //! The tests' caches, how one is played with, and the gates of their threads.
 use moka_sync::{
     Build, BuildError, Bundle, CacheBuilder, Dial, DialEnv, NoExpiry, NoPredicate, Segmented,
-    SharedCache, Single, StdHasher, WeighOne,
+    Sharded, SharedCache, Single, StdHasher, WeighOne,
 };
 use rand_core::SeedableRng;
 use rand_xoshiro::Xoshiro256PlusPlus;
@@ -126,6 +126,14 @@ pub fn make_numbers_stage(alloc: Global) -> Option<Stage<Numbers>> {
 pub fn make_four(alloc: Global, moments: Moments) -> Result<Numbers<Segmented>, BuildError> {
     CacheBuilder::new(500)
         .segments(4)
+        .faults::<u64>()
+        .build(alloc, moments)
+}
+
+/// An empty cache of capacity 500 in four shards.
+pub fn make_four_shards(alloc: Global, moments: Moments) -> Result<Numbers<Sharded>, BuildError> {
+    CacheBuilder::new(500)
+        .shards(4)
         .faults::<u64>()
         .build(alloc, moments)
 }

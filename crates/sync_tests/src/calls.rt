@@ -1,7 +1,9 @@
 //! Calls of one thread.
-use crate::caches::{Moments, Numbers, Play, Stage, make_four, make_numbers, passes};
+use crate::caches::{
+    Moments, Numbers, Play, Stage, make_four, make_four_shards, make_numbers, passes,
+};
 use crate::rows::{Row, are_so, gets};
-use moka_sync::{BuildError, Segmented};
+use moka_sync::{BuildError, Segmented, Sharded};
 use std::alloc::Global;
 use std::sync::Wait;
 
@@ -96,6 +98,26 @@ impl<H: Wait> Play<H> for InFour {
     }
 }
 
+/// On four shards.
+struct InShards;
+
+impl<H: Wait> Play<H> for InShards {
+    type Cache = Numbers<Sharded>;
+
+    fn make(
+        &self,
+        _rt: &H,
+        alloc: Global,
+        moments: Moments,
+    ) -> Result<Numbers<Sharded>, BuildError> {
+        make_four_shards(alloc, moments)
+    }
+
+    fn plays(&self, rt: &H, _alloc: Global, stage: &Stage<Numbers<Sharded>>) -> bool {
+        are_so(rt, stage, CALLS) && replaces(rt, &stage.cache)
+    }
+}
+
 #[test]
 fn calls_of_one_segment(rt: HostRuntime) {
     assert!(rt; passes(&rt, rt.alloc(), &InOne));
@@ -104,4 +126,9 @@ fn calls_of_one_segment(rt: HostRuntime) {
 #[test]
 fn calls_of_four_segments(rt: HostRuntime) {
     assert!(rt; passes(&rt, rt.alloc(), &InFour));
+}
+
+#[test]
+fn calls_of_four_shards(rt: HostRuntime) {
+    assert!(rt; passes(&rt, rt.alloc(), &InShards));
 }

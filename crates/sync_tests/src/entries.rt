@@ -4,7 +4,7 @@ use crate::rows::gets;
 use moka_sync::{BuildError, CacheError, CompResult, Entry, Op};
 use std::alloc::Global;
 use std::fmt::Write;
-use std::sync::Wait;
+use std::sync::{Arc, Wait};
 
 /// Whether a selector returns this value, made or put by its call or not.
 fn is_entry(entry: Result<Entry<u64, u64>, CacheError>, value: u64, is_fresh: bool) -> bool {
@@ -33,6 +33,22 @@ fn fault(_seen: Option<Entry<u64, u64>>) -> Result<Op<u64>, u64> {
     Err(9)
 }
 
+fn nothing() -> Option<u64> {
+    None
+}
+
+fn failure() -> Result<u64, u64> {
+    Err(5)
+}
+
+/// The fault that a selector returns, if its call fails.
+fn fault_of(answer: Result<Result<Entry<u64, u64>, Arc<u64>>, CacheError>) -> Option<u64> {
+    match answer {
+        Ok(Err(fault)) => Some(*fault),
+        _ => None,
+    }
+}
+
 /// Whether values are made where there is none, and only there.
 fn are_made<H: Wait + Copy>(rt: &H, cache: &Numbers) -> bool {
     is_entry(cache.entry(rt, 1).or_insert(3), 3, true)
@@ -51,6 +67,15 @@ fn is_replaced<H: Wait + Copy>(rt: &H, cache: &Numbers) -> bool {
             Ok(selector) => is_entry(selector.or_insert(6), 7, false),
             Err(_) => false,
         }
+}
+
+/// Whether a closure that makes nothing, or fails, is answered so.
+fn may_fail<H: Wait + Copy>(rt: &H, cache: &Numbers) -> bool {
+    matches!(
+        cache.entry(rt, 4).or_optionally_insert_with(nothing),
+        Ok(None)
+    ) && fault_of(cache.entry(rt, 4).or_try_insert_with(failure)) == Some(5)
+        && gets(rt, cache, 4, None)
 }
 
 /// Whether a value is computed from the one before, and removed.
@@ -92,6 +117,7 @@ impl<H: Wait + Copy> Play<H> for Choosing {
     fn plays(&self, rt: &H, alloc: Global, stage: &Stage<Numbers>) -> bool {
         are_made(rt, &stage.cache)
             && is_replaced(rt, &stage.cache)
+            && may_fail(rt, &stage.cache)
             && is_computed(rt, &stage.cache)
             && is_printed(rt, alloc, &stage.cache)
     }

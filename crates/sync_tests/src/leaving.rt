@@ -5,7 +5,7 @@ use crate::caches::{Moments, NumbersBy, Play, Stage, make_stage, passes};
 use crate::rows::{Row, are_so, inserts, wrong_row};
 use moka_sync::{
     Build, BuildError, Bundle, ByCreation, CacheBuilder, ConcurrentCacheExt, EvictionPolicy,
-    Lifetime, Predicate, RemovalCause, Segmented, Single, WeighOne,
+    Lifetime, Predicate, RemovalCause, Segmented, Sharded, Single, WeighOne,
 };
 use std::alloc::Global;
 use std::sync::Wait;
@@ -164,6 +164,29 @@ impl<H: Wait> Play<H> for NamesOfFour {
 #[test]
 fn names_of_four_segments_are_covered(rt: HostRuntime) {
     assert!(rt; passes(&rt, rt.alloc(), &NamesOfFour));
+}
+
+/// Names in four shards, which return nothing either.
+struct NamesOfShards;
+
+impl<H: Wait> Play<H> for NamesOfShards {
+    type Cache = Told<Sharded>;
+
+    fn make(&self, _rt: &H, alloc: Global, moments: Moments) -> Result<Told<Sharded>, BuildError> {
+        plan(Form::Hundred).shards(4).build(alloc, moments)
+    }
+
+    fn plays(&self, rt: &H, _alloc: Global, stage: &Stage<Told<Sharded>>) -> bool {
+        are_so(rt, stage, NAMES)
+            && stage.cache.invalidate_entries_if(rt, IsEither(1, 3)) == Ok(())
+            && are_so(rt, stage, LATER)
+            && are_so(rt, stage, COVERED_NAMES)
+    }
+}
+
+#[test]
+fn names_of_four_shards_are_covered(rt: HostRuntime) {
+    assert!(rt; passes(&rt, rt.alloc(), &NamesOfShards));
 }
 
 // the one used longest ago is evicted

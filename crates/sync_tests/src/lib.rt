@@ -8,6 +8,8 @@ mod calls;
 #[cfg(test)]
 mod choosing;
 #[cfg(test)]
+mod covering;
+#[cfg(test)]
 mod crowds;
 #[cfg(test)]
 mod entries;
@@ -25,6 +27,8 @@ mod resolver;
 mod resolving;
 #[cfg(test)]
 mod rows;
+#[cfg(test)]
+mod sharding;
 #[cfg(test)]
 mod turns;
 #[cfg(test)]

@@ -50,7 +50,7 @@ pub fn gets<H: Wait, R: Rules<u64, u64> + Drop, C: Drop>(
 }
 
 /// Whether a key had this value, or none, and has none now.
-fn removes<H: Wait, R: Rules<u64, u64> + Drop, C: Drop>(
+pub fn removes<H: Wait, R: Rules<u64, u64> + Drop, C: Drop>(
     rt: &H,
     cache: &NumbersBy<R, C>,
     key: u64,

@@ -5,6 +5,7 @@ mod failing;
 mod hasher;
 mod iteration;
 mod making;
+mod names;
 mod notices;
 mod pages;
 mod predicates;

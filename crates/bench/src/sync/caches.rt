@@ -1,12 +1,15 @@
 //! The caches that are compared, with one hasher, behind the calls that are timed.
 use lru::LruCache;
-use moka_sync::{Cache, Dial, DialEnv, PlainRules, StdHasher};
+use moka_sync::{
+    Cache, MachineEnv, PlainRules, Sharded, ShardedCache, SharedCache, Single, StdHasher,
+};
 use rand_core::SeedableRng;
 use rand_xoshiro::Xoshiro256PlusPlus;
 use std::alloc::Global;
 use std::hash::BuildHasherDefault;
 use std::num::NonZeroUsize;
-use std::sync::{Arc, Mutex, Wait};
+use std::sync::{Mutex, Wait};
+use std::time::Clock;
 
 /// The calls that are timed.
 pub trait SharedNumbers {
@@ -17,28 +20,38 @@ pub trait SharedNumbers {
     fn put<H: Wait>(&self, rt: &H, key: u64, value: u64) -> bool;
 }
 
-/// The cache that threads share. It is always the same moment, so that runs come by the number of
-/// what waits.
+/// A cache that threads share, of any form, with the machine's clock.
 #[derive(Drop)]
-pub struct Moka {
-    cache: Cache<u64, u64, StdHasher, PlainRules, DialEnv<Xoshiro256PlusPlus>>,
+pub struct Moka<H, C> {
+    cache: SharedCache<u64, u64, StdHasher, PlainRules, MachineEnv<H, Xoshiro256PlusPlus>, C>,
 }
 
-impl Moka {
-    /// An empty cache of a capacity; or nothing, where memory was refused.
-    pub fn make(alloc: Global, capacity: NonZeroUsize) -> Option<Moka> {
-        let Ok(dial) = Arc::new(alloc, Dial::new()) else {
-            return None;
-        };
-        let env = DialEnv::new(dial, Xoshiro256PlusPlus::seed_from_u64(1));
-        match Cache::new(alloc, capacity.get() as u64, env) {
+/// Moments of the machine's clock, and random words.
+fn make_env<H: Clock + Drop>(clock: H) -> Option<MachineEnv<H, Xoshiro256PlusPlus>> {
+    MachineEnv::with_generator(clock, Xoshiro256PlusPlus::seed_from_u64(1)).ok()
+}
+
+impl<H: Clock + Copy + Drop> Moka<H, Single> {
+    /// An empty cache of a capacity under one lock; or nothing, where memory was refused.
+    pub fn make(alloc: Global, capacity: NonZeroUsize, clock: H) -> Option<Self> {
+        match Cache::new(alloc, capacity.get() as u64, make_env(clock)?) {
             Ok(cache) => Some(Moka { cache }),
             Err(_) => None,
         }
     }
 }
 
-impl SharedNumbers for Moka {
+impl<H: Clock + Copy + Drop> Moka<H, Sharded> {
+    /// An empty cache of a capacity in 64 shards; or nothing, where memory was refused.
+    pub fn make_shards(alloc: Global, capacity: NonZeroUsize, clock: H) -> Option<Self> {
+        match ShardedCache::new(alloc, capacity.get() as u64, 64, make_env(clock)?) {
+            Ok(cache) => Some(Moka { cache }),
+            Err(_) => None,
+        }
+    }
+}
+
+impl<C: Clock + Drop, F: Drop> SharedNumbers for Moka<C, F> {
     fn get<H: Wait>(&self, rt: &H, key: u64) -> bool {
         matches!(self.cache.get(rt, &key), Ok(Some(_)))
     }

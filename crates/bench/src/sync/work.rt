@@ -9,12 +9,15 @@ use std::num::NonZeroUsize;
 use std::sync::Wait;
 use std::thread;
 use std::thread::Threads;
+use std::time::Clock;
 
 /// Which cache it is.
 #[derive(Clone, Copy, Debug, PartialEq, Eq)]
 enum Which {
-    /// The cache that threads share.
+    /// The cache that threads share, under one lock.
     Moka,
+    /// The same in 64 shards.
+    Shards,
     /// The kit's under one lock.
     Lru,
     /// None: the loop alone.
@@ -25,6 +28,7 @@ impl Which {
     fn from_word(word: &str) -> Option<Which> {
         match word {
             "moka" => Some(Which::Moka),
+            "shards" => Some(Which::Shards),
             "lru" => Some(Which::Lru),
             "loops" => Some(Which::Loops),
             _ => None,
@@ -102,7 +106,14 @@ fn make_calls<C: SharedNumbers, H: Wait>(
     found
 }
 
-/// All threads' calls.
+/// A value under each key below a number.
+fn fill<C: SharedNumbers, H: Wait>(rt: &H, cache: &C, size: usize) {
+    for key in 0..size {
+        let _is_written = cache.put(rt, key as u64, key as u64);
+    }
+}
+
+/// All threads' calls, on a cache that is full.
 fn work_with<C: SharedNumbers + Sync, R: Threads + Wait + Sync>(
     rt: &R,
     alloc: Global,
@@ -113,6 +124,7 @@ fn work_with<C: SharedNumbers + Sync, R: Threads + Wait + Sync>(
     requires { 0 < length keys.now }
 {
     let calls = order.calls;
+    fill(rt, cache, order.size.get());
     let found = thread::map_indices(
         rt,
         alloc,
@@ -145,13 +157,26 @@ fn work_on<C: SharedNumbers + Sync + Drop, R: Threads + Wait + Sync>(
 
 /// Does the work, and answers how many values were found; or nothing, where memory was refused or
 /// nothing was drawn.
-pub fn run<R: Threads + Wait + Sync>(rt: &R, alloc: Global, order: Order) -> Option<u64> {
+pub fn run<R: Threads + Wait + Send + Sync + Clock + Copy + Drop>(
+    rt: &R,
+    alloc: Global,
+    order: Order,
+) -> Option<u64> {
     let keys = draw_keys(alloc, Draws::Zipf, order.size.get(), order.drawn)?;
     if keys.is_empty() {
         return None;
     }
     match order.which {
-        Which::Moka => work_on(rt, alloc, Moka::make(alloc, order.size), &keys, &order),
+        Which::Moka => work_on(rt, alloc, Moka::make(alloc, order.size, *rt), &keys, &order),
+        Which::Shards => {
+            work_on(
+                rt,
+                alloc,
+                Moka::make_shards(alloc, order.size, *rt),
+                &keys,
+                &order,
+            )
+        }
         Which::Lru => work_on(rt, alloc, Lru::make(alloc, order.size), &keys, &order),
         Which::Loops => work_with(rt, alloc, &Nothing, &keys, &order),
     }

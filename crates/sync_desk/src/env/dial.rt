@@ -2,8 +2,10 @@
 ghost use Rattle.std.specs.Prelude.{◌≡◌, ◌≤◌};
 
 use crate::env::env::Env;
+use crate::env::fork::Fork;
 use policy_base::{Instant, MAX_NANOS};
-use rand_core::Rng;
+use rand_core::{Rng, SeedableRng};
+use std::alloc::AllocError;
 use std::sync::Arc;
 use std::sync::atomic::{AtomicU64, Ordering};
 
@@ -28,8 +30,8 @@ impl Dial {
         self.nanos.store(nanos, Ordering::SeqCst);
     }
 
-    /// Returns how often it was read. A call of a cache reads it while it holds the cache's lock, so if the count rises, the call has
-    /// begun.
+    /// Returns how often the dial was read. A call of a cache reads the dial while it holds the cache's lock, so if the count rises, the
+    /// call has begun.
     pub fn readings(&self) -> u64 {
         self.readings.load(Ordering::SeqCst)
     }
@@ -79,5 +81,14 @@ impl<G: Rng> Env for DialEnv<G> {
         ensures { self.new.generator ≡ self.old.generator }
     {
         self.dial.read()
+    }
+}
+
+impl<G: Rng + SeedableRng> Fork for DialEnv<G> {
+    fn fork(&mut self) -> Result<Self, AllocError> {
+        Ok(DialEnv {
+            dial: Arc::try_clone(&self.dial)?,
+            generator: self.generator.fork(),
+        })
     }
 }

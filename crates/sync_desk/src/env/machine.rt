@@ -2,15 +2,17 @@
 ghost use Rattle.std.specs.Prelude.{◌≡◌, ◌≤◌, IfOk};
 
 use crate::env::env::Env;
+use crate::env::fork::Fork;
 use policy_base::Instant;
 use rand_core::{Rng, SeedableRng};
 use rand_xoshiro::Xoshiro256PlusPlus;
+use std::alloc::AllocError;
 use std::random::RandomSource;
 use std::time::Clock;
 use std::{io, time};
 
-/// The machine's clock and a generator. Moments count the nanoseconds since this was created. If the clock cannot be read, the moment is
-/// the latest that was read.
+/// The machine's clock and a generator. Moments count the nanoseconds since the environment was created. If the clock cannot be read, the
+/// moment is the latest that was read.
 ///
 /// The identifiers of predicates come from the generator. If others must not be able to predict one from those before it, use a secure
 /// generator with a secret seed (`with_generator`).
@@ -78,5 +80,16 @@ impl<C: Clock, G: Rng> Env for MachineEnv<C, G> {
             self.latest = Instant::from_duration_since_clock_start(passed);
         }
         self.latest
+    }
+}
+
+impl<C: Clock + Copy, G: Rng + SeedableRng> Fork for MachineEnv<C, G> {
+    fn fork(&mut self) -> Result<Self, AllocError> {
+        Ok(MachineEnv {
+            clock: self.clock,
+            start: self.start,
+            latest: self.latest,
+            generator: self.generator.fork(),
+        })
     }
 }

@@ -8,11 +8,11 @@ use std::fmt::{self, Debug, Formatter, Write};
 /// What became of a turn.
 #[derive(Drop)]
 pub enum Ending<V, F> {
-    /// It is under way.
+    /// The turn is under way.
     Underway,
-    /// It ended with this, which is for all that wait.
+    /// The turn ended with this, which all that wait are told.
     Done(Made<V, F>),
-    /// It ended with nothing for those that wait: they begin again.
+    /// The turn ended with nothing for those that wait, which begin again.
     GivenUp,
 }
 

@@ -1,0 +1,217 @@
+//! The cache of several shards: how it is built, and its calls that take the locks of all.
+ghost use Rattle.std.specs.Prelude.{◌≡◌, ◌⊎◌, ◌<◌, ◌≤◌, ◌^◌, None, Some, true, IfErr, IfOk, OnOk, length, option_map};
+ghost use Rattle.std.specs.Arc.{arc_value};
+ghost use Rattle.std.specs.String.{string_bytes};
+ghost use Rattle.moka.specs.Building.{blank, segments_fault};
+ghost use Rattle.moka.specs.declared.errors.BuildError.TheVariants.{OutOfMemory};
+ghost use Rattle.moka_sync.specs.Showing.{ShowsPlan, ShowsShard, ShowsShards};
+ghost use Rattle.moka_sync.specs.Spreading.{desk_number};
+ghost use Rattle.sync_desk.specs.Slots.Refusals.{IsCoverRefusal};
+
+use crate::building::Build;
+use crate::cache::{Inner, SharedCache};
+use crate::covering::AllDesks;
+use crate::desks::Desks;
+use engine_reference::{Bundle, Expiry, Hashes, Policy, Predicate, Rules, Weigher};
+use front_reference::{CacheError, Shared};
+use front_state::{LentState, Sharded};
+use moka::{BuildError, CacheBuilder, PlainBuilder, PlainRules, Shards, StdHasher};
+use std::alloc::{AllocError, Global};
+use std::hash::{BuildHasher, Hash};
+use std::sync::{Arc, Wait};
+use sync_desk::{Env, Fork};
+
+/// A cache of several shards that threads share, each a cache of one segment with its share of the capacity, under a lock of its own. Its
+/// calls are those of `SharedCache`.
+/// A call on a key holds the lock of the key's shard, and only that. A call on the whole cache goes from one shard to the next; a call with a
+/// predicate holds all locks at once, and returns `()`.
+/// ```
+/// let cache: ShardedCache<u64, u64, StdHasher, PlainRules, MachineEnv<C, G>> =
+///     ShardedCache::new(alloc, 10_000, 16, env)?;
+/// ```
+pub type ShardedCache<K, V, S, R, E> = SharedCache<K, V, S, R, E, Sharded>;
+
+/// What so many shards show together, which are like this one and have this capacity.
+fn policy_of<K: Eq + Hash, V, S: BuildHasher, R: Rules<K, V>>(
+    one: &LentState<K, V, S, R, Sharded>,
+    shards: usize,
+    capacity: Option<u64>,
+) -> Policy
+    ensures { ShowsShard capacity shards one.now result }
+{
+    let policy = one.policy();
+    Policy::new(
+        capacity,
+        shards,
+        policy.time_to_live(),
+        policy.time_to_idle(),
+    )
+}
+
+impl<
+    K: Eq + Hash + Drop,
+    V: Clone + Drop,
+    S: BuildHasher + Drop,
+    R: Rules<K, V> + Drop,
+    E: Fork + Drop,
+> SharedCache<K, V, S, R, E, Sharded> {
+    /// Makes shards shared, each with an environment of its own.
+    fn over_shards(alloc: Global, shards: Shards<K, V, S, R>, env: E) -> Result<Self, AllocError>
+        requires few { shards.bits ≤ 16 }
+        requires counted { length shards.states.items ≡ 2 ^ shards.bits }
+        ensures name { IfOk result (λ cache. (arc_value cache.inner).name ≡ shards.name) }
+        ensures policy { IfOk result (λ cache.
+            ShowsShards shards.capacity shards.states.items (arc_value cache.inner).policy) }
+    {
+        let Shards {
+            states,
+            bits,
+            hasher,
+            name,
+            capacity,
+        } = shards;
+        let policy = policy_of(&states[0], states.len(), capacity);
+        let desks = Desks::of_shards(alloc, states, bits, hasher, env)?;
+        let inner = Arc::new(
+            alloc,
+            Inner {
+                desks,
+                name,
+                policy,
+            },
+        )?;
+        Ok(SharedCache { inner, alloc })
+    }
+}
+
+impl<
+    K: Eq + Hash + Drop,
+    V: Clone + Drop,
+    X: Expiry<K, V> + Drop,
+    W: Weigher<K, V> + Drop,
+    P: Predicate<K, V>,
+    F: Drop,
+    E: Fork + Drop,
+> Build<K, V, E> for CacheBuilder<X, W, P, F, Sharded> {
+    ghost use Rattle.moka.specs.Building.{fault_of};
+    ghost use Rattle.moka_sync.specs.Showing.{ShowsPlan};
+
+    type Rules = Bundle<X, W, P, F>;
+
+    type Form = Sharded;
+
+    ghost fault = { λ builder. fault_of builder.plan };
+
+    ghost shown = { λ builder name policy. ShowsPlan builder.plan name policy };
+
+    fn build(
+        self,
+        alloc: Global,
+        env: E,
+    ) -> Result<SharedCache<K, V, StdHasher, Bundle<X, W, P, F>, E, Sharded>, BuildError> {
+        self.build_with_hasher(alloc, StdHasher::new(), env)
+    }
+
+    fn build_with_hasher<S: BuildHasher + Drop>(
+        self,
+        alloc: Global,
+        hasher: S,
+        env: E,
+    ) -> Result<SharedCache<K, V, S, Bundle<X, W, P, F>, E, Sharded>, BuildError> {
+        let mut env = env;
+        let moment = env.now();
+        match self.build_shards(alloc, hasher, moment) {
+            Ok(shards) => match SharedCache::over_shards(alloc, shards, env) {
+                Ok(cache) => Ok(cache),
+                Err(_) => Err(BuildError::OutOfMemory),
+            },
+            Err(fault) => Err(fault),
+        }
+    }
+}
+
+impl<K: Eq + Hash + Drop, V: Clone + Drop, E: Fork + Drop> SharedCache<
+    K,
+    V,
+    StdHasher,
+    PlainRules,
+    E,
+    Sharded,
+> {
+    /// Creates a cache that holds at most this many entries in this many shards, rounded up to a power of two, with nothing else set. The
+    /// number of shards is 1 to 65,536. Four for each core, at least 16, are a good choice, unless a share has fewer than 100 entries.
+    /// Each shard holds at most the capacity divided by their number, rounded up, so together they may hold slightly more.
+    pub fn new(alloc: Global, max_capacity: u64, shards: usize, env: E) -> Result<Self, BuildError>
+        ensures shows { IfOk result (λ cache. ShowsPlan (record blank {
+          max_capacity = Some max_capacity;
+          segments = shards;
+        }) (option_map string_bytes (arc_value cache.inner).name)
+            (arc_value cache.inner).policy) }
+        ensures sound { OnOk result (segments_fault shards ≡ None) }
+        ensures cause { IfErr result (λ e. (segments_fault shards ≡ Some e)
+            ⊎ ((e ≡ OutOfMemory) × (segments_fault shards ≡ None))) }
+    {
+        CacheBuilder::new(max_capacity)
+            .shards(shards)
+            .build(alloc, env)
+    }
+
+    /// Returns a builder with this number of shards, and nothing else set.
+    pub fn builder(shards: usize) -> PlainBuilder<Sharded>
+        ensures { result.plan ≡ record blank { segments = shards } }
+    {
+        CacheBuilder::default().shards(shards)
+    }
+}
+
+impl<
+    K: Eq + Hash + Drop,
+    V: Clone + Drop,
+    S: BuildHasher + Drop,
+    R: Rules<K, V> + Drop,
+    E: Env + Drop,
+> SharedCache<K, V, S, R, E, Sharded> {
+    /// Returns the number of the shard that a key belongs to, whose lock each call on the key takes. Equal keys belong to one shard.
+    /// ```
+    /// let shard = cache.shard(&7);
+    /// ```
+    pub fn shard(&self, key: &K) -> usize
+        ensures number { result ≡ desk_number (⟦<S as Hashes<K>>⟧.hash)
+            (arc_value self.now.inner).desks.spread key.now }
+        ensures alike { (other : K) → K.eq key.now other ≡ true
+            → desk_number (⟦<S as Hashes<K>>⟧.hash) (arc_value self.now.inner).desks.spread other
+            ≡ result }
+    {
+        self.inner.desks.number_of(key)
+    }
+
+    /// Takes the locks of all shards, in their order. No other call takes a lock while it has one, so no two callers wait for each other.
+    fn lock_all<'a, H: Wait>(&'a self, rt: &H) -> Result<AllDesks<'a, K, V, S, R, E>, AllocError> {
+        let desks: &'a Desks<K, V, S, R, E, Sharded> = &self.inner.desks;
+        let count = desks.count();
+        let mut guards = Vec::with_capacity(self.alloc, count)?;
+        for number in 0..count {
+            guards.push(desks.get(number).lock(rt))?;
+        }
+        Ok(AllDesks::new(guards))
+    }
+
+    /// Invalidates the values that were written before and for which the predicate returns true, in all shards or, if the call is refused,
+    /// in none. It holds the locks of all shards.
+    /// Returns `InvalidationClosuresDisabled` if the builder did not call `support_invalidation_closures`, `IdsInUse` if each of a thousand
+    /// identifiers that were drawn for a shard is already registered there, and otherwise an error only for lack of memory or of numbers.
+    /// ```
+    /// cache.invalidate_entries_if(&rt, KeyPrefix(prefix))?;
+    /// ```
+    pub fn invalidate_entries_if(
+        &self,
+        rt: &impl Wait,
+        predicate: R::Predicate,
+    ) -> Result<(), CacheError>
+        ensures cause { IfErr result IsCoverRefusal }
+    {
+        let alloc = self.alloc;
+        let mut all = self.lock_all(rt)?;
+        all.invalidate_entries_if(alloc, predicate)
+    }
+}

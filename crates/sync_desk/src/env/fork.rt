@@ -1,0 +1,10 @@
+//! An environment for each of several locks.
+
+use crate::env::env::Env;
+use std::alloc::AllocError;
+
+/// An environment of which others are made: their moments count from the same start, and their random words are their own.
+pub trait Fork: Env + Sized {
+    /// Makes another one. Its generator is seeded from this one's.
+    fn fork(&mut self) -> Result<Self, AllocError>;
+}

@@ -1,0 +1,100 @@
+//! Calls by what names a key.
+ghost use Rattle.std.specs.Prelude.{◌≡◌, ◌+◌, ◌⊎◌, Option, IfErr, IfOk, OnErr, OnOk, is_some};
+ghost use Rattle.std.specs.Result.{IsErrOf};
+ghost use Rattle.engine_reference.specs.Calls.{removal_rooms};
+ghost use Rattle.front_reference.specs.declared.errors.CacheError.TheVariants as errors;
+ghost use Rattle.front_state.specs.Calls.{IsCauseIn, held_value_in};
+ghost use Rattle.sync_desk.specs.Drawing.{LacksSteps, LooksUpAsDrawn, RemovesAsDrawn, SeesAsDrawn};
+ghost use Rattle.sync_desk.specs.Slots.Refusals.{IsShortage};
+
+use crate::desk::Desk;
+use crate::env::Env;
+use engine_reference::Rules;
+use front_parts::HasWays;
+use front_reference::CacheError;
+use front_state::HashedName;
+use std::hash::{BuildHasher, Hash};
+
+impl<
+    K: Eq + Hash + Drop,
+    V: Clone + Drop,
+    S: BuildHasher + Drop,
+    R: Rules<K, V> + Drop,
+    E: Env + Drop,
+    C: Drop,
+> Desk<K, V, S, R, E, C> {
+    /// `get` by what names the key.
+    pub fn get_by_name<Q: HashedName<K>>(&mut self, name: &Q) -> Result<Option<V>, CacheError>
+        requires exact { (x y : V) → V.is_clone x y → y ≡ x }
+        ensures found { IfOk result (LooksUpAsDrawn ⟦<R as HasWays<K, V, S>>⟧.ways
+            (Q.named_key name.now) self.old.state self.new.state) }
+        ensures err { OnErr result (self.new.state ≡ self.old.state) }
+        ensures slots { self.new.slots ≡ self.old.slots }
+        ensures writes { self.new.writes ≡ self.old.writes }
+        ensures cause { IfErr result IsShortage }
+        ensures used_up { IsErrOf result errors.UsedUp
+            → LacksSteps 1 self.old.state }
+    {
+        let Some(at) = self.draw() else {
+            return Err(CacheError::UsedUp);
+        };
+        match self.state.get_by_name(name, at) {
+            Ok(found) => Ok(found),
+            Err(_) => Err(CacheError::OutOfMemory),
+        }
+    }
+
+    /// `contains_key` by what names the key.
+    pub fn contains_key_by_name<Q: HashedName<K>>(&mut self, name: &Q) -> bool
+        ensures found { (found : Option V)
+            × SeesAsDrawn ⟦<R as HasWays<K, V, S>>⟧.ways (Q.named_key name.now)
+            self.old.state found
+            × (result ≡ is_some found) }
+        ensures state { self.new.state ≡ self.old.state }
+        ensures slots { self.new.slots ≡ self.old.slots }
+        ensures writes { self.new.writes ≡ self.old.writes }
+    {
+        let now = self.env.now().max(self.state.last_call().now);
+        self.state.contains_key_by_name(name, now)
+    }
+
+    /// `remove` by what names the key.
+    pub fn remove_by_name<Q: HashedName<K>>(&mut self, name: &Q) -> Result<Option<V>, CacheError>
+        requires exact { (x y : V) → V.is_clone x y → y ≡ x }
+        ensures value { IfOk result (λ value. value ≡ held_value_in
+            ⟦<R as HasWays<K, V, S>>⟧.ways self.old.state (Q.named_key name.now)) }
+        ensures removes { OnOk result (RemovesAsDrawn ⟦<R as HasWays<K, V, S>>⟧.ways
+            (Q.named_key name.now) self.old.state self.new.state) }
+        ensures slots { self.new.slots ≡ self.old.slots }
+        ensures writes { self.new.writes ≡ self.old.writes }
+        ensures err { OnErr result (self.new.state ≡ self.old.state) }
+        ensures cause { IfErr result IsShortage }
+        ensures used_up { IsErrOf result errors.UsedUp
+            → LacksSteps 1 self.old.state ⊎ IsCauseIn ⟦<R as HasWays<K, V, S>>⟧.ways
+            removal_rooms self.old.state (Q.named_key name.now) errors.UsedUp }
+    {
+        let Some(at) = self.draw() else {
+            return Err(CacheError::UsedUp);
+        };
+        self.state.remove_by_name(name, at)
+    }
+
+    /// `invalidate` by what names the key.
+    pub fn invalidate_by_name<Q: HashedName<K>>(&mut self, name: &Q) -> Result<(), CacheError>
+        requires exact { (x y : V) → V.is_clone x y → y ≡ x }
+        ensures removes { OnOk result (RemovesAsDrawn ⟦<R as HasWays<K, V, S>>⟧.ways
+            (Q.named_key name.now) self.old.state self.new.state) }
+        ensures err { OnErr result (self.new.state ≡ self.old.state) }
+        ensures slots { self.new.slots ≡ self.old.slots }
+        ensures writes { self.new.writes ≡ self.old.writes }
+        ensures cause { IfErr result IsShortage }
+        ensures used_up { IsErrOf result errors.UsedUp
+            → LacksSteps 1 self.old.state ⊎ IsCauseIn ⟦<R as HasWays<K, V, S>>⟧.ways
+            removal_rooms self.old.state (Q.named_key name.now) errors.UsedUp }
+    {
+        let Some(at) = self.draw() else {
+            return Err(CacheError::UsedUp);
+        };
+        self.state.invalidate_by_name(name, at)
+    }
+}

@@ -1,0 +1,89 @@
+//! A predicate that one segment of a shared cache refuses.
+mod numbers;
+
+use crate::caches::make_dial;
+use crate::covering::numbers::{HasValue, Itself, Turning};
+use moka_sync::{
+    Build, BuildError, Bundle, CacheBuilder, CacheError, Dial, DialEnv, NoExpiry, SegmentedCache,
+    WeighOne,
+};
+use std::alloc::Global;
+use std::sync::{Arc, Wait};
+
+/// A cache of numbers under numbers, each its own hash.
+type Halves = SegmentedCache<
+    u64,
+    u64,
+    Itself,
+    Bundle<NoExpiry, WeighOne, HasValue, ()>,
+    DialEnv<Turning>,
+>;
+
+/// A key, and the one that differs from it in its highest bit alone, and so belongs to the other of two segments.
+const KEYS: [u64; 2] = [1, 9_223_372_036_854_775_809];
+
+/// The value of both.
+const VALUE: u64 = 7;
+
+/// An empty cache in two segments, which draws an identifier from words of 0 first, and then others from words of ones.
+fn make_halves(alloc: Global, dial: Arc<Dial>) -> Result<Halves, BuildError> {
+    CacheBuilder::new(100)
+        .segments(2)
+        .support_invalidation_closures::<HasValue>()
+        .build_with_hasher(alloc, Itself, DialEnv::new(dial, Turning(4)))
+}
+
+/// Whether both keys get the value; each is inserted at the second try where memory is refused.
+fn keeps_both<H: Wait>(rt: &H, cache: &Halves) -> bool {
+    for key in KEYS {
+        if cache.insert(rt, key, VALUE).is_err() && cache.insert(rt, key, VALUE).is_err() {
+            return false;
+        }
+    }
+    true
+}
+
+/// Whether both keys answer the value.
+fn shows_both<H: Wait>(rt: &H, cache: &Halves) -> bool {
+    for key in KEYS {
+        let found = cache.get(rt, &key);
+        if found != Ok(Some(VALUE)) && cache.get(rt, &key) != Ok(Some(VALUE)) {
+            return false;
+        }
+    }
+    true
+}
+
+/// What comes of a predicate, at the second try where memory is refused.
+fn cover<H: Wait>(rt: &H, cache: &Halves, value: u64) -> Result<(), CacheError> {
+    match cache.invalidate_entries_if(rt, HasValue(value)) {
+        Err(CacheError::OutOfMemory) => cache.invalidate_entries_if(rt, HasValue(value)),
+        covered => covered,
+    }
+}
+
+/// Whether the segments draw different identifiers for the first predicate; the second segment can draw none but its own for the next
+/// one, which is then in neither.
+fn keeps_all_or_none<H: Wait>(rt: &H, cache: &Halves) -> bool {
+    keeps_both(rt, cache)
+        && cover(rt, cache, 9) == Ok(())
+        && cover(rt, cache, VALUE) == Err(CacheError::IdsInUse)
+        && shows_both(rt, cache)
+        && cache.next_notice(rt).is_none()
+}
+
+/// The same of a new cache.
+fn passes_anew<H: Wait>(rt: &H, alloc: Global) -> bool {
+    match make_dial(alloc) {
+        Some(dial) => match make_halves(alloc, dial) {
+            Ok(cache) => keeps_all_or_none(rt, &cache),
+            Err(_) => false,
+        },
+        None => false,
+    }
+}
+
+#[test]
+fn a_predicate_is_in_all_segments_or_in_none(rt: HostRuntime) {
+    assert!(rt; passes_anew(&rt, rt.alloc()) || passes_anew(&rt, rt.alloc()));
+}
