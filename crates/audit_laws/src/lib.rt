@@ -54,7 +54,8 @@ pub fn leads_on()
     ensures { LeadsOn }
 {}
 
-/// The same if each value's part is a function of its key: the record's values have their key's part too.
+/// Like `leads_on`, for transcripts in which the part of each value is a function of its key: the values of the record have the parts of
+/// their keys too.
 pub fn leads_on_by()
     ensures { LeadsOnBy }
 {}

@@ -33,7 +33,7 @@ pub fn records_alone()
     ensures { RecordsAlone }
 {}
 
-/// Such a record leaves each other connection as it was.
+/// A record that follows while no other connection waits for a load leaves each other connection as it was.
 pub fn records_apart()
     ensures { RecordsApart }
 {}

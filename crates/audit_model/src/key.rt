@@ -34,14 +34,14 @@ impl Key {
         Ok(Key { bytes })
     }
 
-    /// Returns its bytes.
+    /// Returns the bytes of the key.
     pub fn as_bytes(&self) -> &[u8]
         ensures { result.now ≡ self.now }
     {
         self.bytes.as_slice()
     }
 
-    /// Replaces its bytes. It allocates nothing if there is room for them.
+    /// Replaces the bytes of the key. This allocates nothing if there is room for them.
     pub fn fill(&mut self, bytes: &[u8]) -> Result<(), AllocError>
         ensures { OnOk result (self.new ≡ bytes.now) }
     {

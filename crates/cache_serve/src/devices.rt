@@ -6,10 +6,10 @@ use std::sync::Wait;
 
 /// Receives the notes of a connection's namespace, from the thread that serves it.
 pub trait Teller: Drop {
-    /// Returns whether it receives notes. If not, they are left to be taken (`SharedService::next_notice`).
+    /// Returns whether the teller receives notes. If not, the notes are left to be taken (`SharedService::next_notice`).
     fn is_told(&self) -> bool;
 
-    /// Receives some notes of one namespace, in their order, which nobody else receives. It handles its own errors.
+    /// Receives some notes of one namespace, in their order, which nobody else receives. The teller handles its own errors.
     fn tell<R: Wait>(&mut self, rt: &R, notes: &[Note]);
 }
 
@@ -27,10 +27,13 @@ impl Teller for Untold {
 
 /// Creates what each connection that `host` serves needs.
 pub trait Devices {
+    /// The clock of a connection.
     type Clock: Clock + Drop + Send + 'static;
 
+    /// The loader of a connection.
     type Loader: Loader + Drop + Send + 'static;
 
+    /// The teller of a connection.
     type Teller: Teller + Send + 'static;
 
     /// Returns a clock, a loader and a teller for one connection. `None` closes only that connection.

@@ -1,4 +1,5 @@
 //! A thread for each connection.
+ghost use Rattle.std.specs.Prelude.{◌<◌, length};
 
 use crate::devices::Devices;
 use crate::serving::serve_and_tell;
@@ -22,7 +23,7 @@ pub struct Hosted<L: Seating> {
     pub failed: bool,
 }
 
-/// Serves the connections that a listener accepts as connections of this namespace, by `serve_and_tell`, each on a thread of its own with
+/// Serves the connections that a listener accepts as connections of an existing namespace, by `serve_and_tell`, each on a thread of its own with
 /// devices and a seat of its own, up to `limit` of them (2^64 - 1 without one), and then joins the threads.
 ///
 /// An accept whose client has already gone is tried again. After any other failure, for example if no descriptor is free, `host` waits
@@ -44,6 +45,7 @@ where
     C: Shareable + Send + 'static,
     D: Devices,
     R: Threads + Wait + Copy + Send + Sync + 'static,
+    requires known { namespace < length L.configs }
 {
     let Ok(mut workers) = Workers::new(alloc) else {
         return Hosted {
@@ -79,6 +81,7 @@ where
     C: Shareable + Send + 'static,
     D: Devices,
     R: Threads + Wait + Copy + Send + Sync + 'static,
+    requires known { namespace < length L.configs }
 {
     // The replies of a piece go out in several writes, and none of them should wait for the client's acknowledgement.
     let _ = stream.set_nodelay(true);
@@ -86,7 +89,9 @@ where
     let devices = devices.make(alloc)?;
     let shared = SharedService::clone(shared).ok()?;
     let seat = workers.take_seat(&rt, &shared)?;
-    let spawned = thread::spawn(&rt, move || {
+    let serving = move ||
+        requires { namespace < length L.configs }
+    {
         let (mut clock, mut loader, mut teller) = devices;
         let mut seat = seat;
         let _ = serve_and_tell(
@@ -103,8 +108,8 @@ where
         );
         done.tell(&rt, place);
         seat
-    });
-    match spawned {
+    };
+    match thread::spawn(&rt, serving) {
         Ok(thread) => workers.add(thread),
         Err(SpawnError { value }) => workers.give_back(&rt, place, value()),
     }

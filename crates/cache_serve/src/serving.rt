@@ -1,5 +1,5 @@
 //! One connection of a shared service, from its opening to its closing.
-ghost use Rattle.std.specs.Prelude.{◌≡◌, ◌≤◌, ◌↔◌, ◌-◌, ◌^◌, Ok, IsErrOf, IsTrue};
+ghost use Rattle.std.specs.Prelude.{◌≡◌, ◌<◌, ◌≤◌, ◌↔◌, ◌-◌, ◌^◌, Ok, length, IsErrOf, IsTrue};
 ghost use Rattle.cache_run.specs.Devices.Failures.{HasFailed};
 ghost use Rattle.cache_run.specs.Devices.Watched.{failures};
 ghost use Rattle.cache_run.specs.Devices.Sources.{HasToldLate};
@@ -40,7 +40,7 @@ fn is_more(ended: &Result<Progress, RunError>) -> bool
 /// closing that was refused. The notes are left to be taken.
 ///
 /// Returns `Read` or `Write` if that device failed, `Moment` if the clock gave more than 2^63 - 1 nanoseconds, `UsedUp`
-/// if the seat's count is at 2^64 - 1, and otherwise `OutOfMemory`, also if there is no such namespace.
+/// if the seat's count is at 2^64 - 1, and otherwise `OutOfMemory`.
 /// ```
 /// serve(&rt, alloc, &shared, &mut seat, 0, &mut reader, &mut writer, &mut clock, &mut loader)?;
 /// ```
@@ -55,17 +55,19 @@ pub fn serve<L: Seating, C: Shareable, I: Read, O: Write, K: Clock, D: Loader, R
     clock: &mut K,
     loader: &mut D,
 ) -> Result<(), RunError>
+    requires known { namespace < length L.configs }
     ensures wrote { WritesAll C.KEEPS L.configs C.spaces C.untaken O.contents D.loads namespace
         result seat.old seat.new writer.old writer.new loader.old loader.new }
     ensures asked { AsksAll C.KEEPS L.configs C.spaces I.remaining K.reads D.loads namespace result
         seat.old seat.new reader.old reader.new clock.old clock.new loader.old loader.new }
-    ensures count { seat.old.count ≤ seat.new.count }
+    // the seat's count never falls, and is used up where that is the cause
+    ensures count { (seat.old.count ≤ seat.new.count)
+        × (IsErrOf result RunError.UsedUp → 2 ^ 64 - 1 ≤ seat.new.count) }
     ensures read { IsErrOf result RunError.Read
         → HasFailed (failures reader.old) (failures reader.new) }
     ensures write { IsErrOf result RunError.Write
         → HasFailed (failures writer.old) (failures writer.new) }
     ensures moment { IsErrOf result RunError.Moment → HasToldLate K.reads clock.new }
-    ensures used_up { IsErrOf result RunError.UsedUp → 2 ^ 64 - 1 ≤ seat.new.count }
     ensures loader { HasAskedSome D.loads loader.old loader.new }
 {
     serve_and_tell(
@@ -105,17 +107,19 @@ pub fn serve_and_tell<
     loader: &mut D,
     teller: &mut T,
 ) -> Result<(), RunError>
+    requires known { namespace < length L.configs }
     ensures wrote { WritesAll C.KEEPS L.configs C.spaces C.untaken O.contents D.loads namespace
         result seat.old seat.new writer.old writer.new loader.old loader.new }
     ensures asked { AsksAll C.KEEPS L.configs C.spaces I.remaining K.reads D.loads namespace result
         seat.old seat.new reader.old reader.new clock.old clock.new loader.old loader.new }
-    ensures count { seat.old.count ≤ seat.new.count }
+    // the seat's count never falls, and is used up where that is the cause
+    ensures count { (seat.old.count ≤ seat.new.count)
+        × (IsErrOf result RunError.UsedUp → 2 ^ 64 - 1 ≤ seat.new.count) }
     ensures read { IsErrOf result RunError.Read
         → HasFailed (failures reader.old) (failures reader.new) }
     ensures write { IsErrOf result RunError.Write
         → HasFailed (failures writer.old) (failures writer.new) }
     ensures moment { IsErrOf result RunError.Moment → HasToldLate K.reads clock.new }
-    ensures used_up { IsErrOf result RunError.UsedUp → 2 ^ 64 - 1 ≤ seat.new.count }
     ensures loader { HasAskedSome D.loads loader.old loader.new }
 {
     let Ok(mut sitting) = Sitting::new(rt, alloc, shared, teller, true) else {

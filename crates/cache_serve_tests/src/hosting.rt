@@ -1,5 +1,5 @@
 //! Clients and a host on this machine.
-ghost use Rattle.std.specs.Prelude.{◌≡◌};
+ghost use Rattle.std.specs.Prelude.{◌≡◌, ◌<◌, length};
 
 use crate::devices::Plain;
 use crate::meetings::Meeting;
@@ -165,6 +165,7 @@ where
     L: Seating + Send + Sync + 'static,
     C: Shareable + Send + 'static,
     R: Threads + Wait + Clock + Copy + Send + Sync + 'static,
+    requires known { 0 < length L.configs }
 {
     if meeting.meets(&rt) {
         Some(host(rt, alloc, shared, 0, listener, devices, visit.limit))
@@ -195,13 +196,16 @@ where
         + Send
         + Sync
         + 'static,
+    requires known { 0 < length L.configs }
 {
     let lent = &rt;
     let meeting = &Meeting::new();
     let (is_replied, hosted) = thread::join(
         lent,
         move || both_come(lent, alloc, addr, one, visit, meeting),
-        || host_them(rt, alloc, shared, devices, visit, listener, meeting),
+        ||
+            requires { 0 < length L.configs }
+        { host_them(rt, alloc, shared, devices, visit, listener, meeting) },
     );
     match hosted {
         Some(hosted) => Some(Came { is_replied, hosted }),
@@ -230,6 +234,7 @@ where
         + Send
         + Sync
         + 'static,
+    requires known { 0 < length L.configs }
 {
     match connect(&rt, addr) {
         Some(one) => host_with(rt, alloc, shared, devices, visit, listener, addr, one),
@@ -256,6 +261,7 @@ where
         + Send
         + Sync
         + 'static,
+    requires known { 0 < length L.configs }
 {
     match listen(&rt, visit.blocks) {
         Some((listener, addr)) => host_both(rt, alloc, shared, devices, visit, &listener, addr),
@@ -316,6 +322,7 @@ where
         + Send
         + Sync
         + 'static,
+    requires known { 0 < length L.configs }
     requires ledger { L.all ≡ L.parts }
 {
     match host_here(rt, alloc, &shared, devices, visit) {
@@ -344,6 +351,7 @@ where
         + Send
         + Sync
         + 'static,
+    requires known { 0 < length L.configs }
     requires ledger { L.all ≡ L.parts }
 {
     match Arc::new(alloc, AtomicU64::new(0)) {

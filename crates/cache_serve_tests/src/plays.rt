@@ -1,5 +1,5 @@
 //! What is played over a shared service.
-ghost use Rattle.std.specs.Prelude.{◌≡◌, true, false};
+ghost use Rattle.std.specs.Prelude.{◌≡◌, ◌<◌, length, true, false};
 ghost use Rattle.cache_shared.specs.Recordings.{bare_spaces, no_journals, journals_in, spaces_in};
 ghost use Rattle.cache_shared.specs.Events.{StandsAfter};
 
@@ -108,6 +108,7 @@ where
     L: Seating + Send + Sync + 'static,
     C: Shareable + Send + 'static,
     R: Threads + Wait + Clock + Sync,
+    requires known { 0 < length L.configs }
 {
     match play {
         Seated::Serve(row) => serves_so(rt, alloc, shared, seats, row),
@@ -128,6 +129,7 @@ where
     L: Seating + Send + Sync + 'static,
     C: Shareable + Send + 'static,
     R: Threads + Wait + Clock + Sync,
+    requires known { 0 < length L.configs }
     requires ledger { L.all ≡ L.parts }
 {
     if do_so(rt, alloc, &shared, seats.as_mut_slice(), play) {
@@ -148,6 +150,7 @@ where
     L: Seating + Send + Sync + 'static,
     C: Shareable + Send + 'static,
     R: Threads + Wait + Clock + Sync,
+    requires known { 0 < length L.configs }
     requires ledger { L.all ≡ L.parts }
 {
     match make_seats(rt, alloc, &shared, seats_of(play)) {
@@ -161,6 +164,7 @@ fn is_served<L, R>(rt: &R, alloc: Global, shared: SharedService<L, Service>, row
 where
     L: Seating + Send + Sync + 'static,
     R: Threads + Wait + Clock + Sync,
+    requires known { 0 < length L.configs }
     requires ledger { L.all ≡ L.parts }
 {
     match leaves(rt, alloc, shared, Seated::Serve(row)) {
@@ -186,6 +190,7 @@ where
         + Send
         + Sync
         + 'static,
+    requires known { 0 < length L.configs }
     requires ledger { L.all ≡ L.parts }
 {
     match play {
@@ -215,6 +220,7 @@ where
         + Sync
         + 'static,
     requires empty { StandsAfter false L.configs bare_spaces no_journals 0 core }
+    requires known { 0 < length L.configs }
     requires name { blank.name ≡ L.name }
     requires parts { (blank.parts ≡ L.parts) × (L.all ≡ L.parts) × (parts ≡ L.parts) }
 {
@@ -282,6 +288,7 @@ where
     L: Seating + Send + Sync + 'static,
     C: Shareable + Send + 'static,
     R: Threads + Wait + Clock + Sync,
+    requires known { 0 < length L.configs }
     requires ledger { L.all ≡ L.parts }
 {
     match leaves(rt, alloc, shared, play) {
@@ -303,6 +310,7 @@ where
     L: Seating + Send + Sync + 'static,
     R: Threads + Wait + Clock + Sync,
     requires empty { StandsAfter true L.configs spaces_in journals_in 0 core }
+    requires known { 0 < length L.configs }
     requires name { blank.name ≡ L.name }
     requires parts { (blank.parts ≡ L.parts) × (L.all ≡ L.parts) × (parts ≡ L.parts) }
 {

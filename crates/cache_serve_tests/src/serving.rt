@@ -1,5 +1,5 @@
 //! Two connections over memory, each on a thread of its own, which load.
-ghost use Rattle.std.specs.Prelude.{◌≡◌};
+ghost use Rattle.std.specs.Prelude.{◌≡◌, ◌<◌, length};
 
 use crate::devices::StillClock;
 use crate::inputs::{PLAIN, conn};
@@ -74,7 +74,9 @@ fn attend_over<L: Seating, C: Shareable, R: Wait + Clock>(
     seat: &mut Seat<L>,
     page: &mut Page<'_>,
     part: Part<'_>,
-) -> Result<(), RunError> {
+) -> Result<(), RunError>
+    requires known { 0 < length L.configs }
+{
     let mut loader = Held {
         rt,
         alloc,
@@ -108,7 +110,9 @@ fn attend<L: Seating, C: Shareable, R: Wait + Clock>(
     seat: &mut Seat<L>,
     news: &News,
     part: Part<'_>,
-) -> bool {
+) -> bool
+    requires known { 0 < length L.configs }
+{
     let mut page = Page {
         text: Vec::new(alloc),
         room: part.room,
@@ -126,11 +130,17 @@ fn attend_both<L: Seating + Send + Sync, C: Shareable + Send, R: Threads + Wait 
     two: &mut Seat<L>,
     news: &News,
     row: &Row<'_>,
-) -> bool {
+) -> bool
+    requires known { 0 < length L.configs }
+{
     let (first, second) = thread::join(
         rt,
-        || attend(rt, alloc, shared, one, news, first_part(row)),
-        || attend(rt, alloc, shared, two, news, second_part(row)),
+        ||
+            requires { 0 < length L.configs }
+        { attend(rt, alloc, shared, one, news, first_part(row)) },
+        ||
+            requires { 0 < length L.configs }
+        { attend(rt, alloc, shared, two, news, second_part(row)) },
     );
     first && second && news.asked.load(Ordering::SeqCst) == row.asked
 }
@@ -143,7 +153,9 @@ fn attend_anew<L: Seating + Send + Sync, C: Shareable + Send, R: Threads + Wait 
     one: &mut Seat<L>,
     two: &mut Seat<L>,
     row: &Row<'_>,
-) -> bool {
+) -> bool
+    requires known { 0 < length L.configs }
+{
     let news = News {
         asked: AtomicU64::new(0),
         answered: AtomicU64::new(0),
@@ -159,7 +171,9 @@ fn attend_row<L: Seating + Send + Sync, C: Shareable + Send, R: Threads + Wait +
     one: &mut Seat<L>,
     two: &mut Seat<L>,
     row: &Row<'_>,
-) -> bool {
+) -> bool
+    requires known { 0 < length L.configs }
+{
     attend_anew(rt, alloc, shared, one, two, row)
         && (row.counts.is_none() || row.counts == Some((one.count(), two.count())))
 }
@@ -171,7 +185,9 @@ pub fn serves_so<L: Seating + Send + Sync, C: Shareable + Send, R: Threads + Wai
     shared: &SharedService<L, C>,
     seats: &mut [Seat<L>],
     row: &Row<'_>,
-) -> bool {
+) -> bool
+    requires known { 0 < length L.configs }
+{
     match seats {
         [one, two] => attend_row(rt, alloc, shared, one, two, row),
         _ => false,

@@ -54,7 +54,7 @@ pub trait Shareable: Drop {
         ensures none { IfErr result (λ e. length (journals self.now) ≤ namespace) };
 
     /// Returns the reply bytes of a connection since they were last taken, moved out. Returns `NoNamespace`, then `NoConnection`, then
-    /// `OutOfMemory` if taking them needs memory that there is not; then they come the next time.
+    /// `OutOfMemory` if taking the replies needs memory that there is not: the replies then come the next time.
     fn take_output(&mut self, conn: Conn) -> Result<Vec<u8>, ServiceError>
         ensures taken { IfOk result
             (λ text. MovesReplies spaces untaken untold self.old self.new conn text.items) }
@@ -64,7 +64,7 @@ pub trait Shareable: Drop {
         ensures standing { KeepsStanding spaces journals self.old self.new };
 
     /// Returns the oldest note of a namespace that was reported and not taken; `None` if there is none. Returns `NoNamespace`, then
-    /// `OutOfMemory` if taking it needs memory that there is not; then it comes the next time.
+    /// `OutOfMemory` if taking the note needs memory that there is not: the note then comes the next time.
     fn next_notice(&mut self, namespace: u64) -> Result<Option<Note>, ServiceError>
         ensures note { IfOk result
             (λ note. MovesNote spaces untaken untold self.old self.new namespace note) }

@@ -146,9 +146,8 @@ impl<L: Seating, C: Shareable> SharedService<L, C> {
 
 impl<L: Seating, C: Shareable> SharedService<L, C> {
     /// Returns the reply bytes of a connection since they were last taken, moved out, in one hold of the lock. This is not an event, and
-    /// leaves no receipt.
-    /// Returns `NoNamespace`, then `NoConnection`, then `OutOfMemory` if the core copies replies; then they come the
-    /// next time.
+    /// leaves no receipt. Returns `NoNamespace`, then `NoConnection`, then `OutOfMemory` if the service under the lock copies replies and
+    /// has no memory for the copy: the replies then come the next time.
     pub fn take_output(&self, rt: &impl Wait, conn: Conn) -> Result<Vec<u8>, ServiceError>
         ensures all { IfOk result (λ text. HappenedAtSomeMoment L.configs C.spaces (λ old new.
             MovesReplies C.spaces C.untaken C.untold old new conn text.items)) }
@@ -199,9 +198,9 @@ impl<L: Seating, C: Shareable> SharedService<L, C> {
         turn
     }
 
-    /// Returns what a connection is owed, moved out in one hold of the lock; nothing if it is unknown. This is not an event, and leaves no
-    /// receipt. The loads of its namespace are included only if requested; the namespace's oldest notes are appended to those given, as
-    /// many as there is room for.
+    /// Returns what a connection is owed, moved out in one hold of the lock; nothing if the connection is unknown. This is not an event,
+    /// and leaves no receipt. The loads of its namespace are included only if requested; the namespace's oldest notes are appended to those
+    /// given, as many as there is room for.
     pub fn take_owed(
         &self,
         rt: &impl Wait,
@@ -222,8 +221,8 @@ impl<L: Seating, C: Shareable> SharedService<L, C> {
     }
 
     /// Appends the oldest notes of a namespace that were reported and not taken, moved out in one hold of the lock, as many as there is
-    /// room for. This is not an event, and leaves no receipt. Returns `NoNamespace`, and `OutOfMemory` if the core copies notes; those
-    /// before the refused one were taken then.
+    /// room for. This is not an event, and leaves no receipt. Returns `NoNamespace`, and `OutOfMemory` if the service under the lock copies
+    /// notes and has no memory for a copy: the notes before that one are then taken.
     pub fn take_notices(
         &self,
         rt: &impl Wait,
@@ -255,8 +254,8 @@ impl<L: Seating, C: Shareable> SharedService<L, C> {
     }
 
     /// Returns the oldest note of a namespace that was reported and not taken, or `None`, in one hold of the lock. This is not an event,
-    /// and leaves no receipt.
-    /// Returns `NoNamespace`, then `OutOfMemory` if the core copies notes; then it comes the next time.
+    /// and leaves no receipt. Returns `NoNamespace`, then `OutOfMemory` if the service under the lock copies notes and has no memory for
+    /// the copy: the note then comes the next time.
     pub fn next_notice(&self, rt: &impl Wait, namespace: u64) -> Result<Option<Note>, ServiceError>
         ensures all { IfOk result (λ note. HappenedAtSomeMoment L.configs C.spaces (λ old new.
             MovesNote C.spaces C.untaken C.untold old new namespace note)) }

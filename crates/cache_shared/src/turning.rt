@@ -16,13 +16,14 @@ use std::alloc::Global;
 /// What a connection is owed, all moved out in one hold of the lock.
 #[derive(Drop)]
 pub struct Owed {
-    /// Its replies that were not taken; `None` if there was not enough memory for a copy. Then they come when replies are next taken.
+    /// The replies of the connection that were not taken; `None` if there was not enough memory for a copy: the replies then come when
+    /// replies are next taken.
     pub replies: Option<Vec<u8>>,
-    /// The loads of its namespace that had gone out and were not taken, if they were requested.
+    /// The loads of the namespace of the connection that had gone out and were not taken, if they were requested.
     pub loads: Option<Vec<(LoadId, Bytes)>>,
-    /// Why it is closed, if it is.
+    /// Why the connection is closed, if it is.
     pub closing: Option<Closing>,
-    /// Whether a `LOAD` of it waits for its load.
+    /// Whether a `LOAD` of the connection waits for its load.
     pub waits: bool,
 }
 

@@ -131,8 +131,8 @@ impl RecordedService {
         open_in(core, &mut cursors.replies, namespace)
     }
 
-    /// Returns the journal of a namespace: a record for each input that it took, in order. It obeys, and leads to where the namespace
-    /// stands. This allocates nothing. Returns `NoNamespace` if there is no such namespace.
+    /// Returns the journal of a namespace: a record for each input that it took, in order. The journal obeys, and leads to where the
+    /// namespace stands. This allocates nothing. Returns `NoNamespace` if there is no such namespace.
     pub fn journal(&self, namespace: u64) -> Result<&Transcript, ServiceError>
         ensures journal { IfOk result
             (λ journal. slice_get (journals_of self.now.spaces) namespace ≡ Some journal.now) }
@@ -158,8 +158,8 @@ impl RecordedService {
         self.room.allocator()
     }
 
-    /// Returns the replies of a connection since they were last taken, lent from the journal, even after it closed. They are not taken. This
-    /// allocates nothing. Returns `NoNamespace`, then `NoConnection`.
+    /// Returns the replies of a connection since they were last taken, lent from the journal, even after it closed. The replies are not
+    /// taken. This allocates nothing. Returns `NoNamespace`, then `NoConnection`.
     pub fn peek_output(&self, conn: Conn) -> Result<LentReplies<'_>, ServiceError>
         ensures replies { IfOk result (λ replies. lent_replies replies ≡ untaken_in self.now conn) }
         ensures known { OnOk result
@@ -171,8 +171,8 @@ impl RecordedService {
         Ok(self.replies_from(conn, count))
     }
 
-    /// Returns the replies of a connection since they were last taken, lent from the journal, even after it closed. Each comes once. This is
-    /// not an event, and allocates nothing. Returns `NoNamespace`, then `NoConnection`.
+    /// Returns the replies of a connection since they were last taken, lent from the journal, even after it closed. Each reply comes once.
+    /// This is not an event, and allocates nothing. Returns `NoNamespace`, then `NoConnection`.
     /// ```
     /// let replies = recorded.take_output(conn)?.to_vec(alloc)?;
     /// ```
@@ -237,8 +237,8 @@ impl RecordedService {
         self.core.take_loads(namespace)
     }
 
-    /// Returns the oldest note of a namespace that was reported and not taken, lent from the journal; `None` if there is none. It is not
-    /// taken. This allocates nothing. Returns `NoNamespace` if there is no such namespace.
+    /// Returns the oldest note of a namespace that was reported and not taken, lent from the journal; `None` if there is none. The note is
+    /// not taken. This allocates nothing. Returns `NoNamespace` if there is no such namespace.
     pub fn peek_notice(&self, namespace: u64) -> Result<Option<&Note>, ServiceError>
         ensures note { IfOk result
             (λ note. option_copied note ≡ slice_get (untold_in self.now namespace) 0) }

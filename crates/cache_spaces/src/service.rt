@@ -27,7 +27,7 @@ const MAX_MOMENT: u64 = (1 << 63) - 1;
 /// The values of a namespace.
 pub type SpaceStore = FrontStore<Xoshiro256PlusPlus, KeyedHasher>;
 
-/// Namespaces, each with its connections and values, over a tape for each, into which its records go.
+/// The namespaces of a service, each with its connections and values, and with a tape, into which its records go.
 ///
 /// There are 1 to 16 namespaces, counted from 0, each with a generator and a latest moment of its own. Connections and loads are numbered
 /// from 1 within each. Contracts see it as the list of its namespaces.

@@ -21,7 +21,7 @@ pub struct Refusal {
 }
 
 impl Refusal {
-    /// The refusal of an input, for this reason.
+    /// Creates the refusal of an input, for this reason.
     pub fn new(error: ServiceError, input: Input) -> Refusal
         ensures { result ≡ record { error = error; input = input } }
     {

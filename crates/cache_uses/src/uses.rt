@@ -3,7 +3,7 @@
 mod example;
 mod tests;
 
-ghost use Rattle.std.specs.Prelude.{IfOk, IfSome, ◌∷◌, ◌≤◌, []};
+ghost use Rattle.std.specs.Prelude.{IfOk, IfSome, ◌∷◌, ◌<◌, ◌≤◌, [], length};
 ghost use Rattle.std.specs.List.{slice_get};
 ghost use Rattle.cache_service.specs.Words.{ArePlayed, KeepsList};
 
@@ -179,6 +179,7 @@ pub fn answer_shared<L: Seating, K: Clock, D: Loader>(
     clock: &mut K,
     loader: &mut D,
 ) -> Result<Vec<u8>, RunError>
+    requires known { 0 < length L.configs }
     ensures { seat.old.count ≤ seat.new.count }
 {
     let mut replies = Vec::new(alloc);

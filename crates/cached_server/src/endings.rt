@@ -7,9 +7,12 @@ ghost use Rattle.cached_server.specs.Script.Faults.{Tells, fault_for, fault_mess
 use crate::script::{Fault, tell_both, text_of};
 use cache_run::Watched;
 use cached_config::{ConfigError, ConfigFault, Unread};
-use std::alloc::{AllocError, Global};
+use std::alloc::{AllocError, AllocFailed, Global};
 use std::io;
 use std::io::Write;
+
+/// The command that lists all that is wrong with a configuration file.
+const CHECK: &str = "cached_check";
 
 /// What there is to say of a fault beside its text.
 #[derive(Debug, Drop)]
@@ -24,25 +27,34 @@ pub enum Cause {
     Port(u16, io::Error),
     /// This cannot be had of the machine.
     Machine(&'static str, io::Error),
+    /// What this line says, with its line end.
+    Said(String),
 }
 
 impl Cause {
-    /// The line that says it, for the file at a path; empty if there is nothing to say.
-    fn line(&self, alloc: Global, path: &str) -> Result<String, AllocError> {
+    /// The line that says it, for the configuration file at a path; empty if there is nothing to say. `check` is the command that lists all
+    /// that is wrong with the file at the path behind it.
+    pub fn line(&self, alloc: Global, path: &str, check: &str) -> Result<String, AllocError> {
         match self {
             Cause::Unsaid => Ok(String::new(alloc)),
             Cause::File(unread) => Ok(format!(in alloc; "{path}: {unread}\n")?),
-            Cause::Line(fault) => line_of(alloc, path, fault),
+            Cause::Line(fault) => line_of(alloc, path, fault, check),
             Cause::Port(port, error) => Ok(format!(in alloc; "port {port}: {error}\n")?),
             Cause::Machine(what, error) => Ok(format!(in alloc; "{what}: {error}\n")?),
+            Cause::Said(line) => line.clone(),
         }
     }
 }
 
 /// The line that says the first fault of the file at a path.
-fn line_of(alloc: Global, path: &str, fault: &ConfigFault) -> Result<String, AllocError> {
+fn line_of(
+    alloc: Global,
+    path: &str,
+    fault: &ConfigFault,
+    check: &str,
+) -> Result<String, AllocError> {
     let (line, what) = (fault.line, fault.what.as_str());
-    Ok(format!(in alloc; "{path}:{line}: {what} (`cached_check {path}` lists all)\n")?)
+    Ok(format!(in alloc; "{path}:{line}: {what} (`{check} {path}` lists all)\n")?)
 }
 
 /// Why a server ends.
@@ -94,7 +106,7 @@ impl Ending {
             (E.contents (device errors.old)) (E.contents (device errors.new)) (failures errors.old)
             (failures errors.new) }
     {
-        match self.cause.line(alloc, path) {
+        match self.cause.line(alloc, path, CHECK) {
             Ok(line) => tell_both(text_of(self.fault), line.as_bytes(), errors),
             Err(_) => tell_both(text_of(self.fault), b"", errors),
         }
@@ -117,6 +129,14 @@ impl From<AllocError> for Ending {
     ghost from_gives = { λ _ ending. ending.fault ≡ fault.OutOfMemory };
 
     fn from(_e: AllocError) -> Ending {
+        Ending::from(Fault::OutOfMemory)
+    }
+}
+
+impl<T: Drop> From<AllocFailed<T>> for Ending {
+    ghost from_gives = { λ _ ending. ending.fault ≡ fault.OutOfMemory };
+
+    fn from(_refused: AllocFailed<T>) -> Ending {
         Ending::from(Fault::OutOfMemory)
     }
 }

@@ -1,5 +1,5 @@
 //! A thread for each namespace, and one that writes what they tell.
-ghost use Rattle.std.specs.Prelude.{◌≡◌, ◌⊎◌, false, map, IfOk, IfErr};
+ghost use Rattle.std.specs.Prelude.{◌≡◌, ◌<◌, ◌≤◌, ◌⊎◌, false, length, map, IfOk, IfErr};
 ghost use Rattle.cache_shared.specs.Recordings.{bare_spaces, no_journals};
 ghost use Rattle.cache_shared.specs.Events.{StandsAfter};
 
@@ -46,7 +46,9 @@ impl<R: Machine> Hall<R> {
         namespace: u64,
         space: HostedNamespace,
         listener: TcpListener,
-    ) -> Result<JoinHandle<()>, AllocError> {
+    ) -> Result<JoinHandle<()>, AllocError>
+        requires known { namespace < length L.configs }
+    {
         let (rt, alloc, limit) = (self.rt, self.alloc, self.limit);
         let site = Site {
             rt,
@@ -56,7 +58,9 @@ impl<R: Machine> Hall<R> {
         };
         let shared = SharedService::clone(shared)?;
         let ending = Sender::clone(ending)?;
-        let hosting = move || {
+        let hosting = move ||
+            requires { namespace < length L.configs }
+        {
             let served = host(rt, alloc, &shared, namespace, &listener, &site, limit);
             let _ = ending.send(&rt, served.failed);
         };
@@ -75,6 +79,7 @@ fn host_all<L: Seating + Send + Sync + 'static, W: Shown, E: Shown, R: Machine>(
     scribe: Scribe<W, E>,
 ) -> Result<(), Ending>
     requires empty { StandsAfter false L.configs bare_spaces no_journals 0 core }
+    requires known { length spaces.items ≤ length L.configs }
     requires name { blank.name ≡ L.name }
     requires parts { (blank.parts ≡ L.parts) × (L.all ≡ L.parts) × (L.parts ≡ 4294967296) }
     ensures { IfErr result
@@ -89,8 +94,13 @@ fn host_all<L: Seating + Send + Sync + 'static, W: Shown, E: Shown, R: Machine>(
     let writing = writing.map_err(|_| AllocError)?;
     let (ending, ended) = bounded(alloc, listeners.len())?;
     let mut threads = Vec::with_capacity(alloc, listeners.len())?;
-    for (namespace, (space, listener)) in spaces.into_iter().zip(listeners).enumerate() {
-        let thread = hall.start(&shared, &ending, namespace as u64, space, listener)?;
+    let count = spaces.len() as u64;
+    let mut hosted = spaces.into_iter().zip(listeners);
+    for namespace in 0..count {
+        let Some((space, listener)) = hosted.next() else {
+            break;
+        };
+        let thread = hall.start(&shared, &ending, namespace, space, listener)?;
         if threads.push(thread).is_err() {
             return Err(Ending::from(Fault::OutOfMemory));
         }

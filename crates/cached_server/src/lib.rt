@@ -15,7 +15,7 @@ pub use announcing::{Outlet, Scribe, Site};
 pub use devices::{ListLoader, StartClock};
 pub use endings::{Cause, Ending};
 pub use lines::Lines;
-pub use machine::{Machine, Shown};
+pub use machine::{Machine, Shown, Threaded};
 pub use outbox::{Outbox, ROOM};
 pub use program::{cached, serve_config, serve_text};
 pub use script::{Fault, run_script, take_words, without_words};

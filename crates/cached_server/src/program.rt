@@ -14,7 +14,7 @@ use crate::machine::{Machine, Shown, Threaded};
 use crate::script::{Chosen, Fault, fail, run_script, take_words, without_words};
 use cache_run::Watched;
 use cached_config::{HostedNamespace, read_config};
-use std::alloc::{AllocError, Global};
+use std::alloc::Global;
 use std::convert::AsStr;
 use std::fs;
 use std::io::{Read, Write};
@@ -145,7 +145,7 @@ fn listen<R: Machine>(
         let address = SocketAddr::from((Ipv4Addr::LOCALHOST, space.port));
         let bound = TcpListener::bind(rt, address);
         let listener = bound.map_err(|error| Ending::port(space.port, error))?;
-        listeners.push(listener).map_err(|_| AllocError)?;
+        listeners.push(listener)?;
     }
     Ok(listeners)
 }

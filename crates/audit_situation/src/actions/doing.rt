@@ -33,14 +33,14 @@ pub enum Doing<'a> {
     Keys,
     Sync,
     Quit,
-    /// It answers a line that cannot be read.
+    /// The step answers a line that cannot be read.
     Fault(LineError),
-    /// It is held back.
+    /// The step is held back.
     Hold,
-    /// It hands a waiting `LOAD` its outcome.
+    /// The step hands a waiting `LOAD` its outcome.
     Deliver(&'a Outcome),
-    /// It gives a `LOAD` up for good.
+    /// The step gives a `LOAD` up for good.
     Abandon,
-    /// It stores an outcome under its load's key.
+    /// The step stores an outcome under the key of its load.
     Store(Option<&'a [u8]>, &'a Outcome),
 }

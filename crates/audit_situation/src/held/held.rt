@@ -140,7 +140,7 @@ impl Held {
         )
     }
 
-    /// The same, lent.
+    /// Returns the value, lent.
     pub fn see(&self) -> Seen<'_>
         ensures { held_of result ≡ self.now }
     {

@@ -207,7 +207,7 @@ impl Holding {
         self.table.use_at(key, now);
     }
 
-    /// Covers each value whose key begins so.
+    /// Covers each value whose key begins with a prefix.
     pub fn cover(&mut self, prefix: &[u8]) -> Result<(), AllocError>
         ensures { OnOk result (self.new ≡ map (value_covered_by prefix.now) self.old) }
     {

@@ -35,7 +35,7 @@ pub fn close_key(keys: &mut BTreeSet<Vec<u8>>, key: &Vec<u8>)
     let _was = keys.remove(key.as_slice());
 }
 
-/// The first open key that begins so.
+/// Returns the first open key that begins with a prefix.
 fn first_with<'a>(keys: &'a BTreeSet<Vec<u8>>, prefix: &'a Vec<u8>) -> Option<&'a Vec<u8>>
     ensures begins { IfSome result (λ k. starts_with nat_eq k.now.items prefix.now.items ≡ true) }
     ensures member { IfSome result (λ k. is_open_key k.now.items keys.now ≡ true) }
@@ -48,7 +48,7 @@ fn first_with<'a>(keys: &'a BTreeSet<Vec<u8>>, prefix: &'a Vec<u8>) -> Option<&'
     }
 }
 
-/// Closes the first open key that begins so, if there is one, and says whether there was.
+/// Closes the first open key that begins with a prefix, if there is one, and returns whether there was.
 fn close_next(
     alloc: Global,
     keys: &mut BTreeSet<Vec<u8>>,
@@ -69,7 +69,7 @@ fn close_next(
     Ok(true)
 }
 
-/// Closes each open key that begins so.
+/// Closes each open key that begins with a prefix.
 pub fn close_all(
     alloc: Global,
     keys: &mut BTreeSet<Vec<u8>>,

@@ -9,8 +9,8 @@ pub trait Clock {
     /// In one state a reading is possible, and leads to another state.
     ghost reads: { Self → ℕ → Self → Type 0 };
 
-    /// Returns the moment, in nanoseconds. Above 2^63 - 1 it ends a run with `Moment`; one before the namespace's latest counts as the
-    /// latest.
+    /// Returns the moment, in nanoseconds. A moment above 2^63 - 1 ends a run with `Moment`; one before the namespace's latest counts as
+    /// the latest.
     fn now(&mut self) -> u64
         ensures { reads self.old result self.new };
 }

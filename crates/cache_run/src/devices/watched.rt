@@ -68,7 +68,8 @@ impl<R: Read> Watched<R> {
 }
 
 impl<W: Write> Watched<W> {
-    /// Writes a prefix of the bytes, and returns how many it took. An error, or taking none of some, is counted; an error is passed on.
+    /// Writes a prefix of the bytes, and returns how many bytes were taken. An error is counted and passed on; that none of some bytes were
+    /// taken is counted.
     pub fn write(&mut self, buf: &[u8]) -> io::Result<usize>
         ensures bound { WritesAtMost result buf.now }
         ensures bytes { WriteAppends (W.contents (device self.old)) (W.contents (device self.new))

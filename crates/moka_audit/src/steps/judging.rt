@@ -288,8 +288,8 @@ fn judge_doing(
     }
 }
 
-/// Judges a step for which this is due, and does what it does to the situation and to the parts of keys. If it is wrong, or its value's
-/// key has another part, returns `false`, and situation and parts mean nothing.
+/// Judges a step by what is due, and does to the situation and to the parts of keys what the step does. Returns `false` if the step is
+/// wrong, or if the key of its value has another part: situation and parts then mean nothing.
 pub fn judge(
     alloc: Global,
     config: &Config,

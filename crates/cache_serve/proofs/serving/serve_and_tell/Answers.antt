@@ -61,10 +61,9 @@ returns-in-loop-turn g c =
     record {
       wrote = all.wrote;
       asked = all.asked;
-      count = counts;
+      count = (counts, why UsedUp);
       read = why Read;
       write = why Write;
       moment = why Moment;
-      used_up = why UsedUp;
       loader = all.loaded;
     }
