@@ -4,7 +4,7 @@ use Rattle.std.specs.Fmt.{decimal}
 use Rattle.std.specs.Option.{option_map}
 use Rattle.memcache_model.specs.Bytes.{number_below}
 use Rattle.memcache_model.specs.Commands.{Command, Request, get, gat, store, oversize, delete, arithmetic, touch, flush_all, stats, version, verbosity, quit, malformed, meta, meta_set, meta_no_op}
-use Rattle.memcache_model.specs.Items.{Item, Items, Stock, nothing, with_item, unexpired, deadline_of, live_at}
+use Rattle.memcache_model.specs.Items.{Item, Items, Stock, nothing, with_item, deadline_of, live_at}
 use Rattle.memcache_model.specs.Meta.{meta_answer, meta_set_answer}
 use Rattle.memcache_model.specs.Outcomes.{Outcome, says, changes, stores, new_item, counted}
 use Rattle.memcache_model.specs.Replies.{error_text, values_text}
@@ -27,13 +27,11 @@ abbrev pub retimed : Option ℕ → Option Item → Option Item
 retimed deadline None = None
 retimed deadline (Some item) = Some (record item { deadline = deadline })
 
--- the same, while each live item gets a deadline
-abbrev pub touches : Bool → ℕ → Option ℕ → List (List ℕ) → Items → List ℕ × Items
-touches uniques moment deadline [] items = (codes "END\r\n", items)
-touches uniques moment deadline (key ∷ keys) items =
-    let live = unexpired moment (items key) in
-    let rest = touches uniques moment deadline keys (with_item key (retimed deadline live) items) in
-    (values_text uniques key live ++ rest.0, rest.1)
+-- each item of the keys gets a deadline
+abbrev pub touched : Option ℕ → List (List ℕ) → Items → Items
+touched deadline [] items = items
+touched deadline (key ∷ keys) items =
+    touched deadline keys (with_item key (retimed deadline (items key)) items)
 
 -- ---- storing
 
@@ -116,9 +114,10 @@ pub record Service : Type 0 where
 -- what a command does, one equation for each
 abbrev pub answer : Service → ℕ → Command → Stock → Outcome
 answer service moment (get uniques keys) stock = says (tells uniques keys stock.items) stock
-answer service moment (gat uniques exptime keys) stock =
-    let all = touches uniques moment (deadline_of moment exptime) keys stock.items in
-    record { reply = all.0; stock = record stock { items = all.1 } }
+answer service moment (gat uniques exptime keys) stock = record {
+  reply = tells uniques keys stock.items;
+  stock = record stock { items = touched (deadline_of moment exptime) keys stock.items };
+}
 answer service moment (store storage key flags exptime block) stock =
     let deadline = deadline_of moment exptime in
     let item = new_item block flags deadline in

@@ -1,12 +1,13 @@
 -- Requests by the answers to their commands.
 use Rattle.std.proofs.Common.{◌≡◌, ℕ, Bool, ◌⊎◌, ⊎_elim, inl, inr, ◌∙◌, sym, ap, subst, List, [], ◌++◌, length, take, None}
 use Rattle.std.specs.Prelude.{if◌then◌else◌}
-use Rattle.memcache_model.specs.Answers.{Service, answer}
+use Rattle.memcache_model.specs.Answers.{answer}
 use Rattle.memcache_model.specs.Commands as model
 use Rattle.memcache_model.specs.Items.{Stock as Stocked}
+use Rattle.memcache_model.specs.Outcomes.{Outcome}
 use Rattle.memcache_service.specs.Lines.{said_from}
 use Rattle.memcache_service.specs.Shelves.{IsMoment, Shelved, live_on}
-use Rattle.memcache_service.specs.Stocks.{Answers, Leaves, Serves, stock_at}
+use Rattle.memcache_service.specs.Stocks.{Answers, Does, Leaves, LeavesRefused, Refuses, Serves, service_of, stock_at}
 use Rattle.memcache_service.specs.declared.replies.Reply.{Reply}
 use Rattle.memcache_service.specs.declared.stock.Stock.{Stock}
 
@@ -20,19 +21,33 @@ moved view moment all mid new old final left same uniques flush most = record {
   most = most;
 }
 
+moved_refused : {T : Type 0} (view : T → Shelved) (moment : ℕ) (command : model.Command) (all : Stocked) (mid new old final : Stock T) → LeavesRefused view moment command all mid new → view final.shelf ≡ view new.shelf → final.uniques ≡ new.uniques → final.flush ≡ new.flush → final.most ≡ old.most → LeavesRefused view moment command all old final
+moved_refused view moment (model.gat told exptime keys) all mid new old final left same uniques flush most = (left.0, moved view moment _ mid new old final left.1 same uniques flush most)
+moved_refused view moment command all mid new old final left same uniques flush most = moved view moment all mid new old final left same uniques flush most
+
 -- a request, by the answer to its command behind a flush that was due
-pub served : {T : Type 0} (view : T → Shelved) (moment : ℕ) (service : Service) (command : model.Command) (quiet : Bool) (all : Stocked) (old mid new final : Stock T) (before after written : List ℕ) (reply : Reply) → stock_at view moment mid ≡ all → Answers view moment (answer service moment command (stock_at view moment mid)) mid new before after reply → view final.shelf ≡ view new.shelf → final.uniques ≡ new.uniques → final.flush ≡ new.flush → final.most ≡ old.most → written ≡ take (length before) after ++ (if quiet then [] else said_from (length before) after reply) → Serves view moment all (answer service moment command all) quiet old final before written
-served view moment service command quiet all old mid new final before after written reply is answered same uniques flush most wrote = record {
-  text = said_from (length before) after reply;
-  written = wrote ∙ ap (λ begun. begun ++ (if quiet then [] else said_from (length before) after reply)) answered.begun;
-  does = ⊎_elim
-      (λ d. inl (record {
-        said = d.said ∙ ap (λ (s : Stocked). (answer service moment command s).reply) is;
-        leaves = moved view moment _ mid new old final (subst (λ (s : Stocked). Leaves view moment (answer service moment command s).stock mid new) is d.leaves) same uniques flush most;
-      }))
-      (λ r. inr (record {
-        says = r.says;
-        keeps = moved view moment _ mid new old final (subst (λ (s : Stocked). Leaves view moment s mid new) is r.keeps) same uniques flush most;
-      }))
-      answered.does;
+pub served : {T : Type 0} (view : T → Shelved) (moment : ℕ) (request : model.Request) (all : Stocked) (old mid new final : Stock T) (before after written : List ℕ) (reply : Reply) → mid.most ≡ old.most → stock_at view moment mid ≡ all → Answers view moment request.command mid new before after reply → view final.shelf ≡ view new.shelf → final.uniques ≡ new.uniques → final.flush ≡ new.flush → final.most ≡ old.most
+    → written ≡ take (length before) after ++ (if request.quiet then [] else said_from (length before) after reply) → Serves view moment all request old final before written
+served view moment request all old mid new final before after written reply kept is answered same uniques flush most wrote = record {
+  text = text;
+  written = wrote ∙ ap (λ begun. begun ++ (if request.quiet then [] else text)) answered.begun;
+  does = ⊎_elim (λ d. inl (done d)) (λ r. inr (refused r)) answered.does;
 }
+  where
+    text : List ℕ
+    text = said_from (length before) after reply
+
+    outcome : ℕ → Stocked → Outcome
+    outcome m s = answer (service_of m text) moment request.command s
+
+    done : Does view moment (outcome mid.most (stock_at view moment mid)) mid new text → Does view moment (outcome old.most all) old final text
+    done d = record {
+      said = d.said ∙ ap (λ (s : Stocked). (outcome mid.most s).reply) is ∙ ap (λ m. (outcome m all).reply) kept;
+      leaves = moved view moment _ mid new old final (subst (λ m. Leaves view moment (outcome m all).stock mid new) kept (subst (λ (s : Stocked). Leaves view moment (outcome mid.most s).stock mid new) is d.leaves)) same uniques flush most;
+    }
+
+    refused : Refuses view moment request.command (stock_at view moment mid) mid new text → Refuses view moment request.command all old final text
+    refused r = record {
+      says = r.says;
+      keeps = moved_refused view moment request.command all mid new old final (subst (λ (s : Stocked). LeavesRefused view moment request.command s mid new) is r.keeps) same uniques flush most;
+    }

@@ -2,3 +2,4 @@ mod Answering
 mod Cutting
 mod Keeping
 mod Parting
+mod Touching

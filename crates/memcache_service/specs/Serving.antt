@@ -1,6 +1,5 @@
 -- The requests of a connection's bytes, served one after the other.
 use Rattle.std.specs.Prelude.{◌≡◌, ℕ, ◌-◌, true, List, ◌++◌, length, drop}
-use Rattle.memcache_model.specs.Answers.{Service, answer}
 use Rattle.memcache_model.specs.Commands.{Request}
 use Rattle.memcache_model.specs.Grammar.{arrived, request}
 use Rattle.memcache_model.specs.Items.{live_at}
@@ -11,10 +10,8 @@ use Rattle.memcache_service.specs.declared.stock.Stock.{Stock}
 module _ {T : Type 0} (view : T → Shelved) (moment : ℕ) where
   -- a plain request is served as the definitions say, behind a flush that was due
   abbrev pub IsServed : Request → (old new : Stock T) → (before after : List ℕ) → Type 0
-  IsServed r old new before after =
-      (service : Service) → service.most ≡ old.most → is_plain r.command ≡ true
-      → let all = live_at moment (kept view old) in
-      Serves view moment all (answer service moment r.command all) r.quiet old new before after
+  IsServed r old new before after = is_plain r.command ≡ true
+      → Serves view moment (live_at moment (kept view moment old)) r old new before after
 
   -- Requests were served, each that at the front of what the one before it left of the bytes, and their replies stand behind what stood
   -- before them. What is left of the bytes, and how many bytes to come belong to the last request

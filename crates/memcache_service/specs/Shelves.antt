@@ -2,19 +2,19 @@
 use Rattle.std.specs.Prelude.{◌≡◌, ℕ, ◌≤◌, ◌<◌, ◌^◌, ◌⊎◌, List, None}
 use Rattle.memcache_model.specs.Items.{Items, unexpired}
 
--- the items of keys, of which some may have expired, and the moment of the last call
+-- the items of keys by the moment, of which some may have expired, and the moment of the last call
 pub record Shelved : Type 0 where
-  pub items : Items
+  pub items : (moment : ℕ) → Items
   pub latest : ℕ
 
 -- what is live of it at a moment
 abbrev pub live_on : Shelved → (moment : ℕ) → Items
-live_on shelved moment = λ key. unexpired moment (shelved.items key)
+live_on shelved moment = λ key. unexpired moment (shelved.items moment key)
 
 -- a call may come at this moment
 pub record IsMoment (shelved : Shelved) (moment : ℕ) : Type 0 where
   pub later : shelved.latest ≤ moment
-  pub early : moment < 2 ^ 44
+  pub early : moment < 2 ^ 43
 
 -- each key has a live item of these, or none
 abbrev pub AreLeft : (moment : ℕ) → (all is : Items) → Type 0
@@ -23,5 +23,10 @@ AreLeft moment all is = (key : List ℕ)
 
 -- a call at a moment leaves these items, but for those that left by themselves
 pub record Becomes (moment : ℕ) (all : Items) (shelved : Shelved) : Type 0 where
-  pub items : AreLeft moment all shelved.items
+  pub items : AreLeft moment all (shelved.items moment)
   pub latest : shelved.latest ≡ moment
+
+-- as time passes items may leave, and no other appears
+abbrev pub OnlyLeave : Shelved → Type 0
+OnlyLeave shelved = (first later : ℕ) → first ≤ later
+    → AreLeft later (shelved.items first) (shelved.items later)

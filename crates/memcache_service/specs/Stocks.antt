@@ -1,8 +1,9 @@
 -- What a stock stands for, and what a command does to it.
 use Rattle.std.specs.Prelude.{◌≡◌, ℕ, ◌⊎◌, Bool, true, false, List, [], ◌++◌, length, take, if◌then◌else◌, Option, Some, None, codes}
-use Rattle.memcache_model.specs.Commands.{Command, get, gat, stats, meta, meta_set}
+use Rattle.memcache_model.specs.Commands.{Command, Request, get, gat, stats, meta, meta_set}
 use Rattle.memcache_model.specs.Items as model
-use Rattle.memcache_model.specs.Items.{Item}
+use Rattle.memcache_model.specs.Answers.{Service, answer, touched}
+use Rattle.memcache_model.specs.Items.{Item, deadline_of}
 use Rattle.memcache_model.specs.Outcomes.{Outcome, new_item, says, stores}
 use Rattle.memcache_service.specs.Lines.{reply_text, said_from}
 use Rattle.memcache_service.specs.declared.replies.Reply.{Reply}
@@ -10,6 +11,10 @@ use Rattle.memcache_service.specs.declared.replies.Reply.TheVariants.{NoMemory, 
 use Rattle.memcache_service.specs.Shelves.{IsMoment, Shelved, live_on}
 use Rattle.memcache_service.specs.declared.stock.Stock.{Stock}
 use Rattle.memcache_service.specs.declared.stock.storing.Block.{Block}
+
+-- what serves data blocks of so many bytes, and tells this text as statistics
+abbrev pub service_of : (most : ℕ) → (figures : List ℕ) → Service
+service_of most figures = record { most = most; figures = λ words. figures }
 
 -- the reply of a command is one line, and it has no flags
 abbrev pub is_short : Command → Bool
@@ -20,10 +25,11 @@ is_short (meta kind key flags) = false
 is_short (meta_set key flags block) = false
 is_short command = true
 
--- the same, or it is a `get`
+-- it is no meta command
 abbrev pub is_plain : Command → Bool
-is_plain (get uniques keys) = true
-is_plain command = is_short command
+is_plain (meta kind key flags) = false
+is_plain (meta_set key flags block) = false
+is_plain command = true
 
 -- what is replied where memory is lacking
 abbrev pub IsRefusal : List ℕ → Type 0
@@ -60,42 +66,57 @@ module _ {T : Type 0} (view : T → Shelved) where
   abbrev pub Keeps : ℕ → (old new : Stock T) → Type 0
   Keeps moment old new = Leaves moment (stock_at moment old) old new
 
+  -- it gives the items of these keys a deadline
+  abbrev pub Touches : ℕ → Option ℕ → List (List ℕ) → (old new : Stock T) → Type 0
+  Touches moment deadline keys old new = Leaves moment (record (stock_at moment old) {
+    items = touched deadline keys (stock_at moment old).items;
+  }) old new
+
   -- a command at a moment said this, and had this outcome
   pub record Does (moment : ℕ) (outcome : Outcome) (old new : Stock T) (text : List ℕ) : Type 0
     where
       pub said : text ≡ outcome.reply
       pub leaves : Leaves moment outcome.stock old new
 
-  -- what it has, live or not
-  abbrev pub kept : Stock T → model.Stock
-  kept stock = record {
-    items = (view stock.shelf).items;
+  -- what it has at a moment, live or not
+  abbrev pub kept : ℕ → Stock T → model.Stock
+  kept moment stock = record {
+    items = (view stock.shelf).items moment;
     uniques = stock.uniques;
     flush = stock.flush;
   }
 
-  -- there was no memory for a command, and it changed nothing of what there was
-  pub record Refuses (moment : ℕ) (all : model.Stock) (old new : Stock T) (text : List ℕ) : Type 0
-    where
-      pub says : IsRefusal text
-      pub keeps : Leaves moment all old new
+  -- a command that is refused leaves all as it was, but that as many of the keys of a `gat` as it came to have their new deadline
+  abbrev pub LeavesRefused : ℕ → Command → (all : model.Stock) → (old new : Stock T) → Type 0
+  LeavesRefused moment (gat uniques exptime keys) all old new =
+      (count : ℕ) × Leaves moment (record all {
+        items = touched (deadline_of moment exptime) (take count keys) all.items;
+      }) old new
+  LeavesRefused moment command all old new = Leaves moment all old new
+
+  -- there was no memory for a command
+  pub record Refuses (moment : ℕ) (command : Command) (all : model.Stock) (old new : Stock T)
+      (text : List ℕ) : Type 0 where
+    pub says : IsRefusal text
+    pub keeps : LeavesRefused moment command all old new
 
   -- a command did what it was to do, or was refused
-  abbrev pub DoesIfRoom : ℕ → (all : model.Stock) → Outcome → (old new : Stock T)
+  abbrev pub DoesIfRoom : ℕ → Command → (all : model.Stock) → (old new : Stock T)
       → (text : List ℕ) → Type 0
-  DoesIfRoom moment all outcome old new text =
-      Does moment outcome old new text ⊎ Refuses moment all old new text
+  DoesIfRoom moment command all old new text =
+      Does moment (answer (service_of old.most text) moment command all) old new text
+      ⊎ Refuses moment command all old new text
 
   -- the same, by what stood before its reply, what stands there then, and the reply that was returned
-  pub record Answers (moment : ℕ) (outcome : Outcome) (old new : Stock T) (before after : List ℕ)
+  pub record Answers (moment : ℕ) (command : Command) (old new : Stock T) (before after : List ℕ)
       (reply : Reply) : Type 0 where
     pub begun : take (length before) after ≡ before
-    pub does : DoesIfRoom moment (stock_at moment old) outcome old new
+    pub does : DoesIfRoom moment command (stock_at moment old) old new
         (said_from (length before) after reply)
 
   -- a request wrote its reply behind what stood there, unless it is quiet
-  pub record Serves (moment : ℕ) (all : model.Stock) (outcome : Outcome) (quiet : Bool)
-      (old new : Stock T) (before after : List ℕ) : Type 0 where
+  pub record Serves (moment : ℕ) (all : model.Stock) (request : Request) (old new : Stock T)
+      (before after : List ℕ) : Type 0 where
     pub text : List ℕ
-    pub written : after ≡ before ++ (if quiet then [] else text)
-    pub does : DoesIfRoom moment all outcome old new text
+    pub written : after ≡ before ++ (if request.quiet then [] else text)
+    pub does : DoesIfRoom moment request.command all old new text

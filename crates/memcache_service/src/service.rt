@@ -9,14 +9,14 @@ use crate::stock::{Setup, Stock};
 use slab::Slab;
 use std::alloc::{AllocError, Global};
 
-/// Moments are below this many milliseconds of Unix time, which are 557 years.
-const MOMENTS: u64 = 1 << 44;
+/// Moments are below this many milliseconds of Unix time, which are 278 years.
+const MOMENTS: u64 = 1 << 43;
 
 /// The number of a connection.
 pub type Conn = usize;
 
 /// A stock of items, and the connections that use it. Moments are in milliseconds of Unix time; one that is before that of the last call,
-/// or 2^44 or later, counts as that of the last call.
+/// or 2^43 or later, counts as that of the last call.
 #[derive(Drop)]
 pub struct Service<T: Shelf> {
     stock: Stock<T>,
@@ -92,9 +92,9 @@ impl<T: Shelf> Service<T> {
 
 /// The later of two moments, or the first if the second is too late.
 fn later(last: u64, moment: u64) -> u64
-    requires { last < 2 ^ 44 }
+    requires { last < 2 ^ 43 }
     ensures later { last ≤ result }
-    ensures early { result < 2 ^ 44 }
+    ensures early { result < 2 ^ 43 }
 {
     if last < moment && moment < MOMENTS {
         moment

@@ -1,18 +1,22 @@
 //! Items by key, in a cache.
 ghost use Rattle.std.specs.Prelude.{◌≡◌, OnOk, OnErr, Some, None, is_some, option_map};
 ghost use Rattle.memcache_model.specs.Items.{nothing, with_item};
-ghost use Rattle.memcache_service.specs.Shelves.{Becomes, IsMoment, Shelved, live_on};
+ghost use Rattle.memcache_service.specs.Shelves.{Becomes, IsMoment, OnlyLeave, Shelved, live_on};
 
 use crate::counters::Counters;
 use crate::item::StoredItem;
 use audit_model::Key;
 use std::alloc::AllocError;
 
-/// Items by key, in a cache: an item that was put may have gone, but no call makes any other appear.
+/// Items by key, in a cache: an item that was put may have gone, in a call or between calls, but no other appears.
 ///
-/// Moments are milliseconds of Unix time below 2^44, and never fall from call to call. After an `Err` nothing has changed.
+/// Moments are milliseconds of Unix time below 2^43, and never fall from call to call. After an `Err` nothing has changed.
 pub trait Shelf: Drop {
     ghost view: { Self → Shelved };
+
+    /// Does nothing. Its contract says what the passing of time does.
+    fn pass(&self)
+        ensures { OnlyLeave (view self.now) };
 
     /// The live item of a key. It is no use of it.
     fn peek(&self, key: &Key, moment: u64) -> Option<&StoredItem>
@@ -24,20 +28,20 @@ pub trait Shelf: Drop {
     fn note_use(&mut self, key: &Key, moment: u64) -> bool
         requires { IsMoment (view self.old) moment }
         ensures found { result ≡ is_some (live_on (view self.old) moment key.now) }
-        ensures used { Becomes moment (view self.old).items (view self.new) };
+        ensures used { Becomes moment ((view self.old).items moment) (view self.new) };
 
     /// Gives a key an item.
     fn put(&mut self, key: &Key, item: StoredItem, moment: u64) -> Result<(), AllocError>
         requires { IsMoment (view self.old) moment }
         ensures puts { OnOk result (Becomes moment
-            (with_item key.now (Some item) (view self.old).items) (view self.new)) }
+            (with_item key.now (Some item) ((view self.old).items moment)) (view self.new)) }
         ensures unchanged { OnErr result (self.new ≡ self.old) };
 
     /// Takes the item of a key away.
     fn remove(&mut self, key: &Key, moment: u64) -> Result<(), AllocError>
         requires { IsMoment (view self.old) moment }
         ensures removes { OnOk result
-            (Becomes moment (with_item key.now None (view self.old).items) (view self.new)) }
+            (Becomes moment (with_item key.now None ((view self.old).items moment)) (view self.new)) }
         ensures unchanged { OnErr result (self.new ≡ self.old) };
 
     /// Takes all items away. It allocates nothing, and is refused after 2^64 - 1 times.

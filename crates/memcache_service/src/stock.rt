@@ -1,11 +1,11 @@
 //! What requests do.
 ghost use Rattle.std.specs.Prelude.{◌≡◌, ◌≤◌, ◌+◌, ◌++◌, [], true, take, None, IfOk, OnOk, OnErr, vec_capacity, if◌then◌else◌};
 ghost use Rattle.memcache_lines.specs.Said.{asks};
-ghost use Rattle.memcache_model.specs.Answers.{Service, answer};
+ghost use Rattle.memcache_model.specs.Answers.{answer};
 ghost use Rattle.memcache_model.specs.Items.{live_at, nothing};
 ghost use Rattle.memcache_service.specs.Lines.{reply_text, said_from};
 ghost use Rattle.memcache_service.specs.Shelves.{IsMoment};
-ghost use Rattle.memcache_service.specs.Stocks.{Answers, Does, Keeps, Leaves, Serves, is_plain, is_short, kept, stock_at};
+ghost use Rattle.memcache_service.specs.Stocks.{Answers, Does, Keeps, Leaves, Serves, is_plain, is_short, kept, service_of, stock_at};
 
 use crate::counters::{Counters, Tally};
 use crate::replies::{Reply, SHORT};
@@ -88,11 +88,10 @@ impl<T: Shelf> Stock<T> {
         output: &mut Vec<u8>,
     ) -> Result<(), AllocError>
         requires { IsMoment (T.view self.old.shelf) moment }
-        ensures served { (service : Service) → service.most ≡ self.old.most
-            → is_plain (asks request.now.command) ≡ true
-            → OnOk result (let all = live_at moment (kept T.view self.old) in
-            Serves T.view moment all (answer service moment (asks request.now.command) all)
-            request.now.quiet self.old self.new output.old.items output.new.items) }
+        ensures served { is_plain (asks request.now.command) ≡ true
+            → OnOk result (Serves T.view moment (live_at moment (kept T.view moment self.old))
+            (record { command = asks request.now.command; quiet = request.now.quiet })
+            self.old self.new output.old.items output.new.items) }
         ensures refused { OnErr result (Keeps T.view moment self.old self.new
             × (output.new.items ≡ output.old.items)) }
         ensures may_follow { IsMoment (T.view self.new.shelf) moment }
@@ -111,7 +110,7 @@ impl<T: Shelf> Stock<T> {
     fn flush_if_due(&mut self, moment: u64) -> Result<(), AllocError>
         requires { IsMoment (T.view self.old.shelf) moment }
         ensures ok { OnOk result (stock_at T.view moment self.new
-            ≡ live_at moment (kept T.view self.old)) }
+            ≡ live_at moment (kept T.view moment self.old)) }
         ensures err { OnErr result (Keeps T.view moment self.old self.new) }
         ensures may_follow { IsMoment (T.view self.new.shelf) moment }
         ensures most { self.new.most ≡ self.old.most }
@@ -146,10 +145,8 @@ impl<T: Shelf> Stock<T> {
     /// Does what a command asks for. It writes the reply, or returns it if it is one of a line.
     fn answer(&mut self, command: &Command<'_>, moment: u64, output: &mut Vec<u8>) -> Reply
         requires { IsMoment (T.view self.old.shelf) moment }
-        ensures answered { (service : Service) → service.most ≡ self.old.most
-            → is_plain (asks command.now) ≡ true → Answers T.view moment (answer service moment
-            (asks command.now) (stock_at T.view moment self.old)) self.old self.new
-            output.old.items output.new.items result }
+        ensures answered { is_plain (asks command.now) ≡ true → Answers T.view moment
+            (asks command.now) self.old self.new output.old.items output.new.items result }
         ensures may_follow { IsMoment (T.view self.new.shelf) moment }
         ensures most { self.new.most ≡ self.old.most }
         ensures capacity { vec_capacity output.old ≤ vec_capacity output.new }
@@ -189,10 +186,9 @@ impl<T: Shelf> Stock<T> {
     #[tactic(auto, using(crate::proofs::Keeping::may_follow, crate::proofs::Keeping::most_kept))]
     fn answer_shortly(&mut self, command: &Command<'_>, moment: u64) -> Result<Reply, AllocError>
         requires { IsMoment (T.view self.old.shelf) moment }
-        ensures ok { IfOk result (λ reply. (service : Service) → service.most ≡ self.old.most
-            → is_short (asks command.now) ≡ true → Does T.view moment (answer service moment
-            (asks command.now) (stock_at T.view moment self.old)) self.old self.new
-            (reply_text reply)) }
+        ensures ok { IfOk result (λ reply. is_short (asks command.now) ≡ true → Does T.view moment
+            (answer (service_of self.old.most (reply_text reply)) moment (asks command.now)
+            (stock_at T.view moment self.old)) self.old self.new (reply_text reply)) }
         ensures err { OnErr result (Keeps T.view moment self.old self.new) }
         ensures may_follow { IsMoment (T.view self.new.shelf) moment }
         ensures most { self.new.most ≡ self.old.most }

@@ -354,7 +354,7 @@ fn say_found(
     item: &StoredItem,
     output: &mut Vec<u8>,
 ) -> Result<Option<StoredItem>, AllocError>
-    requires { asked.moment < 2 ^ 44 }
+    requires { asked.moment < 2 ^ 43 }
     ensures { vec_capacity output.old ≤ vec_capacity output.new }
 {
     let deadline = retimed(asked, item.deadline);
@@ -401,7 +401,7 @@ fn is_other(flags: &[u8], item: &StoredItem) -> bool {
 
 /// The deadline that `T` gives, or the old one.
 fn retimed(asked: Asked<'_>, deadline: Option<u64>) -> Option<u64>
-    requires { asked.moment < 2 ^ 44 }
+    requires { asked.moment < 2 ^ 43 }
 {
     match exptime_of(b'T', asked.flags) {
         Some(exptime) => deadline_of(asked.moment, exptime),
@@ -419,7 +419,7 @@ fn is_late(asked: Asked<'_>, deadline: Option<u64>) -> bool {
 
 /// The item that a `md` leaves stale.
 fn stale_item(asked: Asked<'_>, item: &StoredItem) -> Result<StoredItem, AllocError>
-    requires { asked.moment < 2 ^ 44 }
+    requires { asked.moment < 2 ^ 43 }
 {
     let mut changed = item.with_deadline(retimed(asked, item.deadline))?;
     changed.stale = true;
@@ -429,7 +429,7 @@ fn stale_item(asked: Asked<'_>, item: &StoredItem) -> Result<StoredItem, AllocEr
 
 /// The item of a block: its flags by `F`, its expiry by `T`.
 fn block_item(alloc: Global, asked: Asked<'_>, block: &[u8]) -> Result<StoredItem, AllocError>
-    requires { asked.moment < 2 ^ 44 }
+    requires { asked.moment < 2 ^ 43 }
 {
     let bytes = Vec::from_slice(alloc, block)?;
     let exptime = exptime_of(b'T', asked.flags).unwrap_or(Exptime::Never);
@@ -446,7 +446,7 @@ fn moded_item(
     block: &[u8],
     old: Option<&StoredItem>,
 ) -> Result<Option<StoredItem>, AllocError>
-    requires { asked.moment < 2 ^ 44 }
+    requires { asked.moment < 2 ^ 43 }
 {
     match old {
         None => match mode {

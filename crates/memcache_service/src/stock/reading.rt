@@ -1,10 +1,11 @@
 //! `get` and `gat`.
-ghost use Rattle.std.specs.Prelude.{◌≡◌, ◌≤◌, ◌++◌, take, length, vec_capacity, IfOk, OnOk, OnErr};
+ghost use Rattle.std.specs.Prelude.{◌≡◌, ℕ, ◌≤◌, ◌++◌, take, length, vec_capacity, IfOk, OnOk, OnErr};
 ghost use Rattle.memcache_model.specs.Answers.{tells, touches_one};
 ghost use Rattle.memcache_model.specs.Bytes.{tokens};
+ghost use Rattle.memcache_model.specs.Items.{deadline_of};
 ghost use Rattle.memcache_model.specs.Replies.{values_text};
 ghost use Rattle.memcache_service.specs.Shelves.{IsMoment, live_on};
-ghost use Rattle.memcache_service.specs.Stocks.{Does, Keeps, stock_at};
+ghost use Rattle.memcache_service.specs.Stocks.{Does, Keeps, Touches, stock_at};
 ghost use Rattle.memcache_service.specs.Lines.{reply_text};
 
 use super::Stock;
@@ -70,7 +71,8 @@ impl<T: Shelf> Stock<T> {
         }
     }
 
-    /// Tells the live items of the keys, and gives them another expiry. If there is no memory for one, those of the keys before it have it.
+    /// Tells the live items of the keys, and then gives them another expiry. If there is no memory for one, those of the keys before it
+    /// have it.
     pub fn gat(
         &mut self,
         uniques: bool,
@@ -80,22 +82,46 @@ impl<T: Shelf> Stock<T> {
         output: &mut Vec<u8>,
     ) -> Result<Reply, AllocError>
         requires { IsMoment (T.view self.old.shelf) moment }
+        ensures told { OnOk result (output.new.items ≡ output.old.items
+            ++ tells uniques (tokens keys.now) (stock_at T.view moment self.old).items) }
+        ensures written { IfOk result (λ reply. reply ≡ Reply.Written) }
+        ensures begun { take (length output.old.items) output.new.items ≡ output.old.items }
+        ensures capacity { vec_capacity output.old ≤ vec_capacity output.new }
+        ensures ok { OnOk result (Touches T.view moment (deadline_of moment exptime)
+            (tokens keys.now) self.old self.new) }
+        ensures err { OnErr result ((count : ℕ) × Touches T.view moment (deadline_of moment exptime)
+            (take count (tokens keys.now)) self.old self.new) }
         ensures may_follow { IsMoment (T.view self.new.shelf) moment }
         ensures most { self.new.most ≡ self.old.most }
-        ensures capacity { vec_capacity output.old ≤ vec_capacity output.new }
     {
+        say_live(&self.shelf, &mut self.key, uniques, keys, moment, output)?;
         let deadline = deadline_of(moment, exptime);
-        let start = output.len();
+        self.touch_all(keys, deadline, moment)?;
+        Ok(Reply::Written)
+    }
+
+    /// Gives the live items of the keys another deadline.
+    fn touch_all(
+        &mut self,
+        keys: &[u8],
+        deadline: Option<u64>,
+        moment: u64,
+    ) -> Result<(), AllocError>
+        requires { IsMoment (T.view self.old.shelf) moment }
+        ensures ok { OnOk result
+            (Touches T.view moment deadline (tokens keys.now) self.old self.new) }
+        ensures err { OnErr result ((count : ℕ) × Touches T.view moment deadline
+            (take count (tokens keys.now)) self.old self.new) }
+        ensures may_follow { IsMoment (T.view self.new.shelf) moment }
+        ensures most { self.new.most ≡ self.old.most }
+    {
         let mut rest = keys;
         while let Some((key, behind)) = next_token(rest) {
             self.key.fill(key)?;
-            say_one(&self.shelf, &self.key, uniques, moment, output)?;
             self.retime(deadline, moment)?;
-            check_size(start, output.len())?;
             rest = behind;
         }
-        say(output, b"END\r\n")?;
-        Ok(Reply::Written)
+        Ok(())
     }
 
     /// Gives the live item of the key that was named another deadline.

@@ -1,5 +1,5 @@
 //! `stats`.
-ghost use Rattle.std.specs.Prelude.{◌≤◌, vec_capacity};
+ghost use Rattle.std.specs.Prelude.{◌≡◌, ◌≤◌, length, take, vec_capacity};
 ghost use Rattle.memcache_service.specs.Shelves.{IsMoment};
 ghost use Rattle.memcache_service.specs.Stocks.{Keeps};
 
@@ -20,6 +20,7 @@ impl<T: Shelf> Stock<T> {
     ) -> Result<Reply, AllocError>
         requires { IsMoment (T.view self.old.shelf) moment }
         ensures keeps { Keeps T.view moment self.old self.new }
+        ensures begun { take (length output.old.items) output.new.items ≡ output.old.items }
         ensures capacity { vec_capacity output.old ≤ vec_capacity output.new }
     {
         let word = first_word(words);
@@ -27,7 +28,9 @@ impl<T: Shelf> Stock<T> {
             self.counters = Counters::new();
             return Ok(Reply::Reset);
         }
-        self.say_statistics(word, moment, output)?;
+        let mut text = Vec::new(self.alloc);
+        self.say_statistics(word, moment, &mut text)?;
+        say(output, text.as_slice())?;
         Ok(Reply::Written)
     }
 
