@@ -84,6 +84,60 @@ class Words(unittest.TestCase):
         ])
 
 
+# A file of which two methods share a name, and what a check of both says.
+TEXT = """\
+impl<T> Deque<T> {
+    pub fn len(&self) -> usize
+        ensures { result ≡ self.len }
+    {
+        self.count
+    }
+}
+
+impl<T: Drop> Queue<T> for Deques<T> {
+    fn len(&self) -> usize {
+        self.count
+    }
+}
+
+fn whole() -> bool {
+    true
+}
+"""
+BOTH = """\
+./proofs/deque/Deque/len/Answers.antt:7:29: error: `returns`: computed as far as they go, the two types differ
+  (expected) and the other has `1` (found)
+./proofs/deque/DequesQueue/len/Answers.antt:3:9: error: `returns`: the two types differ
+fn policy_queue::deque::whole: proved
+note: src/deque.rt:5:9: it is not proved that what the function ensures holds when it returns (`returns`)
+fn policy_queue::deque::Deque::len: not proved
+fn policy_queue::deque::DequesQueue::len: not proved
+only=3 proved=1
+"""
+
+
+class Functions(unittest.TestCase):
+    def at(self, words):
+        return wrong_bodies.function_at(TEXT, TEXT.index(words), "src/deque.rt")
+
+    def test_where_a_function_stands(self):
+        own, of_trait, free = self.at("self.count"), wrong_bodies.function_at(TEXT, TEXT.rindex("self.count"), "src/deque.rt"), self.at("true")
+        self.assertEqual([it.named("policy_queue") for it in (own, of_trait, free)], ["policy_queue::deque::Deque::len", None, "policy_queue::deque::whole"])
+        self.assertTrue(of_trait.is_called("policy_queue::deque::DequesQueue::len"))
+        self.assertFalse(own.is_called("policy_queue::deque::DequesQueue::len"))
+        self.assertIsNone(self.at("impl<T: Drop>"))
+
+    def test_what_is_said_of_one_of_several(self):
+        own, of_trait = self.at("self.count"), wrong_bodies.function_at(TEXT, TEXT.rindex("self.count"), "src/deque.rt")
+        said, is_refused = wrong_bodies.part_of(BOTH, [own], {"src/deque.rt": TEXT})
+        self.assertTrue(is_refused)
+        self.assertEqual(wrong_bodies.verdict(1, f"{said}\nonly=2 proved=1\n", ())[0], "clause")
+        said, is_refused = wrong_bodies.part_of(BOTH, [of_trait], {"src/deque.rt": TEXT})
+        self.assertTrue(is_refused)
+        self.assertEqual(wrong_bodies.verdict(1, f"{said}\nonly=2 proved=1\n", ())[0], "answer")
+        self.assertEqual(wrong_bodies.part_of(BOTH, [self.at("true")], {"src/deque.rt": TEXT})[1], False)
+
+
 class Helpers(unittest.TestCase):
     def adds(self, text):
         with tempfile.TemporaryDirectory() as room:

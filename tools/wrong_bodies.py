@@ -1,14 +1,15 @@
 """Tries wrong bodies: edits of a crate's code that the prover has to refuse.
 
-    python3 tools/wrong_bodies.py [--jobs N] [--anew] [--list] [CRATE | CRATE/NAME ..]     with `rt` on the path; without a name, all
+    python3 tools/wrong_bodies.py [--jobs N] [--anew | --below] [--list] [CRATE | CRATE/NAME ..]     with `rt` on the path; without a name, all
 
 It tries the bodies in tools/wrong_bodies/CRATE, and those in crates/CRATE/must-fail, which the gate tries too. Both
 have the same form: a line `file: PATH`, then pairs of lines `old: TEXT` and `new: TEXT`; TEXT occurs once in the file.
 
-Each is tried in a copy of the tree, over the libraries that the crates below have in their out/. If a body changes only
-functions, only these are checked (`rt check --only`), which takes 10 to 60 seconds, most of it loading; otherwise the
-whole crate is, over what `rt check` kept. As many run in parallel as --jobs says, or as there are processors. Each
-body has a row as soon as it was tried, with the seconds that it took:
+They are tried in a copy of the tree, over the libraries that the crates below have in their out/. Those that change only functions,
+each another one, are tried in one check of these functions (`rt check --only`), since a contract is all that one function knows of
+another; what such a check does not decide is tried alone. A body that changes more is tried by a check of its whole crate, over what
+`rt check` kept. As many crates are tried in parallel as --jobs says, or as there are processors. Each body has a row as soon as it was
+tried, with the seconds that it took, or its share of a check:
 
   clause    refused: a clause of the edited function, or what its type promises, is left open. Only this says by itself that the
             contract rules the body out
@@ -20,9 +21,10 @@ body has a row as soon as it was tried, with the seconds that it took:
   PASSED    the crate is proved with it, or would be without a proof written by hand: the contract is too weak
   BAD       it cannot be applied, or the check ended without a verdict, or not within an hour
 
-Results are kept in out/wrong_bodies, by a checksum of the body, of its crate and the crates below it, and of the kit.
-So an interrupted run continues where it stopped; a row that was kept says so in place of the seconds. `--anew` tries
-all again, `--list` tries none and lists those that would be tried. BAD is not kept.
+Results are kept in tools/wrong_bodies/results.json, which belongs to the repository. A body whose row was made over the same text of its
+crate is not tried again, so a run after a change tries the bodies of the crates that changed, and an interrupted run continues where it
+stopped. `--below` keeps only rows that were made over the same text of the crates below too, and with the same kit; the table counts
+the others. `--anew` tries all again, `--list` tries none and lists those that would be tried. BAD is not kept.
 
 At the end there is a table by crate, and a last line with the sums. The status is 0 if each body was tried, and is refused.
 """
@@ -31,6 +33,7 @@ import argparse
 import collections
 import functools
 import hashlib
+import json
 import os
 import queue
 import re
@@ -43,7 +46,7 @@ import time
 
 ROOT = os.path.dirname(os.path.dirname(os.path.abspath(__file__)))
 BODIES = os.path.join(ROOT, "tools", "wrong_bodies")
-KEPT = os.path.join(ROOT, "out", "wrong_bodies")
+KEPT = os.path.join(BODIES, "results.json")
 WORDS = ("clause", "premise", "answer", "form", "PASSED", "BAD")
 # How long a check may take.
 SECONDS = 3600
@@ -74,13 +77,9 @@ def kit():
 
 
 @functools.cache
-def checksum_of(crate):
-    """A checksum of all that a check of the crate reads."""
-    below, line = stands_on().get(crate, ([], ""))
-    it = hashlib.sha256(kit() + line.encode())
-    for name in sorted(below):
-        if os.path.isdir(os.path.join(ROOT, "crates", name)):
-            it.update(checksum_of(name).encode())
+def checksum_of_text(crate):
+    """A checksum of the text of a crate."""
+    it = hashlib.sha256()
     for part in ("src", "specs", "proofs"):
         for folder, folders, files in os.walk(os.path.join(ROOT, "crates", crate, part)):
             folders.sort()
@@ -92,29 +91,49 @@ def checksum_of(crate):
     return it.hexdigest()
 
 
-def checksum_of_body(crate, body):
+@functools.cache
+def checksum_below(crate):
+    """A checksum of all that a check of the crate reads beside its text."""
+    below, line = stands_on().get(crate, ([], ""))
+    it = hashlib.sha256(kit() + line.encode())
+    for name in sorted(below):
+        if os.path.isdir(os.path.join(ROOT, "crates", name)):
+            it.update((checksum_of_text(name) + checksum_below(name)).encode())
+    return it.hexdigest()
+
+
+def checksums_of(crate, body):
+    """That of a body and the text of its crate, and that of all else."""
     with open(body, "rb") as file:
-        return hashlib.sha256(checksum_of(crate).encode() + file.read()).hexdigest()
+        return hashlib.sha256(checksum_of_text(crate).encode() + file.read()).hexdigest()[:16], checksum_below(crate)[:16]
 
 
 class Kept:
-    """What earlier runs learned: a line a body, `CHECKSUM WORD CRATE/NAME: LINE`, written as soon as it is known."""
+    """What earlier runs learned: a row a body, which is written as soon as it is known."""
 
     def __init__(self):
-        os.makedirs(os.path.dirname(KEPT), exist_ok=True)
-        self.found = {}
+        self.rows = {}
         if os.path.exists(KEPT):
-            with open(KEPT, encoding="utf-8", errors="replace") as file:
-                for line in file:
-                    checksum, word, *rest = line.rstrip("\n").split(" ", 2)
-                    # (a line that was cut has no end)
-                    if line.endswith("\n") and len(checksum) == 64 and word in WORDS and rest:
-                        self.found[checksum] = (word, rest[0].partition(": ")[2])
+            with open(KEPT, encoding="utf-8") as file:
+                self.rows = json.load(file)
 
-    def add(self, checksum, word, name, line):
-        if word != "BAD":
-            with open(KEPT, "a", encoding="utf-8") as file:
-                file.write(f"{checksum} {word} {name}: {line}\n")
+    def of(self, crate, name, body, strictly):
+        """The word and the line that an earlier run learned of a body, and whether the crates below and the kit were the same."""
+        row = self.rows.get(f"{crate}/{name}")
+        text, below = checksums_of(crate, body)
+        if row is None or row["text"] != text or (strictly and row["below"] != below):
+            return None
+        return row["word"], row["line"], row["below"] == below
+
+    def add(self, crate, name, body, word, line):
+        if word == "BAD":
+            return
+        text, below = checksums_of(crate, body)
+        self.rows[f"{crate}/{name}"] = {"word": word, "text": text, "below": below, "line": line}
+        rows = ",\n".join(f"  {json.dumps(it)}: {json.dumps(self.rows[it], ensure_ascii=False)}" for it in sorted(self.rows))
+        with open(f"{KEPT}.new", "w", encoding="utf-8") as file:
+            file.write(f"{{\n{rows}\n}}\n")
+        os.replace(f"{KEPT}.new", KEPT)
 
 
 def bodies_of(crate):
@@ -132,44 +151,92 @@ SEVERAL = re.compile(r"several functions are named `\w+`: help: write one of (.*
 FUNCTION = re.compile(r"^( *)(?:pub(?:\([a-z]+\))? )?(?:const )?fn (\w+)", re.M)
 
 
-def function_at(text, at):
-    """The name of the function whose body has that place of a text, if there is one."""
+IMPL = re.compile(r"^impl\b(.*)$", re.M)
+
+
+class Function:
+    """A function of a file whose body, or some of it, is at a place of the text."""
+
+    def __init__(self, text, path, found, ends):
+        self.path, self.name, self.start, self.ends = path, found[2], found.start(), ends
+        # (the type whose method it is: the last word of the `impl` in which it stands, without what is in angle brackets)
+        impls = [it for it in IMPL.finditer(text, 0, found.start()) if text.find("\n}", it.end()) > found.start()] if found[1] else []
+        head = impls[-1][1] if impls else ""
+        while "<" in head and (bare := re.sub(r"<[^<>]*>", "", head)) != head:
+            head = bare
+        trait, _, owner = head.split("{")[0].partition(" for ")
+        word = (owner or trait).strip().split(" ")[0].rpartition("::")[2]
+        self.owner, self.is_of_trait = word, bool(owner)
+
+    def module(self):
+        """The words of its module's path."""
+        words = re.sub(r"^src/|(/?\b(mod|lib|main))?\.rt$", "", self.path).split("/")
+        return [it for it in words if it]
+
+    def named(self, crate):
+        """Its name with its path, if that can be told."""
+        return None if self.is_of_trait else "::".join([crate, *self.module(), *([self.owner] if self.owner else []), self.name])
+
+    def is_called(self, path):
+        """Whether a path that a check tells is its."""
+        words = path.split("::")
+        between = words[1 + len(self.module()):-1]
+        if words[1:1 + len(self.module())] != self.module() or words[-1] != self.name or len(between) != bool(self.owner):
+            return False
+        # (the name of the trait may stand behind that of the type, and what the type is of)
+        return not self.owner or between[0] == self.owner or between[0].startswith(self.owner if self.is_of_trait else f"{self.owner}+")
+
+    def is_answered_in(self, path):
+        """Whether a file of proofs, by its path in the crate's folder, is of it."""
+        words = path.split("/")[1:-1]
+        return self.is_called("::".join(["", *words]))
+
+
+def function_at(text, at, path=""):
+    """The function whose body has that place of a text, if there is one."""
     found = [it for it in FUNCTION.finditer(text) if it.start() <= at]
     if not found:
         return None
-    indent, name = found[-1].groups()
+    indent = found[-1][1]
     # (the body begins with a brace that stands alone, or that ends a line of the signature)
     begins = re.compile(rf"^(?:{indent}\{{|.*\) (?:-> .*)?\{{)$", re.M).search(text, found[-1].start())
     ends = text.find(f"\n{indent}}}", begins.end()) if begins else -1
-    return name if begins and begins.end() <= at < ends else None
+    return Function(text, path, found[-1], ends) if begins and begins.end() <= at < ends else None
 
 
-def edited(body, folder):
-    """What a body changes: the texts of the files, by their path in the crate's folder, and the names of the functions, or None where it
-    changes more than functions. A ValueError says why it can't be applied."""
-    texts, path, old, names = {}, "", None, set()
+def pairs_of(body):
+    """What a body replaces by what: for each the path of a file, the old and the new text. A ValueError says why it can't be read."""
+    found, path, old = [], "", None
     with open(body, encoding="utf-8") as file:
         lines = file.read().split("\n")
     for line in lines:
         if line.startswith("file: "):
             path = line[len("file: "):].strip()
-            if path not in texts:
-                with open(os.path.join(folder, path), encoding="utf-8") as file:
-                    texts[path] = file.read()
         elif line.startswith("old: "):
             old = line[len("old: "):]
         elif line.startswith("new:"):
-            new = line[len("new:"):].removeprefix(" ")
             if not path or old is None:
                 raise ValueError("a line `new:` without `file:` and `old:` before it")
-            if texts[path].count(old) != 1:
-                raise ValueError(f"an `old:` text stands {texts[path].count(old)} times in {path}")
-            names.add(function_at(texts[path], texts[path].index(old)) if path.endswith(".rt") else None)
-            texts[path] = texts[path].replace(old, new)
+            found.append((path, old, line[len("new:"):].removeprefix(" ")))
             old = None
-    if not texts:
+    if not found:
         raise ValueError("it changes nothing")
-    return texts, None if None in names else names
+    return found
+
+
+def edited(body, folder, texts=None):
+    """What a body changes: the texts of the files, by their path in the crate's folder, and the functions, or None where it changes more
+    than functions. `texts` are those that other bodies changed before. A ValueError says why it can't be applied."""
+    texts, functions = dict(texts or {}), []
+    for path, old, new in pairs_of(body):
+        if path not in texts:
+            with open(os.path.join(folder, path), encoding="utf-8") as file:
+                texts[path] = file.read()
+        if texts[path].count(old) != 1:
+            raise ValueError(f"an `old:` text stands {texts[path].count(old)} times in {path}")
+        functions.append(function_at(texts[path], texts[path].index(old), path) if path.endswith(".rt") else None)
+        texts[path] = texts[path].replace(old, new)
+    return texts, None if None in functions else functions
 
 
 def adds_a_helper(body):
@@ -179,6 +246,39 @@ def adds_a_helper(body):
     old = [len(re.findall(r"\bfn \w+", line)) for line in lines if line.startswith("old: ")]
     new = [line for line in lines if line.startswith("new:")]
     return any(len(re.findall(r"\bfn \w+", it)) > was and it.count("ensures") < len(re.findall(r"\bfn \w+", it)) - was for it, was in zip(new, old))
+
+
+def part_of(said, functions, texts):
+    """What a check of many functions says of these: the lines of theirs, and whether each was proved. None where it was not checked."""
+    kept, of_these, refused, proved = [], False, False, False
+    for line in said.split("\n"):
+        place = re.match(r"(?:note: )?(?:\./)?(src/\S+?):(\d+):\d+: ", line)
+        answer = re.match(r"(?:\./)?(proofs/\S+\.antt):\d+:\d+: ", line)
+        told = re.match(r"fn (\S+): (.*)", line)
+        if place:
+            text = texts.get(place[1], "")
+            at = sum(len(it) + 1 for it in text.split("\n")[:int(place[2]) - 1])
+            of_these = any(it.path == place[1] and is_within(text, it, at) for it in functions)
+        elif answer:
+            of_these = any(it.is_answered_in(answer[1]) for it in functions)
+        elif told:
+            of_these = any(it.is_called(told[1]) for it in functions)
+            refused |= of_these and told[2] != "proved"
+            proved |= of_these and told[2] == "proved"
+        elif not line.startswith(" "):
+            of_these = False
+        if of_these:
+            kept.append(line)
+    return ("\n".join(kept), refused) if refused or proved else None
+
+
+def is_within(text, function, at):
+    """Whether a place of a text that was changed is in a function, from its head to the brace that ends it."""
+    found = [it for it in FUNCTION.finditer(text) if it.start() <= at]
+    heads = [it.start() for it in FUNCTION.finditer(text) if it[2] == function.name]
+    return bool(found) and found[-1][2] == function.name and (
+        len(heads) == 1 or Function(text, function.path, found[-1], 0).owner == function.owner
+    )
 
 
 def misfits(said):
@@ -260,35 +360,86 @@ class Lane:
         self.copied.discard(crate)
 
     def tried(self, crate, body):
+        """Tries a body alone."""
         folder = os.path.join(self.room, "crates", crate)
         try:
-            texts, names = edited(body, folder)
+            texts, functions = edited(body, folder)
         except (ValueError, OSError) as error:
             return "BAD", str(error)
-        if names is None:
-            self.kept(crate)
-        before = {}
-        for path, text in texts.items():
-            with open(os.path.join(folder, path), encoding="utf-8") as file:
-                before[path] = file.read()
-            self.write(folder, path, text)
-        status, said = self.check(folder, names or ())
-        several = SEVERAL.search(said)
-        if several:
-            # (of functions that share a name, those of the files that are changed)
-            modules = ["::".join([crate, *re.sub(r"^src/|(/mod|/lib)?\.rt$", "", path).split("/")]).removesuffix("::lib") for path in texts]
-            names = [it for it in re.findall(r"`([^`]+)`", several[1]) if it.rpartition("::")[0].startswith(tuple(modules))]
-            if not names:
-                self.kept(crate)
-            status, said = self.check(folder, names)
+        self.kept(crate)
+        before = self.put(folder, texts)
+        status, said = self.check_these(crate, folder, functions or ())
         word, line = verdict(status, said, texts, adds_a_helper(body))
         if word == "answer":
-            word, line = self.tried_without(folder, names or (), misfits(said), texts, line)
-        for path, text in before.items():
-            self.write(folder, path, text)
+            word, line = self.tried_without(crate, folder, functions or (), misfits(said), line)
+        self.put(folder, before)
         return word, line
 
-    def tried_without(self, folder, names, files, texts, line):
+    def tried_together(self, crate, bodies):
+        """Tries bodies, each of which changes other functions, in one check, and gives what that decides: a word and a line by name."""
+        folder = os.path.join(self.room, "crates", crate)
+        texts, functions = {}, {}
+        for name, body in bodies:
+            texts, functions[name] = edited(body, folder, texts)
+        self.kept(crate)
+        before = self.put(folder, texts)
+        told, aside = {}, {}
+        status, said = self.check_these(crate, folder, [it for those in functions.values() for it in those])
+        if status and re.search(r"^only=\d+ proved=\d+", said, re.M):
+            told = self.decided(said, bodies, functions, texts)
+            aside = {name: self.answers_of(folder, said, functions[name]) for name, (word, _) in told.items() if word == "answer"}
+            aside = {name: files for name, files in aside.items() if files}
+        if aside:
+            kept = {path: text for files in aside.values() for path, text in files.items()}
+            for path in kept:
+                os.remove(os.path.join(folder, path))
+            status, said = self.check_these(crate, folder, [it for name in aside for it in functions[name]])
+            self.put(folder, kept)
+            for name in aside:
+                found = part_of(said, functions[name], texts) if status else None
+                # (what is proved without its answers is tried alone, as is what this check does not tell)
+                if found is None or not found[1]:
+                    del told[name]
+                else:
+                    goals = sorted({it[1] for it in map(OPEN.match, found[0].split("\n")) if it})
+                    told[name] = ("answer", f"{told[name][1]} (open without it: {', '.join(goals) or 'none is told'})"[:240])
+        self.put(folder, before)
+        return told
+
+    @staticmethod
+    def decided(said, bodies, functions, texts):
+        """What a check of many functions says of each body, as far as it tells."""
+        told = {}
+        for name, body in bodies:
+            found = part_of(said, functions[name], texts)
+            if found is not None and found[1]:
+                word, line = verdict(1, f"{found[0]}\nonly=2 proved=1\n", texts, adds_a_helper(body))
+                if word in ("clause", "premise", "answer") or (word == "form" and line):
+                    told[name] = (word, line)
+        return told
+
+    @staticmethod
+    def answers_of(folder, said, functions):
+        """The files of answers of these functions that do not fit, with their texts."""
+        found = {}
+        for path in misfits(said):
+            if os.path.basename(path) == "Answers.antt" and any(it.is_answered_in(path) for it in functions):
+                with open(os.path.join(folder, path), encoding="utf-8") as file:
+                    found[path] = file.read()
+        return found
+
+    def put(self, folder, texts):
+        """Writes texts of files, and gives those that stood there."""
+        before = {}
+        for path, text in texts.items():
+            if os.path.exists(os.path.join(folder, path)):
+                with open(os.path.join(folder, path), encoding="utf-8") as file:
+                    before[path] = file.read()
+            with open(os.path.join(folder, path), "w", encoding="utf-8") as file:
+                file.write(text)
+        return before
+
+    def tried_without(self, crate, folder, functions, files, line):
         """Tries a body again without the answers that do not fit: then some goal is left open too, or else the contract lets it through."""
         aside = {}
         for path in files:
@@ -298,13 +449,42 @@ class Lane:
                 os.remove(os.path.join(folder, path))
         if not aside:
             return "answer", line
-        status, said = self.check(folder, names)
-        for path, text in aside.items():
-            self.write(folder, path, text)
+        status, said = self.check_these(crate, folder, functions)
+        self.put(folder, aside)
         if status == 0:
             return "PASSED", f"without {', '.join(aside)}"
         open_goals = sorted({it[1] for it in map(OPEN.match, said.split("\n")) if it})
         return "answer", f"{line} (open without it: {', '.join(open_goals) or 'none is told'})"[:240]
+
+    def check_these(self, crate, folder, functions):
+        """Checks these functions, or the whole crate if there are none."""
+        names = {}
+        for it in functions:
+            names[it.name if self.count(crate, it.name) == 1 else it.named(crate) or it.name] = it
+        for _ in range(1 + len(names)):
+            status, said = self.check(folder, names)
+            several = SEVERAL.search(said)
+            if not several:
+                break
+            # (of functions that share a name, those that were meant)
+            told = re.findall(r"`([^`]+)`", several[1])
+            short = told[0].rpartition("::")[2]
+            meant = [it for it in functions if it.name == short]
+            names.pop(short, None)
+            names.update({path: it for it in meant for path in told if it.is_called(path)})
+            if short in names or not names:
+                break
+        return status, said
+
+    @functools.cache
+    def count(self, crate, name):
+        """How many functions of a crate have a name."""
+        found = 0
+        for folder, _, files in os.walk(os.path.join(ROOT, "crates", crate, "src")):
+            for it in files:
+                with open(os.path.join(folder, it), encoding="utf-8") as file:
+                    found += len(re.findall(rf"\bfn {name}\b", file.read()))
+        return found
 
     @staticmethod
     def check(folder, names):
@@ -316,32 +496,70 @@ class Lane:
             return 1, f"error: no verdict within {SECONDS} s"
         return ran.returncode, ran.stdout
 
-    @staticmethod
-    def write(folder, path, text):
-        with open(os.path.join(folder, path), "w", encoding="utf-8") as file:
-            file.write(text)
-
 
 def show(crate, name, word, line, took):
     print(f"{word:7} {took:>7}  {crate}/{name}{': ' + line if line else ''}", flush=True)
+
+
+def rounds_of(crate, bodies):
+    """Bodies that can be tried together, a list a round, and those that cannot."""
+    folder, rounds, alone = os.path.join(ROOT, "crates", crate), [], []
+    for name, body in bodies:
+        try:
+            _, functions = edited(body, folder)
+        except (ValueError, OSError):
+            functions = None
+        if functions is None:
+            alone.append((name, body))
+            continue
+        those = {(it.path, it.owner, it.name) for it in functions}
+        for it in rounds:
+            try:
+                texts, changed = edited(body, folder, it["texts"])
+            except ValueError:
+                continue
+            # (an edit that stands in what another one wrote is of no function of its own)
+            if changed and not those & it["functions"] and those == {(one.path, one.owner, one.name) for one in changed}:
+                it["bodies"].append((name, body))
+                it["functions"] |= those
+                it["texts"] = texts
+                break
+        else:
+            rounds.append({"bodies": [(name, body)], "functions": those, "texts": edited(body, folder)[0]})
+    alone += [it["bodies"][0] for it in rounds if len(it["bodies"]) == 1]
+    return [it["bodies"] for it in rounds if len(it["bodies"]) > 1], alone
 
 
 def work(wanted, told, lock, kept):
     """Takes crates off a queue, and tries their bodies."""
     with tempfile.TemporaryDirectory(prefix="bodies-") as room:
         lane = Lane(room)
+
+        def learn(crate, name, body, word, line, took):
+            with lock:
+                told[crate, name] = (word, took, True)
+                kept.add(crate, name, body, word, line)
+                show(crate, name, word, line, f"{took:.0f} s")
+
         while True:
             try:
                 crate, bodies = wanted.get_nowait()
             except queue.Empty:
                 return
-            for name, body in bodies:
+            together, alone = rounds_of(crate, bodies)
+            for those in together:
+                start = time.time()
+                found = lane.tried_together(crate, those)
+                took = (time.time() - start) / len(those)
+                for name, body in those:
+                    if name in found:
+                        learn(crate, name, body, *found[name], took)
+                    else:
+                        alone.append((name, body))
+            for name, body in alone:
                 start = time.time()
                 word, line = lane.tried(crate, body)
-                with lock:
-                    told[crate, name] = (word, time.time() - start)
-                    kept.add(checksum_of_body(crate, body), word, f"{crate}/{name}", line)
-                    show(crate, name, word, line, f"{time.time() - start:.0f} s")
+                learn(crate, name, body, word, line, time.time() - start)
             lane.leave(crate)
 
 
@@ -361,22 +579,24 @@ def read_words():
     words.add_argument("-h", "--help", action="help", help=argparse.SUPPRESS)
     words.add_argument("--jobs", type=int, default=os.cpu_count(), help=argparse.SUPPRESS)
     words.add_argument("--anew", action="store_true", help=argparse.SUPPRESS)
+    words.add_argument("--below", action="store_true", help=argparse.SUPPRESS)
     words.add_argument("--list", action="store_true", help=argparse.SUPPRESS)
     words.add_argument("names", nargs="*", help=argparse.SUPPRESS)
     return words.parse_args()
 
 
-def known_of(found, kept, told):
+def known_of(found, kept, told, strictly):
     """Takes what earlier runs learned, and gives what is left to be tried."""
     left = []
     for crate, bodies in found:
         still = []
         for name, body in bodies:
-            word, line = kept.found.get(checksum_of_body(crate, body), (None, ""))
-            if word is None:
+            known = kept.of(crate, name, body, strictly)
+            if known is None:
                 still.append((name, body))
             else:
-                told[crate, name] = (word, 0)
+                word, line, is_same = known
+                told[crate, name] = (word, 0, is_same)
                 show(crate, name, word, line, "kept")
         if still:
             left.append((crate, still))
@@ -385,10 +605,11 @@ def known_of(found, kept, told):
 
 def summed(told):
     """Sums by crate, and of all."""
-    sums, seconds = collections.defaultdict(collections.Counter), collections.Counter()
-    for (crate, _), (word, took) in told.items():
+    sums, seconds, other = collections.defaultdict(collections.Counter), collections.Counter(), 0
+    for (crate, _), (word, took, is_same) in told.items():
         sums[crate][word] += 1
         seconds[crate] += took
+        other += not is_same
     print(f"{'crate':20} {'bodies':>6}" + "".join(f" {word:>7}" for word in WORDS) + "  seconds")
     for crate, counts in sorted(sums.items()):
         print(f"{crate:20} {sum(counts.values()):>6}" + "".join(f" {counts[word]:>7}" for word in WORDS) + f" {seconds[crate]:>8.0f}")
@@ -397,6 +618,8 @@ def summed(told):
         f"{len(told)} wrong bodies refused: {counts['clause']} by a clause, {counts['premise']} at a premise, {counts['answer']} at an answer, "
         f"{counts['form']} for their form; {counts['PASSED']} passed, {counts['BAD']} bad"
     )
+    if other:
+        print(f"{other} of these rows were made over other text of the crates below, or with another kit (--below tries them again)")
     return 1 if counts["PASSED"] or counts["BAD"] else 0
 
 
@@ -409,16 +632,15 @@ def main():
     wanted, told, lock, kept = queue.Queue(), {}, threading.Lock(), Kept()
     count = sum(len(bodies) for _, bodies in found)
     if not words.anew:
-        found = known_of(found, kept, told)
+        found = known_of(found, kept, told, words.below)
     if words.list:
         for crate, bodies in found:
             for name, _ in bodies:
                 show(crate, name, "-", "", "to try")
         return 0
-    # (those of the largest crates first, a few at a time, so that none is left alone at the end)
+    # (those of the largest crates first, so that none is left alone at the end)
     for crate, bodies in sorted(found, key=lambda it: -len(it[1])):
-        for at in range(0, len(bodies), 8):
-            wanted.put((crate, bodies[at:at + 8]))
+        wanted.put((crate, bodies))
     lanes = [threading.Thread(target=work, args=(wanted, told, lock, kept)) for _ in range(min(max(1, words.jobs), wanted.qsize()))]
     for lane in lanes:
         lane.start()
