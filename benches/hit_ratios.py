@@ -5,6 +5,7 @@
     python3 benches/hit_ratios.py own FILE CAPACITY..      a trace of your own, one key per line
     python3 benches/hit_ratios.py check [N]                compares model and cache on the first N keys of each trace, by default 10,000
     python3 benches/hit_ratios.py server TRACE             the keys over sockets, one round trip each, to `cached --config`
+    python3 benches/hit_ratios.py shards [TRACE..]         by number of shards, by the model alone; fills figures.json
 
 The cache of this repository is driven by the program `transcript`, which replays lines on a service: for each trace, policy and
 capacity a model in Python (reference_model.py) predicts which keys are found, the lines are made from that, and each reply has to be what
@@ -33,6 +34,8 @@ CAPACITIES = (500, 5_000)
 POLICIES = ("tinylfu", "lru")
 CHECKED, CHECKED_CAPACITY = 10_000, 200
 LINES_A_PIECE = 100
+# The last count leaves each shard a share of 79 values.
+SHARDS, SHARDED_CAPACITY = (1, 4, 16, 32, 64), 5_000
 NO_PACKAGE = 3
 
 
@@ -126,6 +129,39 @@ def row_of(name, keys, capacities, hashes):
     return {**row, **by_caffeine(name, keys, capacities)}
 
 
+class Shards:
+    """A cache of 2^bits shards, each a model with its share of the capacity, rounded up. The upper bits of its hash choose a key's shard."""
+
+    def __init__(self, policy, capacity, hash_of, bits):
+        self.bits, self.hash_of = bits, hash_of
+        share = -(-capacity >> bits)
+        self.models = [reference_model.Model(policy, share, hash_of) for _ in range(1 << bits)]
+
+    def model_of(self, key):
+        return self.models[self.hash_of(key) >> 64 - self.bits]
+
+    def get(self, key):
+        return self.model_of(key).get(key)
+
+    def put(self, key):
+        self.model_of(key).put(key)
+
+
+def ratio_by_shards(name, keys, hashes, policy, count):
+    """The hit ratio of so many shards on a trace."""
+    progress.show(f"{name}: {policy}, {count} shards")
+    return percent(reference_model.found_in(Shards(policy, SHARDED_CAPACITY, hashes.of, count.bit_length() - 1), keys))
+
+
+def measure_shards(named):
+    """The hit ratios by number of shards on traces, one row after the other."""
+    hashes = Hashes()
+    for name, keys in named:
+        row = {f"{policy} {count}": ratio_by_shards(name, keys, hashes, policy, count) for policy in POLICIES for count in SHARDS}
+        print_row(name, row)
+        yield name, row
+
+
 class Namespaces(connections.Server):
     """A server of a namespace for each policy and capacity, with a connection to each."""
 
@@ -210,6 +246,9 @@ def main():
         list(measure([("own", own_trace(words[1]))], [int(word) for word in words[2:]]))
     elif words[:1] == ["check"] and len(words) <= 2 and all(word.isdigit() for word in words[1:]):
         check(*map(int, words[1:] or [CHECKED]))
+    elif words[:1] == ["shards"] and all(word in traces.TRACES for word in words[1:]):
+        for name, row in measure_shards((name, traces.trace(name)) for name in words[1:] or traces.TRACES):
+            figures.keep("shards", {name: row})
     elif all(word in traces.TRACES for word in words):
         named = ((name, traces.trace(name)) for name in words or traces.TRACES)
         for name, row in measure(named, CAPACITIES):

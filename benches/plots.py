@@ -26,6 +26,10 @@ COLOURS = {
     "plain server": "#8a8a8a",
     "the cache of one part": "#0072b2",
     "LruCache": "#8a8a8a",
+    "Cache": "#e69f00",
+    "ShardedCache": "#0072b2",
+    "LruCache in 16 pieces": "#cc79a7",
+    **{str(count): colour for count, colour in zip((1, 4, 16, 32, 64), ("#0072b2", "#56b4e9", "#009e73", "#e69f00", "#d55e00"))},
 }
 FONT = "font-family='Helvetica, Arial, sans-serif'"
 
@@ -180,14 +184,55 @@ def draw_calls(kept, measured):
     return picture.made(f"one thread, keys by Zipf's law, key and value of 8 bytes; measured {measured}")
 
 
-PICTURES = {"hit_ratios": draw_ratios, "requests": draw_requests, "calls": draw_calls}
+SHARED_NAMES = {"moka": "Cache", "shards": "ShardedCache", "caffeine": "Caffeine", "lru": "LruCache", "pieces": "LruCache in 16 pieces"}
+WORK_NAMES = {"mix": "nine look-ups and a write, all keys held", "load": "look-ups of twice as many keys as are held, and a write after each miss"}
+
+
+def draw_threads(kept, measured):
+    """Million calls a second by threads, a panel a size and a work."""
+    panels = {}
+    timed = [(name.split(), row) for name, row in kept.items() if "moka millions" in row]
+    for (work, size, count), row in timed:
+        values = {shown: row.get(f"{name} millions") for name, shown in SHARED_NAMES.items()}
+        panels.setdefault(f"{WORK_NAMES[work]}; {int(size):,} values", []).append((f"{count} thread{'s' * (count != '1')}", values))
+    series = [shown for shown in SHARED_NAMES.values() if any(values[shown] is not None for rows in panels.values() for _, values in rows)]
+    picture = Picture(980, 100 + 262 * len(panels), "Throughput by threads")
+    picture.text(24, 34, "Million calls a second by threads", 19, weight="bold")
+    picture.keys(24, 62, series)
+    for place, (about, rows) in enumerate(panels.items()):
+        top = 112 + 262 * place
+        picture.text(24, top - 18, about, 14, weight="bold")
+        panel = Panel(picture, 62, top, 894, 186, most_of([value for _, values in rows for value in values.values() if value]))
+        panel.axis(5)
+        panel.groups(rows, series, lambda value: f"{value:.1f}")
+    return picture.made(f"keys by Zipf's law, key and value of 8 bytes; measured {measured}")
+
+
+def draw_shards(kept, measured):
+    """Hit ratios by number of shards, a panel a policy."""
+    counts = sorted({name.split()[1] for row in kept.values() for name in row}, key=int)
+    policies = {"tinylfu": "TinyLFU", "lru": "LRU"}
+    picture = Picture(980, 100 + 262 * len(policies), "Hit ratios by number of shards")
+    picture.text(24, 34, "Hit ratios by number of shards, 5,000 values", 19, weight="bold")
+    picture.keys(24, 62, counts)
+    for place, (policy, shown) in enumerate(policies.items()):
+        top = 112 + 262 * place
+        picture.text(24, top - 18, shown, 14, weight="bold")
+        panel = Panel(picture, 62, top, 894, 186, 100, " %")
+        panel.axis(4)
+        panel.groups([(name, {count: row.get(f"{policy} {count}") for count in counts}) for name, row in kept.items()], counts, lambda value: f"{value:.0f}")
+    return picture.made(f"200,000 requests a trace; measured {measured}")
+
+
+PICTURES = {"hit_ratios": draw_ratios, "requests": draw_requests, "calls": draw_calls, "threads": draw_threads, "shards": draw_shards}
 
 
 def all_made():
     """By path all that is made of the figures."""
     kept = figures.all_figures()
     for kind, draw in PICTURES.items():
-        yield ROOT / f"docs/{kind}.svg", draw(kept[kind], kept["measured"][kind])
+        if any(kind != "threads" or "moka millions" in row for row in kept.get(kind, {}).values()):
+            yield ROOT / f"docs/{kind}.svg", draw(kept[kind], kept["measured"][kind])
     for name in DOCUMENTS:
         yield ROOT / name, tables.filled((ROOT / name).read_text(encoding="utf-8"))
 

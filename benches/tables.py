@@ -22,7 +22,8 @@ def table(head, rows):
 
 
 def requests(kept):
-    names = {"cached": "`cached`", "redis": "Redis", "memcached": "memcached", "plain": "`plain_server`"}
+    names = {"cached": "`cached`", "bivrangd": "`bivrangd`", "redis": "Redis", "memcached": "memcached", "plain": "`plain_server`"}
+    names = {name: said for name, said in names.items() if any(name in of for of in kept["requests"].values())}
     rows = [[*row.split(), *(shown(of.get(name), 1) for name in names)] for row, of in kept["requests"].items()]
     return table(["Connections", "Depth", *names.values()], rows)
 
@@ -83,12 +84,29 @@ def structures(kept):
     return table(["Structure", "Look-up", "Removal and insertion", "Bytes"], rows)
 
 
+SHARED_NAMES = {
+    "moka": "`Cache`",
+    "shards": "`ShardedCache`, 64 shards",
+    "caffeine": "Caffeine",
+    "lru": "`LruCache` under a lock",
+    "pieces": "`LruCache` in 16 pieces",
+}
+
+
 def threads(kept):
-    rows = [
-        [count, f"{shown(row['moka'])} ns", f"{shown(row['lru'])} ns", shown(row["factor"], 1)]
-        for count, row in kept["threads"].items()
-    ]
-    return table(["Threads", "`moka_sync`", "`LruCache` under a lock", "Ratio"], rows)
+    def cell(row, name):
+        millions, nanos = row.get(f"{name} millions"), row.get(name)
+        return shown(nanos) + (" ns" if nanos is not None else "") + (f", {millions:.1f}" if millions is not None else "")
+
+    rows = [(*name.split(), row) for name, row in kept["threads"].items()]
+    measured = [[work, f"{int(size):,}", count, *(cell(row, name) for name in SHARED_NAMES)] for work, size, count, row in rows]
+    return table(["Work", "Values", "Threads", *SHARED_NAMES.values()], measured)
+
+
+def shards(kept):
+    counts = sorted({int(name.split()[1]) for row in kept["shards"].values() for name in row})
+    rows = [[name, *(shown(row.get(f"{policy} {count}"), 1) for policy in ("tinylfu", "lru") for count in counts)] for name, row in kept["shards"].items()]
+    return table(["Trace", *(f"{policy}, {count}" for policy in ("TinyLFU", "LRU") for count in counts)], rows)
 
 
 def crafted(kept):
@@ -123,9 +141,11 @@ def judge(kept):
 def server(kept):
     lines, line = kept["million_lines"]["a million lines"]["seconds"], kept["instructions"]["a line"]
     memory, soak, made = kept["memory"]["cached"]["bytes"], kept["soak"]["cached"], kept["calls_made"]["GET a"]
+    idle = kept["idle"]["bivrangd"]["bytes"]
     rows = [
         ("million_lines", "`million_lines.py`", f"{shown(lines, 2)} s of processor time", "1 s"),
         ("memory", "`connections.py memory`", f"{memory} bytes per value in addition to key and value: a million values of 32 bytes, keys of 16", "200"),
+        ("idle", "`connections.py idle`", f"{idle} bytes for each of 5,000 idle connections of `bivrangd`", "350"),
         ("soak", "`connections.py soak`", f"at most {soak['first quarter']} MiB in the first quarter of a million requests, {soak['last quarter']} MiB in the last", "flat"),
         ("instructions", "`instructions.py`", f"{shown(line['cached'])} instructions per line, `plain_server` {shown(line['plain_server'])}: "
          f"{line['cached'] / line['plain_server']:.2f} times", "1,400, and 1.3 times"),
@@ -168,6 +188,7 @@ TABLES = {
     "judge": ("judge", judge),
     "reading": ("reading", reading),
     "hit ratios": ("hit_ratios", ratios),
+    "shards": ("shards", shards),
 }
 
 

@@ -25,8 +25,8 @@ import progress  # noqa: E402
 
 SHAPES = [(100, 1000), (20, 60), (1000, 5000), (3, 10), (1, 1)]
 CALLS = 20_000
-# A round goes through four caches: TinyLFU and LRU, of one segment and of four.
-CACHES = 4
+# A round goes through eight caches: TinyLFU and LRU, of one segment and of four, of one shard and of four.
+CACHES = 8
 RIGHT = re.compile(r"(\d+) values, each told once\n")
 
 

@@ -6,6 +6,7 @@ import java.io.InputStreamReader;
 import java.lang.management.ManagementFactory;
 import java.lang.management.ThreadMXBean;
 import java.util.Arrays;
+import java.util.concurrent.atomic.AtomicLong;
 import java.util.function.IntFunction;
 
 /**
@@ -15,6 +16,9 @@ import java.util.function.IntFunction;
  * Bench ratios CAPACITY..         reads a trace (a key a line), and prints for each capacity how many of its keys were found
  * Bench times EXPONENT SIZE..     prints for each size and call the nanoseconds a call: median, least and greatest of the rounds
  * Bench memory SIZE..             prints for each size the bytes of heap that a value takes above key and value
+ * Bench threads EXPONENT WORK SIZE CALLS THREADS..
+ *                                 prints for each number of threads the processor nanoseconds a call and the million calls a second:
+ *                                 medians of the rounds. WORK is mix or load, as in crates/bench
  * </pre>
  *
  * A key that is not found is written. Maintenance runs on the caller's thread, so that its time counts. Times are processor time of
@@ -154,6 +158,70 @@ public final class Bench {
     System.out.printf("%d %s %.1f %.1f %.1f%n", size, work, nanos[ROUNDS / 2], nanos[0], nanos[ROUNDS - 1]);
   }
 
+  /** One thread's calls; the processor nanoseconds that they took. */
+  private static long callAll(Cache<Long, Long> cache, Long[] keys, String work, int from, int calls) {
+    long begun = THREADS.getCurrentThreadCpuTime();
+    long sum = 0;
+    for (int turn = 0; turn < calls; turn++) {
+      Long key = keys[(turn + from) % keys.length];
+      if (work.equals("load")) {
+        sum += fetch(cache, key);
+      } else if (turn % 10 == 9) {
+        cache.put(key, key);
+      } else {
+        Long value = cache.getIfPresent(key);
+        sum += value == null ? 0 : value;
+      }
+    }
+    long spent = THREADS.getCurrentThreadCpuTime() - begun;
+    if (sum == 42) {
+      System.err.println("(the sum is used)");
+    }
+    return spent;
+  }
+
+  /** The processor nanoseconds a call and the million calls a second of so many threads on a cache that was filled. */
+  private static double[] shared(Long[] keys, String work, int size, int calls, int count) throws InterruptedException {
+    Cache<Long, Long> cache = filled(size);
+    AtomicLong spent = new AtomicLong();
+    Thread[] threads = new Thread[count];
+    long begun = System.nanoTime();
+    for (int number = 0; number < count; number++) {
+      int from = number * 7919;
+      threads[number] = new Thread(() -> spent.addAndGet(callAll(cache, keys, work, from, calls)));
+      threads[number].start();
+    }
+    for (Thread thread : threads) {
+      thread.join();
+    }
+    double passed = System.nanoTime() - begun;
+    return new double[] {(double) spent.get() / count / calls, 1e3 * count * calls / passed};
+  }
+
+  /** The medians over the rounds. The first round warms the machine up, and is not counted. */
+  private static void share(Long[] keys, String work, int size, int calls, int count) throws InterruptedException {
+    double[][] rounds = new double[2][ROUNDS];
+    for (int round = -1; round < ROUNDS; round++) {
+      double[] measured = shared(keys, work, size, calls, count);
+      for (int which = 0; which < 2 && round >= 0; which++) {
+        rounds[which][round] = measured[which];
+      }
+    }
+    Arrays.sort(rounds[0]);
+    Arrays.sort(rounds[1]);
+    System.out.printf("%d %.1f %.3f%n", count, rounds[0][ROUNDS / 2], rounds[1][ROUNDS / 2]);
+  }
+
+  private static void shareAll(String[] words) throws InterruptedException {
+    int size = Integer.parseInt(words[3]);
+    int calls = Integer.parseInt(words[4]);
+    Long[] keys = drawKeys(Double.parseDouble(words[1]), words[2].equals("load") ? 2 * size : size);
+    for (int count : numbersFrom(words, 5)) {
+      System.err.printf("caffeine: %s at %,d by %d threads%n", words[2], size, count);
+      share(keys, words[2], size, calls, count);
+    }
+  }
+
   private static long usedBytes() throws InterruptedException {
     for (int turn = 0; turn < 4; turn++) {
       System.gc();
@@ -206,8 +274,9 @@ public final class Bench {
       case "ratios" -> printRatios(numbersFrom(words, 1));
       case "times" -> timeAll(Double.parseDouble(words[1]), numbersFrom(words, 2));
       case "memory" -> weigh(numbersFrom(words, 1));
+      case "threads" -> shareAll(words);
       default -> {
-        System.err.println("usage: Bench ratios CAPACITY.. | times EXPONENT SIZE.. | memory SIZE..");
+        System.err.println("usage: Bench ratios CAPACITY.. | times EXPONENT SIZE.. | memory SIZE.. | threads EXPONENT WORK SIZE CALLS THREADS..");
         System.exit(2);
       }
     }

@@ -1,5 +1,5 @@
 -- What a selector of a handle that holds an `rt` says, said of the key that it was made of.
-use Rattle.std.proofs.Common.{◌≡◌, subst, Bool, Option, Result, Ok}
+use Rattle.std.proofs.Common.{◌≡◌, subst, Option, Result, Ok}
 use Rattle.front_parts.specs.Access.Selecting.{ComputesEntry, PutsAlways, PutsEntry}
 use Rattle.front_parts.specs.declared.access.entry.CompResult.{CompResult}
 use Rattle.front_parts.specs.declared.access.entry.Entry.{Entry}

@@ -1,5 +1,5 @@
 -- What a turn may end with is what a call of its kind may answer.
-use Rattle.std.proofs.Common.{◌≡◌, true, false, Option, Some, None}
+use Rattle.std.proofs.Common.{◌≡◌, true, Some, None}
 use Rattle.front_parts.specs.Access.Answering.{Suits}
 use Rattle.front_reference.specs.declared.data.Made.{Made}
 use Rattle.front_reference.specs.declared.data.Made.TheVariants.{Value, Nothing, Fault}

@@ -8,3 +8,4 @@ pub mod Covering
 pub mod Showing
 pub mod Selecting
 pub mod Spreading
+pub mod Sizing

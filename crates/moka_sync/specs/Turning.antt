@@ -6,7 +6,6 @@ use Rattle.front_reference.specs.declared.data.Computed.{Computed}
 use Rattle.front_reference.specs.declared.data.Made.{Made}
 use Rattle.front_reference.specs.declared.data.Op.{Op}
 use Rattle.front_reference.specs.declared.data.TurnKind.{TurnKind}
-use Rattle.front_reference.specs.declared.errors.CacheError.{CacheError}
 use Rattle.moka_sync.specs.declared.turns.MakingStart.{MakingStart}
 use Rattle.moka_sync.specs.declared.turns.MakingStart.TheVariants.{Answered, Led, GivenUp}
 use Rattle.sync_desk.specs.Slots.Endings.{suits}

@@ -236,7 +236,7 @@ impl<
     >(
         &mut self,
         key: Shared<K>,
-        when: (),
+        _when: (),
         kind: Option<TurnKind>,
         replace_if: P,
         make: M,
@@ -250,14 +250,13 @@ impl<
         ensures err { OnErr result (self.new ≡ self.old) }
         ensures cause { IfErr result (IsMakingRefusal kind) }
     {
-        let _when = when;
         self.coalesce_at(key, kind, replace_if, make)
     }
 
     fn compute<X: Drop, D: FnOnce(Option<V>) -> Result<Op<V>, X> + Drop>(
         &mut self,
         key: Shared<K>,
-        when: (),
+        _when: (),
         decide: D,
     ) -> Result<Result<Computed<V>, X>, CacheError>
         requires exact { (x y : V) → V.is_clone x y → y ≡ x }
@@ -266,7 +265,6 @@ impl<
         ensures err { OnErr result (self.new ≡ self.old) }
         ensures cause { IfErr result IsEndRefusal }
     {
-        let _when = when;
         self.compute_at(key, decide)
     }
 }

@@ -186,7 +186,8 @@ impl<K: Eq + Hash + Drop, V: Clone + Drop, E: Env + Drop> SharedCache<
             .build(alloc, env)
     }
 
-    /// Returns a builder with this number of segments, and nothing else set.
+    /// Returns a builder with this number of segments, 1 to 65,536, rounded up to a power of two, and nothing else set. `build` refuses 0
+    /// (`NoSegments`) and greater numbers (`TooManySegments`).
     pub fn builder(segments: usize) -> PlainBuilder<Segmented>
         ensures { result.plan ≡ record blank { segments = segments } }
     {

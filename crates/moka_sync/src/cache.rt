@@ -162,7 +162,7 @@ impl<
         requires exact { (x y : V) → V.is_clone x y → y ≡ x }
         ensures cause { IfErr result IsShortage }
     {
-        let mut guard = self.inner.desks.of(key).lock(rt);
+        let mut guard = self.inner.desks.lock_of(rt, key);
         let desk = &mut *guard;
         desk.get(key)
     }
@@ -170,7 +170,7 @@ impl<
     /// Returns whether a key has a visible value: one that is neither expired nor invalidated. This does not count as a use, and never
     /// fails.
     pub fn contains_key(&self, rt: &impl Wait, key: &K) -> bool {
-        let mut guard = self.inner.desks.of(key).lock(rt);
+        let mut guard = self.inner.desks.lock_of(rt, key);
         let desk = &mut *guard;
         desk.contains_key(key)
     }
@@ -181,7 +181,7 @@ impl<
     pub fn insert(&self, rt: &impl Wait, key: K, value: V) -> Result<(), CacheError>
         ensures cause { IfErr result IsShortage }
     {
-        let mut guard = self.inner.desks.of(&key).lock(rt);
+        let mut guard = self.inner.desks.lock_of(rt, &key);
         let desk = &mut *guard;
         desk.insert(key, value)
     }
@@ -193,7 +193,7 @@ impl<
         requires exact { (x y : V) → V.is_clone x y → y ≡ x }
         ensures cause { IfErr result IsShortage }
     {
-        let mut guard = self.inner.desks.of(key).lock(rt);
+        let mut guard = self.inner.desks.lock_of(rt, key);
         let desk = &mut *guard;
         desk.remove(key)
     }
@@ -204,7 +204,7 @@ impl<
         requires exact { (x y : V) → V.is_clone x y → y ≡ x }
         ensures cause { IfErr result IsShortage }
     {
-        let mut guard = self.inner.desks.of(key).lock(rt);
+        let mut guard = self.inner.desks.lock_of(rt, key);
         let desk = &mut *guard;
         desk.invalidate(key)
     }

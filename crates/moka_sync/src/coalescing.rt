@@ -3,7 +3,7 @@ ghost use Rattle.std.specs.Prelude.{◌≡◌, IfErr};
 ghost use Rattle.sync_desk.specs.Slots.Refusals.{IsTurnRefusal};
 
 use crate::cache::SharedCache;
-use crate::turns::Passing;
+use crate::turns::{Passing, passes_nothing};
 use engine_reference::Rules;
 use front_reference::{CacheError, ClonedKey, OwnedKey};
 use front_state::Segmented;
@@ -43,7 +43,7 @@ impl<
             key,
             alloc: self.alloc,
         };
-        desk.make_value(rt, asked, Passing::Never, |_: &V| -> bool { false }, make)
+        desk.make_value(rt, asked, Passing::Never, passes_nothing, make)
     }
 
     /// Like `get_with`, with a borrowed key, which is cloned only if a turn begins.
@@ -70,7 +70,7 @@ impl<
             key,
             alloc: self.alloc,
         };
-        desk.make_value(rt, asked, Passing::Never, |_: &V| -> bool { false }, make)
+        desk.make_value(rt, asked, Passing::Never, passes_nothing, make)
     }
 
     /// Like `get_with`, except that a visible value for which `replace_if` returns true counts as none.

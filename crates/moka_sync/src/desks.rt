@@ -13,8 +13,8 @@ use front_reference::{CacheError, LentKey, Shared};
 use front_state::{HashedName, LentState, Notice, Sharded};
 use std::alloc::{AllocError, Global};
 use std::hash::{BuildHasher, Hash};
-use std::sync::Wait;
 use std::sync::atomic::{AtomicUsize, Ordering};
+use std::sync::{MutexGuard, Wait};
 use sync_desk::{Desk, Env, Fork};
 
 /// The desks, as many as a power of two. If there are several, each is a shard.
@@ -104,7 +104,7 @@ impl<
     E: Env + Drop,
     C: Drop,
 > Desks<K, V, S, R, E, C> {
-    /// One desk for all keys.
+    /// Creates a single desk, for all keys.
     pub(crate) fn one(
         alloc: Global,
         state: LentState<K, V, S, R, C>,
@@ -157,6 +157,24 @@ impl<
             (desk_number (⟦<S as Hashes<K>>⟧.hash) self.now.spread key.now)) ≡ Some result.now }
     {
         self.of_name(&LentKey { key })
+    }
+
+    /// Takes the lock of the desk of the key that a name names.
+    pub(crate) fn lock_named<H: Wait, Q: HashedName<K>>(
+        &self,
+        rt: &H,
+        name: &Q,
+    ) -> MutexGuard<'_, Desk<K, V, S, R, E, C>> {
+        self.of_name(name).lock(rt)
+    }
+
+    /// Takes the lock of the desk of a key.
+    pub(crate) fn lock_of<H: Wait>(
+        &self,
+        rt: &H,
+        key: &K,
+    ) -> MutexGuard<'_, Desk<K, V, S, R, E, C>> {
+        self.of(key).lock(rt)
     }
 
     /// The first desk, and the only one unless there are shards.

@@ -61,7 +61,7 @@ impl<
         requires exact { (x y : V) → V.is_clone x y → y ≡ x }
         ensures cause { IfErr result (λ e. e ≡ errors.OutOfMemory) }
     {
-        let mut guard = self.inner.desks.of(&**key).lock(rt);
+        let mut guard = self.inner.desks.lock_of(rt, &**key);
         let desk = &mut *guard;
         desk.scan(&**key)
     }

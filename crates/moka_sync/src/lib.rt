@@ -16,6 +16,7 @@ mod refusable;
 mod selecting;
 mod sharded;
 mod shared;
+mod sizing;
 mod spreading;
 mod turns;
 mod wholes;
@@ -36,5 +37,6 @@ pub use moka::{
 pub use selecting::SharedSelector;
 pub use sharded::ShardedCache;
 pub use shared::SharedDesk;
+pub use sizing::shards_for;
 pub use sync_desk::{Dial, DialEnv, Ending as WaiterValue, Env, Fork, MachineEnv};
 pub use wholes::ConcurrentCacheExt;

@@ -5,7 +5,7 @@ ghost use Rattle.sync_desk.specs.Slots.Endings.{suits};
 ghost use Rattle.sync_desk.specs.Slots.Refusals.{IsTurnRefusal};
 
 use crate::shared::SharedDesk;
-use crate::turns::Passing;
+use crate::turns::{Passing, passes_nothing};
 use engine_reference::Rules;
 use front_parts::{option_made, result_made, value_made};
 use front_reference::{CacheError, Made, Shared, TurnKind};
@@ -65,7 +65,7 @@ impl<
             TurnKind::Optionally,
             asked,
             Passing::Never,
-            |_: &V| -> bool { false },
+            passes_nothing,
             || -> Result<Made<V, Shared<R::Fault>>, AllocError>
                 requires { M.IsAlwaysCallable make }
                 ensures { IfOk result (λ made. suits turns.Optionally made ≡ true) }
@@ -97,7 +97,7 @@ impl<
             TurnKind::Try,
             asked,
             Passing::Never,
-            |_: &V| -> bool { false },
+            passes_nothing,
             || -> Result<Made<V, Shared<R::Fault>>, AllocError>
                 requires { M.IsAlwaysCallable make }
                 ensures { IfOk result (λ made. suits turns.Try made ≡ true) }

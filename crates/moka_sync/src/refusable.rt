@@ -5,7 +5,7 @@ ghost use Rattle.sync_desk.specs.Slots.Endings.{suits};
 ghost use Rattle.sync_desk.specs.Slots.Refusals.{IsTurnRefusal};
 
 use crate::cache::SharedCache;
-use crate::turns::Passing;
+use crate::turns::{Passing, passes_nothing};
 use engine_reference::Rules;
 use front_parts::value_made;
 use front_reference::{CacheError, Made, OwnedKey, Shared, TurnKind};
@@ -48,7 +48,7 @@ impl<
             TurnKind::With,
             asked,
             Passing::Never,
-            |_: &V| -> bool { false },
+            passes_nothing,
             || -> Result<Made<V, Shared<R::Fault>>, AllocError>
                 requires { M.IsAlwaysCallable make }
                 ensures { IfOk result (λ made. suits turns.With made ≡ true) }

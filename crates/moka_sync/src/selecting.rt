@@ -190,7 +190,8 @@ impl<
         }
     }
 
-    /// Returns the visible value of the key, or the one that `make` makes, which is stored, or `None` if it makes none.
+    /// Returns the entry of the key: of the visible value, or of the one that `make` makes, which is stored; or `None` if `make` makes none.
+    /// That there is none is not stored.
     pub fn or_optionally_insert_with<M: FnOnce() -> Option<V> + Drop>(
         self,
         make: M,
@@ -206,7 +207,14 @@ impl<
         }
     }
 
-    /// Returns the visible value of the key, or the one that `make` makes, which is stored, or its error if it fails.
+    /// Returns the entry of the key: of the visible value, or of the one that `make` makes, which is stored. If `make` fails, nothing is
+    /// stored, and the inner `Result` is its error, which those that wait for this call get too. The outer error is the cache's own.
+    /// ```
+    /// match cache.entry(&rt, 7).or_try_insert_with(|| read_row(7))? {
+    ///     Ok(entry) => show(entry.value()),
+    ///     Err(fault) => report(&fault),
+    /// }
+    /// ```
     pub fn or_try_insert_with<M: FnOnce() -> Result<V, R::Fault> + Drop>(
         self,
         make: M,
@@ -223,8 +231,11 @@ impl<
         }
     }
 
-    /// Calls `decide` with the entry, if there is one, and does what it decides; if `decide` fails, nothing is written. Calls of this kind
-    /// for one key come one after another.
+    /// Calls `decide` with the entry, if there is one, and does what it decides. If `decide` fails, nothing is written, and the inner
+    /// `Result` is its error; the outer error is the cache's own. Calls of this kind for one key come one after another.
+    /// ```
+    /// let done = cache.entry(&rt, 7).and_try_compute_with(|seen| next_row(seen).map(Op::Put))?;
+    /// ```
     pub fn and_try_compute_with<X: Drop, D: FnOnce(Option<Entry<K, V>>) -> Result<Op<V>, X> + Drop>(
         self,
         decide: D,
@@ -241,7 +252,8 @@ impl<
         }
     }
 
-    /// Calls `decide` with the entry, if there is one, and does what it decides. Calls of this kind for one key come one after another.
+    /// Calls `decide` with the entry, if there is one, does what it decides, and returns what became of the entry. Calls of this kind for
+    /// one key come one after another.
     pub fn and_compute_with<D: FnOnce(Option<Entry<K, V>>) -> Op<V> + Drop>(
         self,
         decide: D,

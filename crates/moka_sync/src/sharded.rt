@@ -1,10 +1,11 @@
 //! The cache of several shards: how it is built, and its calls that take the locks of all.
-ghost use Rattle.std.specs.Prelude.{◌≡◌, ◌⊎◌, ◌<◌, ◌≤◌, ◌^◌, None, Some, true, IfErr, IfOk, OnOk, length, option_map};
+ghost use Rattle.std.specs.Prelude.{◌≡◌, ◌⊎◌, ◌<◌, ◌≤◌, ◌^◌, ℕ, None, Some, true, IfErr, IfOk, OnOk, length, option_map};
 ghost use Rattle.std.specs.Arc.{arc_value};
 ghost use Rattle.std.specs.String.{string_bytes};
 ghost use Rattle.moka.specs.Building.{blank, segments_fault};
 ghost use Rattle.moka.specs.declared.errors.BuildError.TheVariants.{OutOfMemory};
 ghost use Rattle.moka_sync.specs.Showing.{ShowsPlan, ShowsShard, ShowsShards};
+ghost use Rattle.moka_sync.specs.Sizing.{IsShardCount};
 ghost use Rattle.moka_sync.specs.Spreading.{desk_number};
 ghost use Rattle.sync_desk.specs.Slots.Refusals.{IsCoverRefusal};
 
@@ -12,6 +13,7 @@ use crate::building::Build;
 use crate::cache::{Inner, SharedCache};
 use crate::covering::AllDesks;
 use crate::desks::Desks;
+use crate::sizing::shards_for;
 use engine_reference::{Bundle, Expiry, Hashes, Policy, Predicate, Rules, Weigher};
 use front_reference::{CacheError, Shared};
 use front_state::{LentState, Sharded};
@@ -19,6 +21,7 @@ use moka::{BuildError, CacheBuilder, PlainBuilder, PlainRules, Shards, StdHasher
 use std::alloc::{AllocError, Global};
 use std::hash::{BuildHasher, Hash};
 use std::sync::{Arc, Wait};
+use std::thread::{Threads, available_parallelism};
 use sync_desk::{Env, Fork};
 
 /// A cache of several shards that threads share, each a cache of one segment with its share of the capacity, under a lock of its own. Its
@@ -130,6 +133,14 @@ impl<
     }
 }
 
+/// The number of cores that this process may use; 1 if that is not known.
+fn count_cores(rt: &impl Threads) -> usize {
+    match available_parallelism(rt) {
+        Ok(cores) => cores.get(),
+        Err(_) => 1,
+    }
+}
+
 impl<K: Eq + Hash + Drop, V: Clone + Drop, E: Fork + Drop> SharedCache<
     K,
     V,
@@ -139,7 +150,7 @@ impl<K: Eq + Hash + Drop, V: Clone + Drop, E: Fork + Drop> SharedCache<
     Sharded,
 > {
     /// Creates a cache that holds at most this many entries in this many shards, rounded up to a power of two, with nothing else set. The
-    /// number of shards is 1 to 65,536. Four for each core, at least 16, are a good choice, unless a share has fewer than 100 entries.
+    /// number of shards is 1 to 65,536.
     /// Each shard holds at most the capacity divided by their number, rounded up, so together they may hold slightly more.
     pub fn new(alloc: Global, max_capacity: u64, shards: usize, env: E) -> Result<Self, BuildError>
         ensures shows { IfOk result (λ cache. ShowsPlan (record blank {
@@ -156,7 +167,33 @@ impl<K: Eq + Hash + Drop, V: Clone + Drop, E: Fork + Drop> SharedCache<
             .build(alloc, env)
     }
 
-    /// Returns a builder with this number of shards, and nothing else set.
+    /// Creates a cache that holds at most this many entries, with nothing else set, in as many shards as suit the cores that this process
+    /// may use (`shards_for`).
+    /// The only possible error is `OutOfMemory`.
+    /// ```
+    /// let cache: ShardedCache<u64, u64, StdHasher, PlainRules, _> =
+    ///     ShardedCache::for_cores(&rt, alloc, 1_000_000, MachineEnv::new(rt)?)?;
+    /// ```
+    pub fn for_cores(
+        rt: &impl Threads,
+        alloc: Global,
+        max_capacity: u64,
+        env: E,
+    ) -> Result<Self, BuildError>
+        ensures shows { IfOk result (λ cache. (cores shards : ℕ)
+            × IsShardCount cores max_capacity shards × ShowsPlan (record blank {
+              max_capacity = Some max_capacity;
+              segments = shards;
+            }) (option_map string_bytes (arc_value cache.inner).name)
+            (arc_value cache.inner).policy) }
+        ensures cause { IfErr result (λ e. e ≡ OutOfMemory) }
+    {
+        let shards = shards_for(count_cores(rt), max_capacity);
+        ShardedCache::new(alloc, max_capacity, shards, env)
+    }
+
+    /// Returns a builder with this number of shards, 1 to 65,536, rounded up to a power of two, and nothing else set. `build` refuses 0
+    /// (`NoSegments`) and greater numbers (`TooManySegments`).
     pub fn builder(shards: usize) -> PlainBuilder<Sharded>
         ensures { result.plan ≡ record blank { segments = shards } }
     {

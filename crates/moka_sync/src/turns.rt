@@ -46,6 +46,11 @@ impl Passing {
     }
 }
 
+/// Passes no value over.
+pub(crate) fn passes_nothing<V>(_seen: &V) -> bool {
+    false
+}
+
 /// How a call that makes a value begins.
 enum MakingStart<A, V, F> {
     /// A visible value, or what another caller made.
@@ -365,9 +370,7 @@ impl<
         ensures cause { IfErr result IsTurnRefusal }
     {
         match self.ask_once(rt, asked.key(), replace_if) {
-            Ok(passing) => {
-                self.coalesce(rt, kind, asked, passing, |_: &V| -> bool { false }, make)
-            }
+            Ok(passing) => { self.coalesce(rt, kind, asked, passing, passes_nothing, make) }
             Err(refused) => Err(refused),
         }
     }

@@ -1,8 +1,5 @@
 //! The tests' caches, how one is played with, and the gates of their threads.
-use moka_sync::{
-    Build, BuildError, Bundle, CacheBuilder, Dial, DialEnv, NoExpiry, NoPredicate, Segmented,
-    Sharded, SharedCache, Single, StdHasher, WeighOne,
-};
+use moka_sync::{BuildError, Dial, DialEnv, SharedCache, Single, StdHasher};
 use rand_core::SeedableRng;
 use rand_xoshiro::Xoshiro256PlusPlus;
 use std::alloc::{AllocError, Global};
@@ -16,9 +13,6 @@ pub type Moments = DialEnv<Xoshiro256PlusPlus>;
 /// A cache of numbers under numbers, by any rules.
 pub type NumbersBy<R, C = Single> = SharedCache<u64, u64, StdHasher, R, Moments, C>;
 
-/// One whose making may fail with a number.
-pub type Numbers<C = Single> = NumbersBy<Bundle<NoExpiry, WeighOne, NoPredicate, u64>, C>;
-
 /// How often a gate is looked at before its row fails.
 const LOOKS: u64 = 20_000_000;
 
@@ -30,7 +24,7 @@ pub struct Stage<T> {
     pub runs: AtomicU64,
 }
 
-/// What a test does with a new cache. A test of several threads is none: that its handle is `Sync` is not known in an `impl`.
+/// What a test of one thread does with a new cache of a type of its own.
 pub trait Play<H> {
     /// The cache, or what holds it.
     type Cache: Drop;
@@ -100,42 +94,6 @@ fn passes_at_once<H, P: Play<H>>(rt: &H, alloc: Global, play: &P) -> bool {
 /// The same, on the second attempt if memory is refused: it has another new cache.
 pub fn passes<H, P: Play<H>>(rt: &H, alloc: Global, play: &P) -> bool {
     passes_at_once(rt, alloc, play) || passes_at_once(rt, alloc, play)
-}
-
-/// An empty cache of capacity 500.
-pub fn make_numbers(alloc: Global, moments: Moments) -> Result<Numbers, BuildError> {
-    CacheBuilder::new(500).faults::<u64>().build(alloc, moments)
-}
-
-/// The same, with the moments of a dial.
-fn make_numbers_by(alloc: Global, dial: &Arc<Dial>) -> Option<Numbers> {
-    match moments_of(dial) {
-        Some(moments) => make_numbers(alloc, moments).ok(),
-        None => None,
-    }
-}
-
-/// A stage with such a cache.
-pub fn make_numbers_stage(alloc: Global) -> Option<Stage<Numbers>> {
-    let dial = make_dial(alloc)?;
-    let cache = make_numbers_by(alloc, &dial)?;
-    Some(stage_of(cache, dial))
-}
-
-/// An empty cache of capacity 500 in four segments.
-pub fn make_four(alloc: Global, moments: Moments) -> Result<Numbers<Segmented>, BuildError> {
-    CacheBuilder::new(500)
-        .segments(4)
-        .faults::<u64>()
-        .build(alloc, moments)
-}
-
-/// An empty cache of capacity 500 in four shards.
-pub fn make_four_shards(alloc: Global, moments: Moments) -> Result<Numbers<Sharded>, BuildError> {
-    CacheBuilder::new(500)
-        .shards(4)
-        .faults::<u64>()
-        .build(alloc, moments)
 }
 
 /// Waits until a dial was read this often. False if it never is.

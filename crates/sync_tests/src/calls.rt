@@ -1,9 +1,11 @@
 //! Calls of one thread.
-use crate::caches::{
-    Moments, Numbers, Play, Stage, make_four, make_four_shards, make_numbers, passes,
+use crate::caches::{Moments, NumbersBy, Play, Stage, passes};
+use crate::forms::{FIVE_HUNDRED, Settings};
+use crate::rows::Row;
+use crate::scenes::{Scene, Table, holds};
+use moka_sync::{
+    Build, BuildError, Bundle, CacheBuilder, NoExpiry, NoPredicate, Segmented, WeighOne,
 };
-use crate::rows::{Row, are_so, gets};
-use moka_sync::{BuildError, Segmented, Sharded};
 use std::alloc::Global;
 use std::sync::Wait;
 
@@ -24,35 +26,51 @@ const CALLS: &[Row] = &[
     Row::Clear,
     Row::Get(1, None),
     Row::Remove(7, None),
+    // a value stays if it is not to be replaced, and is made anew if it is
+    Row::MakeIf(0, 5, 5, 5),
+    Row::MakeIf(0, 6, 6, 5),
+    Row::MakeIf(0, 6, 5, 6),
+    Row::Get(0, Some(6)),
 ];
 
-/// Whether a key has this value, once one is made if there is none or a certain old one.
-fn makes_if<H: Wait, C: Drop>(rt: &H, cache: &Numbers<C>, made: u64, old: u64, value: u64) -> bool {
-    cache.get_with_if(rt, 0, || made, |seen: &u64| *seen == old) == Ok(value)
+/// What one thread calls.
+const CALLED: Table = Table {
+    settings: FIVE_HUNDRED,
+    rows: CALLS,
+};
+
+#[test]
+fn calls_of_one_thread(rt: HostRuntime) {
+    assert!(rt; holds(&rt, rt.alloc(), Scene::Rows(CALLED)));
 }
 
-/// Whether a value stays if it is not to be replaced, and is made anew if it is.
-fn replaces<H: Wait, C: Drop>(rt: &H, cache: &Numbers<C>) -> bool {
-    makes_if(rt, cache, 5, 5, 5)
-        && makes_if(rt, cache, 6, 6, 5)
-        && makes_if(rt, cache, 6, 5, 6)
-        && gets(rt, cache, 0, Some(6))
+const UNKEPT: &[Row] = &[
+    Row::Insert(0, 1),
+    Row::Has(0, false),
+    Row::Get(0, None),
+    Row::Count(0),
+    Row::Run,
+    Row::Has(0, false),
+    Row::Get(0, None),
+    Row::Count(0),
+];
+
+/// A value is taken by a cache of capacity 0 and not kept, before a run and after it.
+const NO_ROOM: Table = Table {
+    settings: Settings {
+        capacity: 0,
+        ..FIVE_HUNDRED
+    },
+    rows: UNKEPT,
+};
+
+#[test]
+fn capacity_zero_keeps_nothing(rt: HostRuntime) {
+    assert!(rt; holds(&rt, rt.alloc(), Scene::Rows(NO_ROOM)));
 }
 
-/// On one segment.
-struct InOne;
-
-impl<H: Wait> Play<H> for InOne {
-    type Cache = Numbers;
-
-    fn make(&self, _rt: &H, alloc: Global, moments: Moments) -> Result<Numbers, BuildError> {
-        make_numbers(alloc, moments)
-    }
-
-    fn plays(&self, rt: &H, _alloc: Global, stage: &Stage<Numbers>) -> bool {
-        are_so(rt, stage, CALLS) && replaces(rt, &stage.cache)
-    }
-}
+/// A cache of four segments.
+type Segments = NumbersBy<Bundle<NoExpiry, WeighOne, NoPredicate, u64>, Segmented>;
 
 fn eighty() -> u64 {
     80
@@ -62,73 +80,26 @@ fn fails() -> Result<u64, u64> {
     Err(7)
 }
 
-/// Whether a value is made by the name of segments.
-fn is_made<H: Wait>(rt: &H, cache: &Numbers<Segmented>) -> bool {
-    cache.get_or_insert_with(rt, 8, eighty) == Ok(80)
-}
+/// Segments make a value by two names more, once for both.
+struct OtherNames;
 
-/// Whether a value that is there is not made again, by such a name.
-fn stays<H: Wait>(rt: &H, cache: &Numbers<Segmented>) -> bool {
-    match cache.get_or_try_insert_with(rt, 8, fails) {
-        Ok(Ok(value)) => value == 80,
-        _ => false,
-    }
-}
+impl<H: Wait> Play<H> for OtherNames {
+    type Cache = Segments;
 
-/// On four segments, which make a value by two names more, once for both.
-struct InFour;
-
-impl<H: Wait> Play<H> for InFour {
-    type Cache = Numbers<Segmented>;
-
-    fn make(
-        &self,
-        _rt: &H,
-        alloc: Global,
-        moments: Moments,
-    ) -> Result<Numbers<Segmented>, BuildError> {
-        make_four(alloc, moments)
+    fn make(&self, _rt: &H, alloc: Global, moments: Moments) -> Result<Segments, BuildError> {
+        CacheBuilder::new(500)
+            .segments(4)
+            .faults::<u64>()
+            .build(alloc, moments)
     }
 
-    fn plays(&self, rt: &H, _alloc: Global, stage: &Stage<Numbers<Segmented>>) -> bool {
-        are_so(rt, stage, CALLS)
-            && replaces(rt, &stage.cache)
-            && is_made(rt, &stage.cache)
-            && stays(rt, &stage.cache)
-    }
-}
-
-/// On four shards.
-struct InShards;
-
-impl<H: Wait> Play<H> for InShards {
-    type Cache = Numbers<Sharded>;
-
-    fn make(
-        &self,
-        _rt: &H,
-        alloc: Global,
-        moments: Moments,
-    ) -> Result<Numbers<Sharded>, BuildError> {
-        make_four_shards(alloc, moments)
-    }
-
-    fn plays(&self, rt: &H, _alloc: Global, stage: &Stage<Numbers<Sharded>>) -> bool {
-        are_so(rt, stage, CALLS) && replaces(rt, &stage.cache)
+    fn plays(&self, rt: &H, _alloc: Global, stage: &Stage<Segments>) -> bool {
+        stage.cache.get_or_insert_with(rt, 8, eighty) == Ok(80)
+            && matches!(stage.cache.get_or_try_insert_with(rt, 8, fails), Ok(Ok(80)))
     }
 }
 
 #[test]
-fn calls_of_one_segment(rt: HostRuntime) {
-    assert!(rt; passes(&rt, rt.alloc(), &InOne));
-}
-
-#[test]
-fn calls_of_four_segments(rt: HostRuntime) {
-    assert!(rt; passes(&rt, rt.alloc(), &InFour));
-}
-
-#[test]
-fn calls_of_four_shards(rt: HostRuntime) {
-    assert!(rt; passes(&rt, rt.alloc(), &InShards));
+fn segments_have_other_names(rt: HostRuntime) {
+    assert!(rt; passes(&rt, rt.alloc(), &OtherNames));
 }

@@ -1,7 +1,9 @@
 //! Calls of four threads.
-use crate::caches::{Numbers, Stage, each_says_yes, make_numbers_stage, wait_for_readings};
+use crate::caches::{Stage, each_says_yes, wait_for_readings};
+use crate::forms::{Form, Staged};
+use crate::numbers::Numbers;
 use crate::rows::{gets, inserts, invalidates, runs};
-use moka_sync::{Entry, Op};
+use crate::scenes::{Scene, holds_in};
 use std::alloc::Global;
 use std::sync::Wait;
 use std::sync::atomic::Ordering;
@@ -20,7 +22,7 @@ enum Work {
 }
 
 /// 70 for the closure that runs first, or 99 if the dial is not read this often.
-fn make(shared: &Stage<Numbers>, readings: u64) -> u64 {
+fn make<T>(shared: &Stage<T>, readings: u64) -> u64 {
     let number = shared.runs.fetch_add(1, Ordering::SeqCst);
     if wait_for_readings(&shared.dial, readings) {
         number.wrapping_add(70)
@@ -29,56 +31,31 @@ fn make(shared: &Stage<Numbers>, readings: u64) -> u64 {
     }
 }
 
-/// One more than the number of a key, or 1; after others had their chance to come between.
-fn count_up(seen: Option<Entry<u64, u64>>) -> Op<u64> {
-    for _ in 0..100u32 {
-        thread::yield_now();
-    }
-    match seen {
-        Some(entry) => Op::Put(entry.into_value().wrapping_add(1)),
-        None => Op::Put(1),
-    }
-}
-
-/// Counts a key up on a handle. Answers whether that was taken.
-fn counts_by<H: Wait + Copy>(rt: &H, cache: Numbers) -> bool {
-    let mut attached = cache.attach(*rt);
-    attached.entry(2).and_compute_with(count_up).is_ok()
-}
-
-/// The same of a cache.
-fn counts<H: Wait + Copy>(rt: &H, cache: &Numbers) -> bool {
-    match cache.clone() {
-        Ok(cache) => counts_by(rt, cache),
-        Err(_) => false,
-    }
-}
-
 /// Counts a key up 25 times.
-fn counts_25<H: Wait + Copy>(rt: &H, cache: &Numbers) -> bool {
+fn counts_25<H: Wait + Copy, T: Staged>(rt: &H, cache: &T) -> bool {
     for _ in 0..25u32 {
-        if !counts(rt, cache) {
+        if !cache.counts_up(rt, 2) {
             return false;
         }
     }
     true
 }
 
-fn writes<H: Wait>(rt: &H, cache: &Numbers) -> bool {
+fn writes<H: Wait, T: Numbers>(rt: &H, cache: &T) -> bool {
     inserts(rt, cache, 10, 100)
-        && cache.get(rt, &10).is_ok()
+        && cache.find(rt, 10).is_ok()
         && runs(rt, cache)
         && inserts(rt, cache, 20, 200)
         && invalidates(rt, cache, 10)
 }
 
 /// Whether one thread's call returns what one of them makes.
-fn is_made<H: Wait>(rt: &H, shared: &Stage<Numbers>, readings: u64) -> bool {
-    shared.cache.get_with(rt, 1, || make(shared, readings)) == Ok(70)
+fn is_made<H: Wait, T: Numbers>(rt: &H, shared: &Stage<T>, readings: u64) -> bool {
+    shared.cache.make(rt, 1, || make(shared, readings)) == Ok(70)
 }
 
 /// Whether one thread's work comes out as it should.
-fn works<H: Wait + Copy>(rt: &H, shared: &Stage<Numbers>, work: Work) -> bool {
+fn works<H: Wait + Copy, T: Staged>(rt: &H, shared: &Stage<T>, work: Work) -> bool {
     match work {
         Work::Make(readings) => is_made(rt, shared, readings),
         Work::Count => counts_25(rt, &shared.cache),
@@ -87,30 +64,30 @@ fn works<H: Wait + Copy>(rt: &H, shared: &Stage<Numbers>, work: Work) -> bool {
 }
 
 /// Whether the work of each of four threads does.
-fn all_work<R: Threads + Wait + Sync + Copy>(
+fn all_work<R: Threads + Wait + Sync + Copy, T: Staged + Sync>(
     rt: &R,
     alloc: Global,
-    shared: &Stage<Numbers>,
+    shared: &Stage<T>,
     work: Work,
 ) -> bool {
     each_says_yes(thread::map_indices(rt, alloc, 4, &|_: usize| works(rt, shared, work)))
 }
 
 /// Whether one closure runs for four.
-fn make_once<R: Threads + Wait + Sync + Copy>(
+fn make_once<R: Threads + Wait + Sync + Copy, T: Staged + Sync>(
     rt: &R,
     alloc: Global,
-    shared: &Stage<Numbers>,
+    shared: &Stage<T>,
 ) -> bool {
     let readings = shared.dial.readings().saturating_add(4);
     all_work(rt, alloc, shared, Work::Make(readings)) && shared.runs.load(Ordering::SeqCst) == 1
 }
 
 /// Whether one closure runs for four, four count to 100, and what four write is as one would leave it.
-fn are_right<R: Threads + Wait + Sync + Copy>(
+pub fn are_right<R: Threads + Wait + Sync + Copy, T: Staged + Sync>(
     rt: &R,
     alloc: Global,
-    shared: &Stage<Numbers>,
+    shared: &Stage<T>,
 ) -> bool {
     make_once(rt, alloc, shared)
         && all_work(rt, alloc, shared, Work::Count)
@@ -120,15 +97,17 @@ fn are_right<R: Threads + Wait + Sync + Copy>(
         && gets(rt, &shared.cache, 20, Some(200))
 }
 
-/// The same of a new cache.
-fn are_right_anew<R: Threads + Wait + Sync + Copy>(rt: &R, alloc: Global) -> bool {
-    match make_numbers_stage(alloc) {
-        Some(shared) => are_right(rt, alloc, &shared),
-        None => false,
-    }
+#[test]
+fn four_threads_make_count_and_write(rt: HostRuntime) {
+    assert!(rt; holds_in(&rt, rt.alloc(), Form::One, Scene::Crowd));
 }
 
 #[test]
-fn four_threads_make_count_and_write(rt: HostRuntime) {
-    assert!(rt; are_right_anew(&rt, rt.alloc()) || are_right_anew(&rt, rt.alloc()));
+fn four_threads_make_count_and_write_on_segments(rt: HostRuntime) {
+    assert!(rt; holds_in(&rt, rt.alloc(), Form::Segments, Scene::Crowd));
+}
+
+#[test]
+fn four_threads_make_count_and_write_on_shards(rt: HostRuntime) {
+    assert!(rt; holds_in(&rt, rt.alloc(), Form::Shards, Scene::Crowd));
 }

@@ -1,129 +1,249 @@
-//! Selectors of a handle that others share.
-use crate::caches::{Moments, Numbers, Play, Stage, make_numbers, passes};
+//! Selectors, by those of a handle that others share.
+use crate::forms::{Staged, Tested};
 use crate::rows::gets;
-use moka_sync::{BuildError, CacheError, CompResult, Entry, Op};
+use crate::scenes::{Scene, holds};
+use moka_sync::{CacheError, CompResult, Entry, Op};
 use std::alloc::Global;
-use std::fmt::Write;
 use std::sync::{Arc, Wait};
 
-/// Whether a selector returns this value, made or put by its call or not.
-fn is_entry(entry: Result<Entry<u64, u64>, CacheError>, value: u64, is_fresh: bool) -> bool {
-    match entry {
-        Ok(entry) => *entry.value() == value && entry.is_fresh() == is_fresh,
-        Err(_) => false,
+/// A call of a selector. First comes its key.
+#[derive(Clone, Copy)]
+pub enum Choice {
+    /// `or_insert` of this value.
+    Insert(u64, u64),
+    /// The same by a key that is lent.
+    Lent(u64, u64),
+    /// `or_insert_with`: what is made.
+    With(u64, u64),
+    /// `or_insert_with_if`: 7 in place of 3.
+    SevenForThree(u64),
+    /// `or_default`.
+    Default(u64),
+    /// `or_optionally_insert_with`, of a closure that makes nothing.
+    Nothing(u64),
+    /// `or_try_insert_with`, of a closure that fails with this number.
+    Fault(u64, u64),
+    /// `and_upsert_with`: the value is counted up.
+    CountUp(u64),
+    /// `and_compute_with`: the value is removed.
+    Remove(u64),
+    /// `and_compute_with`: nothing is done.
+    Leave(u64),
+    /// `and_try_compute_with`, of a closure that fails with this number.
+    Fail(u64, u64),
+}
+
+/// What a call returns.
+#[derive(Clone, Copy, PartialEq, Eq)]
+pub enum Shown {
+    /// A value that was there.
+    Seen(u64),
+    /// One that was made or put.
+    Fresh(u64),
+    /// One that was put in place of another.
+    Replaced(u64),
+    /// No value.
+    Nothing,
+    /// The number with which a closure failed.
+    Fault(u64),
+    Removed,
+    StillNone,
+    Unchanged,
+    /// Anything else.
+    Other,
+}
+
+/// A call, and what it is to return.
+#[derive(Clone, Copy)]
+pub struct Choosing(pub Choice, pub Shown);
+
+/// How an entry is shown.
+fn shown_entry(entry: Entry<u64, u64>) -> Shown {
+    let value = *entry.value();
+    if entry.is_old_value_replaced() {
+        Shown::Replaced(value)
+    } else if entry.is_fresh() {
+        Shown::Fresh(value)
+    } else {
+        Shown::Seen(value)
     }
 }
 
-fn seven() -> u64 {
-    7
+/// The same of a call's entry.
+pub fn show(answer: Result<Entry<u64, u64>, CacheError>) -> Shown {
+    match answer {
+        Ok(entry) => shown_entry(entry),
+        Err(_) => Shown::Other,
+    }
 }
 
-fn add(seen: Option<Entry<u64, u64>>) -> u64 {
+/// The same of a call that may make none.
+fn shown_option(answer: Result<Option<Entry<u64, u64>>, CacheError>) -> Shown {
+    match answer {
+        Ok(Some(entry)) => shown_entry(entry),
+        Ok(None) => Shown::Nothing,
+        Err(_) => Shown::Other,
+    }
+}
+
+/// The same of a call that may fail.
+fn shown_result(answer: Result<Result<Entry<u64, u64>, Arc<u64>>, CacheError>) -> Shown {
+    match answer {
+        Ok(Ok(entry)) => shown_entry(entry),
+        Ok(Err(fault)) => Shown::Fault(*fault),
+        Err(_) => Shown::Other,
+    }
+}
+
+/// The same of a compute call.
+pub fn shown_done(answer: Result<CompResult<u64, u64>, CacheError>) -> Shown {
+    match answer {
+        Ok(CompResult::Removed(_)) => Shown::Removed,
+        Ok(CompResult::StillNone(_)) => Shown::StillNone,
+        Ok(CompResult::Unchanged(_)) => Shown::Unchanged,
+        _ => Shown::Other,
+    }
+}
+
+/// The same of one that may fail.
+fn shown_tried(answer: Result<Result<CompResult<u64, u64>, u64>, CacheError>) -> Shown {
+    match answer {
+        Ok(Err(fault)) => Shown::Fault(fault),
+        _ => Shown::Other,
+    }
+}
+
+/// One more than the value that was seen.
+pub fn count_up(seen: Option<Entry<u64, u64>>) -> u64 {
     match seen {
         Some(entry) => entry.into_value().saturating_add(1),
         None => 1,
     }
 }
 
-fn removal(_seen: Option<Entry<u64, u64>>) -> Op<u64> {
+pub fn removal(_seen: Option<Entry<u64, u64>>) -> Op<u64> {
     Op::Remove
 }
 
-fn fault(_seen: Option<Entry<u64, u64>>) -> Result<Op<u64>, u64> {
-    Err(9)
+pub fn rest(_seen: Option<Entry<u64, u64>>) -> Op<u64> {
+    Op::Nop
+}
+
+pub fn seven() -> u64 {
+    7
 }
 
 fn nothing() -> Option<u64> {
     None
 }
 
-fn failure() -> Result<u64, u64> {
-    Err(5)
-}
-
-/// The fault that a selector returns, if its call fails.
-fn fault_of(answer: Result<Result<Entry<u64, u64>, Arc<u64>>, CacheError>) -> Option<u64> {
-    match answer {
-        Ok(Err(fault)) => Some(*fault),
-        _ => None,
+fn choose_lent<H: Wait + Copy, C: Drop>(rt: &H, cache: &Tested<C>, key: u64, value: u64) -> Shown {
+    match cache.entry_by_ref(rt, &key) {
+        Ok(selector) => show(selector.or_insert(value)),
+        Err(_) => Shown::Other,
     }
 }
 
-/// Whether values are made where there is none, and only there.
-fn are_made<H: Wait + Copy>(rt: &H, cache: &Numbers) -> bool {
-    is_entry(cache.entry(rt, 1).or_insert(3), 3, true)
-        && is_entry(cache.entry(rt, 1).or_insert_with(seven), 3, false)
-        && is_entry(cache.entry(rt, 2).or_insert_with(seven), 7, true)
-        && is_entry(cache.entry(rt, 3).or_default(), 0, true)
+/// What a call that computes returns.
+fn compute<H: Wait + Copy, C: Drop>(rt: &H, cache: &Tested<C>, choice: Choice) -> Shown {
+    match choice {
+        Choice::CountUp(key) => show(cache.entry(rt, key).and_upsert_with(count_up)),
+        Choice::Remove(key) => shown_done(cache.entry(rt, key).and_compute_with(removal)),
+        Choice::Leave(key) => shown_done(cache.entry(rt, key).and_compute_with(rest)),
+        Choice::Fail(key, fault) => shown_tried(
+            cache.entry(rt, key).and_try_compute_with(|_seen: Option<Entry<u64, u64>>| -> Result<
+                Op<u64>,
+                u64,
+            > { Err(fault) }),
+        ),
+        _ => Shown::Other,
+    }
 }
 
-/// Whether a value that is to be replaced is made anew, and a key that is lent finds it.
-fn is_replaced<H: Wait + Copy>(rt: &H, cache: &Numbers) -> bool {
-    let replaced = cache
-        .entry(rt, 1)
-        .or_insert_with_if(seven, |value: &u64| *value == 3);
-    is_entry(replaced, 7, true)
-        && match cache.entry_by_ref(rt, &1) {
-            Ok(selector) => is_entry(selector.or_insert(6), 7, false),
-            Err(_) => false,
+/// What a call whose closure may make none returns.
+fn choose_or_none<H: Wait + Copy, C: Drop>(rt: &H, cache: &Tested<C>, choice: Choice) -> Shown {
+    match choice {
+        Choice::Nothing(key) => {
+            shown_option(cache.entry(rt, key).or_optionally_insert_with(nothing))
         }
+        Choice::Fault(key, fault) => shown_result(
+            cache
+                .entry(rt, key)
+                .or_try_insert_with(|| -> Result<u64, u64> { Err(fault) }),
+        ),
+        choice => compute(rt, cache, choice),
+    }
 }
 
-/// Whether a closure that makes nothing, or fails, is answered so.
-fn may_fail<H: Wait + Copy>(rt: &H, cache: &Numbers) -> bool {
-    matches!(
-        cache.entry(rt, 4).or_optionally_insert_with(nothing),
-        Ok(None)
-    ) && fault_of(cache.entry(rt, 4).or_try_insert_with(failure)) == Some(5)
-        && gets(rt, cache, 4, None)
+/// What a call returns.
+fn choose<H: Wait + Copy, C: Drop>(rt: &H, cache: &Tested<C>, choice: Choice) -> Shown {
+    match choice {
+        Choice::Insert(key, value) => show(cache.entry(rt, key).or_insert(value)),
+        Choice::Lent(key, value) => choose_lent(rt, cache, key, value),
+        Choice::With(key, made) => show(cache.entry(rt, key).or_insert_with(|| made)),
+        Choice::SevenForThree(key) => show(
+            cache
+                .entry(rt, key)
+                .or_insert_with_if(seven, |value: &u64| *value == 3),
+        ),
+        Choice::Default(key) => show(cache.entry(rt, key).or_default()),
+        choice => choose_or_none(rt, cache, choice),
+    }
 }
 
-/// Whether a value is computed from the one before, and removed.
-fn is_computed<H: Wait + Copy>(rt: &H, cache: &Numbers) -> bool {
-    is_entry(cache.entry(rt, 5).and_upsert_with(add), 1, true)
-        && is_entry(cache.entry(rt, 5).and_upsert_with(add), 2, true)
-        && matches!(cache.entry(rt, 5).and_try_compute_with(fault), Ok(Err(9)))
-        && gets(rt, cache, 5, Some(2))
-        && matches!(
-            cache.entry(rt, 5).and_compute_with(removal),
-            Ok(CompResult::Removed(_))
-        )
+/// Whether all rows come out so.
+pub fn chooses<H: Wait + Copy, C: Drop>(rt: &H, cache: &Tested<C>, rows: &[Choosing]) -> bool {
+    for row in rows {
+        if choose(rt, cache, row.0) != row.1 {
+            return false;
+        }
+    }
+    true
+}
+
+const SHARED: &[Choosing] = &[
+    Choosing(Choice::Insert(1, 3), Shown::Fresh(3)),
+    Choosing(Choice::With(1, 7), Shown::Seen(3)),
+    Choosing(Choice::With(2, 7), Shown::Fresh(7)),
+    Choosing(Choice::Default(3), Shown::Fresh(0)),
+    // one that is to be replaced is made anew, and a key that is lent finds it
+    Choosing(Choice::SevenForThree(1), Shown::Fresh(7)),
+    Choosing(Choice::Lent(1, 6), Shown::Seen(7)),
+    Choosing(Choice::Nothing(4), Shown::Nothing),
+    Choosing(Choice::Fault(4, 5), Shown::Fault(5)),
+    Choosing(Choice::Insert(4, 9), Shown::Fresh(9)),
+    Choosing(Choice::CountUp(5), Shown::Fresh(1)),
+    Choosing(Choice::CountUp(5), Shown::Replaced(2)),
+    Choosing(Choice::Fail(5, 9), Shown::Fault(9)),
+    Choosing(Choice::Insert(5, 4), Shown::Seen(2)),
+    Choosing(Choice::Remove(5), Shown::Removed),
+    Choosing(Choice::Remove(5), Shown::StillNone),
+];
+
+const ONE: &[Choosing] = &[Choosing(Choice::Insert(6, 60), Shown::Fresh(60))];
+
+const ATTACHED: &[Choosing] = &[
+    Choosing(Choice::Insert(11, 3), Shown::Fresh(3)),
+    Choosing(Choice::Lent(11, 6), Shown::Seen(3)),
+    Choosing(Choice::SevenForThree(11), Shown::Fresh(7)),
+    Choosing(Choice::CountUp(12), Shown::Fresh(1)),
+    Choosing(Choice::Leave(11), Shown::Unchanged),
+    Choosing(Choice::Remove(11), Shown::Removed),
+    Choosing(Choice::Remove(11), Shown::StillNone),
+];
+
+/// Whether selectors choose by a shared handle, and by an attached one; and a cache of one value is printed as a map.
+pub fn select<H: Wait + Copy, T: Staged>(rt: &H, alloc: Global, cache: &T) -> bool {
+    cache.chooses(rt, SHARED)
+        && gets(rt, cache, 4, Some(9))
         && gets(rt, cache, 5, None)
-}
-
-/// Whether a cache of one value is printed as a map.
-fn is_printed<H: Wait + Copy>(rt: &H, alloc: Global, cache: &Numbers) -> bool {
-    let mut text = String::new(alloc);
-    match cache.attached(rt) {
-        Ok(attached) => {
-            cache.invalidate_all(rt).is_ok()
-                && is_entry(cache.entry(rt, 6).or_insert(60), 60, true)
-                && write!(text, "{attached:?}").is_ok()
-                && text.as_str() == "{6: 60}"
-        }
-        Err(_) => false,
-    }
-}
-
-struct Choosing;
-
-impl<H: Wait + Copy> Play<H> for Choosing {
-    type Cache = Numbers;
-
-    fn make(&self, _rt: &H, alloc: Global, moments: Moments) -> Result<Numbers, BuildError> {
-        make_numbers(alloc, moments)
-    }
-
-    fn plays(&self, rt: &H, alloc: Global, stage: &Stage<Numbers>) -> bool {
-        are_made(rt, &stage.cache)
-            && is_replaced(rt, &stage.cache)
-            && may_fail(rt, &stage.cache)
-            && is_computed(rt, &stage.cache)
-            && is_printed(rt, alloc, &stage.cache)
-    }
+        && cache.chooses_attached(rt, ATTACHED)
+        && cache.clear(rt).is_ok()
+        && cache.chooses(rt, ONE)
+        && cache.is_printed(rt, alloc, "{6: 60}")
 }
 
 #[test]
-fn entries_of_a_shared_handle(rt: HostRuntime) {
-    assert!(rt; passes(&rt, rt.alloc(), &Choosing));
+fn selectors_choose(rt: HostRuntime) {
+    assert!(rt; holds(&rt, rt.alloc(), Scene::Selectors));
 }

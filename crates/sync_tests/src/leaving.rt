@@ -1,86 +1,20 @@
 //! What is removed from a cache and reported: by predicates, for lack of room, and in time.
-ghost use Rattle.std.specs.Prelude.{◌==◌, ◌||◌};
-
-use crate::caches::{Moments, NumbersBy, Play, Stage, make_stage, passes};
-use crate::rows::{Row, are_so, inserts, wrong_row};
-use moka_sync::{
-    Build, BuildError, Bundle, ByCreation, CacheBuilder, ConcurrentCacheExt, EvictionPolicy,
-    Lifetime, Predicate, RemovalCause, Segmented, Sharded, Single, WeighOne,
-};
+use crate::caches::{Moments, Play, Stage, passes};
+use crate::forms::{FIVE_HUNDRED, Odd, Settings, Staged, Tested, builder_of};
+use crate::numbers::Numbers;
+use crate::rows::{Deed, Row, are_so, does_all, inserts, told};
+use crate::scenes::{Scene, Table, holds};
+use moka_sync::{Build, BuildError, ConcurrentCacheExt, EvictionPolicy, RemovalCause, Single};
 use std::alloc::Global;
 use std::sync::Wait;
-use std::time::Duration;
+use std::thread::Threads;
 
-/// Each value lives so long from its creation on, if any time is set.
-#[derive(Clone, Copy, Drop)]
-struct Lasting(Option<Duration>);
-
-impl Lifetime<u64, u64> for Lasting {
-    ghost use Rattle.std.specs.Prelude.{option_map};
-    ghost use Rattle.std.specs.Duration.{as_nanos};
-
-    ghost lifetime = { λ lasting _ _. option_map as_nanos lasting.0 };
-
-    fn lifetime(&self, _key: &u64, _value: &u64) -> Option<Duration> {
-        self.0
-    }
-}
-
-/// Covers the entries of two values.
-#[derive(Drop)]
-struct IsEither(u64, u64);
-
-impl Predicate<u64, u64> for IsEither {
-    ghost covers = { λ p _ value. value == p.0 || value == p.1 };
-
-    fn is_match(&self, _key: &u64, value: &u64) -> bool {
-        *value == self.0 || *value == self.1
-    }
-}
-
-/// A cache that evicts what was used least recently, reports removals, and accepts such predicates.
-type Told<C = Single> = NumbersBy<Bundle<ByCreation<Lasting>, WeighOne, IsEither, ()>, C>;
-
-/// What builds one.
-type ToldBuilder = CacheBuilder<ByCreation<Lasting>, WeighOne, IsEither, ()>;
-
-/// How many values there may be, or how many seconds they live.
-#[derive(Clone, Copy)]
-enum Form {
-    /// A hundred values.
-    Hundred,
-    /// Three values.
-    Three,
-    /// They live 16 seconds, idle 7, and 1 of their own.
-    Own,
-    /// They live 7 seconds idle.
-    Idle,
-    /// They live 7 seconds.
-    Live,
-}
-
-/// What builds a cache whose values may live a time of their own.
-fn start(own: Option<Duration>) -> ToldBuilder {
-    CacheBuilder::default()
-        .eviction_policy(EvictionPolicy::lru())
-        .eviction_listener()
-        .expire_after(ByCreation(Lasting(own)))
-        .support_invalidation_closures::<IsEither>()
-}
-
-/// What builds a cache of a form.
-fn plan(form: Form) -> ToldBuilder {
-    let seven = Duration::from_secs(7);
-    match form {
-        Form::Hundred => start(None).max_capacity(100),
-        Form::Three => start(None).max_capacity(3),
-        Form::Own => start(Some(Duration::from_secs(1)))
-            .time_to_live(Duration::from_secs(16))
-            .time_to_idle(seven),
-        Form::Idle => start(None).time_to_idle(seven),
-        Form::Live => start(None).time_to_live(seven),
-    }
-}
+/// A hundred values, the least recently used of which are evicted.
+pub const HUNDRED: Settings = Settings {
+    capacity: 100,
+    policy: EvictionPolicy::Lru,
+    ..FIVE_HUNDRED
+};
 
 const SECOND: u64 = 1_000_000_000;
 
@@ -92,101 +26,62 @@ const NAMES: &[Row] = &[
     Row::At(5 * SECOND),
 ];
 
-// a later alice
-const LATER: &[Row] = &[Row::At(10 * SECOND), Row::Insert(3, 1), Row::Run, Row::Run];
+// what is written after the predicate, at the same moment and later, is not covered
+const LATER: &[Row] = &[
+    Row::Insert(3, 1),
+    Row::At(10 * SECOND),
+    Row::Insert(4, 1),
+    Row::Run,
+    Row::Run,
+];
 
-// alice and alex were covered, and a later alice is not
+// alice and alex were covered, and later ones are not
 const COVERED_NAMES: &[Row] = &[
     Row::Get(0, None),
     Row::Get(1, Some(2)),
     Row::Get(2, None),
     Row::Get(3, Some(1)),
+    Row::Get(4, Some(1)),
     Row::Are(0, 2, RemovalCause::Explicit),
     Row::NoneTold,
-    Row::Count(2),
+    Row::Count(3),
 ];
 
-/// Whether a predicate is taken, and its identifier has 36 bytes.
-fn is_named<H: Wait>(rt: &H, cache: &Told) -> bool {
-    match cache.invalidate_entries_if(rt, IsEither(1, 3)) {
-        Ok(id) => id.len() == 36,
-        Err(_) => false,
-    }
+/// Whether a predicate covers names.
+pub fn are_covered<H: Wait, T: Staged>(rt: &H, stage: &Stage<T>) -> bool {
+    are_so(rt, stage, NAMES)
+        && stage.cache.cover_odd(rt) == Ok(())
+        && are_so(rt, stage, LATER)
+        && are_so(rt, stage, COVERED_NAMES)
 }
 
-/// Names in one segment, which returns the identifier of a predicate. What is written after it at the same moment is not covered.
-struct NamesOfOne;
+#[test]
+fn names_are_covered(rt: HostRuntime) {
+    assert!(rt; holds(&rt, rt.alloc(), Scene::Names));
+}
 
-impl<H: Wait> Play<H> for NamesOfOne {
-    type Cache = Told;
+/// One segment returns the identifier of a predicate, which has 36 bytes. Maintenance has an older name.
+struct Identified;
 
-    fn make(&self, _rt: &H, alloc: Global, moments: Moments) -> Result<Told, BuildError> {
-        plan(Form::Hundred).build(alloc, moments)
+impl<H: Wait> Play<H> for Identified {
+    type Cache = Tested<Single>;
+
+    fn make(&self, _rt: &H, alloc: Global, moments: Moments) -> Result<Tested<Single>, BuildError> {
+        builder_of(HUNDRED).build(alloc, moments)
     }
 
-    fn plays(&self, rt: &H, _alloc: Global, stage: &Stage<Told>) -> bool {
-        are_so(rt, stage, NAMES)
-            && is_named(rt, &stage.cache)
-            && inserts(rt, &stage.cache, 3, 1)
-            && stage.cache.sync(rt).is_ok()
-            && are_so(rt, stage, COVERED_NAMES)
+    fn plays(&self, rt: &H, _alloc: Global, stage: &Stage<Tested<Single>>) -> bool {
+        let is_named = match stage.cache.invalidate_entries_if(rt, Odd) {
+            Ok(id) => id.len() == 36,
+            Err(_) => false,
+        };
+        is_named && inserts(rt, &stage.cache, 3, 1) && stage.cache.sync(rt).is_ok()
     }
 }
 
 #[test]
-fn predicates_cover(rt: HostRuntime) {
-    assert!(rt; passes(&rt, rt.alloc(), &NamesOfOne));
-}
-
-/// Names in four segments, which return nothing.
-struct NamesOfFour;
-
-impl<H: Wait> Play<H> for NamesOfFour {
-    type Cache = Told<Segmented>;
-
-    fn make(
-        &self,
-        _rt: &H,
-        alloc: Global,
-        moments: Moments,
-    ) -> Result<Told<Segmented>, BuildError> {
-        plan(Form::Hundred).segments(4).build(alloc, moments)
-    }
-
-    fn plays(&self, rt: &H, _alloc: Global, stage: &Stage<Told<Segmented>>) -> bool {
-        are_so(rt, stage, NAMES)
-            && stage.cache.invalidate_entries_if(rt, IsEither(1, 3)) == Ok(())
-            && are_so(rt, stage, LATER)
-            && are_so(rt, stage, COVERED_NAMES)
-    }
-}
-
-#[test]
-fn names_of_four_segments_are_covered(rt: HostRuntime) {
-    assert!(rt; passes(&rt, rt.alloc(), &NamesOfFour));
-}
-
-/// Names in four shards, which return nothing either.
-struct NamesOfShards;
-
-impl<H: Wait> Play<H> for NamesOfShards {
-    type Cache = Told<Sharded>;
-
-    fn make(&self, _rt: &H, alloc: Global, moments: Moments) -> Result<Told<Sharded>, BuildError> {
-        plan(Form::Hundred).shards(4).build(alloc, moments)
-    }
-
-    fn plays(&self, rt: &H, _alloc: Global, stage: &Stage<Told<Sharded>>) -> bool {
-        are_so(rt, stage, NAMES)
-            && stage.cache.invalidate_entries_if(rt, IsEither(1, 3)) == Ok(())
-            && are_so(rt, stage, LATER)
-            && are_so(rt, stage, COVERED_NAMES)
-    }
-}
-
-#[test]
-fn names_of_four_shards_are_covered(rt: HostRuntime) {
-    assert!(rt; passes(&rt, rt.alloc(), &NamesOfShards));
+fn predicates_have_identifiers(rt: HostRuntime) {
+    assert!(rt; passes(&rt, rt.alloc(), &Identified));
 }
 
 // the one used longest ago is evicted
@@ -274,66 +169,77 @@ const REMOVED_TOO_LATE: &[Row] = &[
     Row::NoneTold,
 ];
 
-/// A form, and what is done with a new cache of it.
-struct Table {
-    form: Form,
-    rows: &'static [Row],
-}
+/// Values live 7 seconds without a use.
+const IDLE: Settings = Settings {
+    idle: Some(7),
+    ..HUNDRED
+};
 
 const TABLES: [Table; 5] = [
     Table {
-        form: Form::Three,
+        settings: Settings {
+            parts: 1,
+            capacity: 3,
+            ..HUNDRED
+        },
         rows: EVICTED,
     },
     Table {
-        form: Form::Own,
+        settings: Settings {
+            live: Some(16),
+            own: Some(1),
+            ..IDLE
+        },
         rows: ENDED_OF_ITS_OWN,
     },
     Table {
-        form: Form::Idle,
+        settings: IDLE,
         rows: ENDED_IDLE,
     },
     Table {
-        form: Form::Idle,
+        settings: IDLE,
         rows: WRITTEN_OVER_TOO_LATE,
     },
     Table {
-        form: Form::Live,
+        settings: Settings {
+            live: Some(7),
+            ..HUNDRED
+        },
         rows: REMOVED_TOO_LATE,
     },
 ];
 
-impl<H: Wait> Play<H> for Table {
-    type Cache = Told;
-
-    fn make(&self, _rt: &H, alloc: Global, moments: Moments) -> Result<Told, BuildError> {
-        plan(self.form).build(alloc, moments)
-    }
-
-    fn plays(&self, rt: &H, _alloc: Global, stage: &Stage<Told>) -> bool {
-        are_so(rt, stage, self.rows)
-    }
-}
-
-/// The place of the first row that fails on a new cache; the first if the cache cannot be made.
-fn wrong_row_anew<H: Wait>(rt: &H, alloc: Global, table: &Table) -> Option<usize> {
-    match make_stage(rt, alloc, table) {
-        Some(stage) => wrong_row(rt, &stage, table.rows),
-        None => Some(0),
-    }
-}
-
-/// The place of the first table that does not come out so at the second attempt either, and of its first row that does not.
-fn first_wrong<H: Wait>(rt: &H, alloc: Global) -> Option<(usize, usize)> {
-    for (place, table) in TABLES.iter().enumerate() {
-        if !passes(rt, alloc, table) {
-            return Some((place, wrong_row_anew(rt, alloc, table).unwrap_or(0)));
-        }
-    }
-    None
+/// The place of the first table that does not come out so in each form.
+fn first_wrong<R: Threads + Wait + Sync + Copy>(rt: &R, alloc: Global) -> Option<usize> {
+    TABLES
+        .iter()
+        .position(|table| !holds(rt, alloc, Scene::Rows(*table)))
 }
 
 #[test]
-fn what_leaves_one_segment_is_told(rt: HostRuntime) {
+fn what_leaves_is_told(rt: HostRuntime) {
     assert_eq!(rt; first_wrong(&rt, rt.alloc()), None);
+}
+
+/// Whether this many notices of a cause are told, and then no more.
+fn are_told<H: Wait, T: Numbers>(rt: &H, cache: &T, cause: RemovalCause, count: u64) -> bool {
+    for _ in 0..count {
+        if told(rt, cache, cause).is_none() {
+            return false;
+        }
+    }
+    cache.tell(rt).is_none()
+}
+
+/// Whether 600 keys that come into a cache of 500, and are then invalidated, are told so.
+pub fn leave<H: Wait, T: Numbers>(rt: &H, cache: &T) -> bool {
+    does_all(rt, cache, Deed::InsertAndRun, 600)
+        && are_told(rt, cache, RemovalCause::Size, 100)
+        && does_all(rt, cache, Deed::Invalidate, 600)
+        && are_told(rt, cache, RemovalCause::Explicit, 500)
+}
+
+#[test]
+fn six_hundred_into_five_hundred(rt: HostRuntime) {
+    assert!(rt; holds(&rt, rt.alloc(), Scene::SixHundred));
 }

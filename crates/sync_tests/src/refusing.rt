@@ -2,7 +2,10 @@
 ghost use Rattle.std.specs.Prelude.{◌≡◌};
 
 use crate::caches::{Moments, Stage, make_dial, moments_of, stage_of, wait_for_readings};
-use moka_sync::{Cache, CacheError, Dial, PlainCache};
+use crate::forms::Form;
+use moka_sync::{
+    Build, BuildError, CacheBuilder, CacheError, Dial, PlainRules, SharedCache, StdHasher,
+};
 use std::alloc::{AllocError, Global};
 use std::sync::{Arc, Wait};
 use std::thread;
@@ -24,8 +27,29 @@ impl Clone for Fussy {
     }
 }
 
-/// A cache of such numbers.
-type Fussies = PlainCache<u64, Fussy, Moments>;
+/// A cache of such numbers, in a form.
+type FussiesBy<C> = SharedCache<u64, Fussy, StdHasher, PlainRules, Moments, C>;
+
+/// One of any form.
+trait Fussies: Drop {
+    /// `get_with` of key 0.
+    fn make<H: Wait, M: FnOnce() -> Fussy + Drop>(
+        &self,
+        rt: &H,
+        make: M,
+    ) -> Result<Fussy, CacheError>
+        requires { M.IsAlwaysCallable make };
+}
+
+impl<C: Drop> Fussies for FussiesBy<C> {
+    fn make<H: Wait, M: FnOnce() -> Fussy + Drop>(
+        &self,
+        rt: &H,
+        make: M,
+    ) -> Result<Fussy, CacheError> {
+        self.get_with(rt, 0, make)
+    }
+}
 
 /// A number, once the dial was read so often, or else 0.
 fn make(dial: &Dial, number: u64, readings: u64) -> Fussy {
@@ -37,11 +61,8 @@ fn make(dial: &Dial, number: u64, readings: u64) -> Fussy {
 }
 
 /// Whether a call that leads, and makes its value once another waits, is refused.
-fn is_refused<H: Wait>(rt: &H, fussies: &Stage<Fussies>, readings: u64) -> bool {
-    match fussies
-        .cache
-        .get_with(rt, 0, || make(&fussies.dial, 1, readings))
-    {
+fn is_refused<H: Wait, T: Fussies>(rt: &H, fussies: &Stage<T>, readings: u64) -> bool {
+    match fussies.cache.make(rt, || make(&fussies.dial, 1, readings)) {
         Ok(_) => false,
         Err(error) => error == CacheError::OutOfMemory,
     }
@@ -52,18 +73,18 @@ fn two() -> Fussy {
 }
 
 /// Whether a call that waits makes the value.
-fn is_made<H: Wait>(rt: &H, fussies: &Stage<Fussies>, readings: u64) -> bool {
+fn is_made<H: Wait, T: Fussies>(rt: &H, fussies: &Stage<T>, readings: u64) -> bool {
     if !wait_for_readings(&fussies.dial, readings) {
         return false;
     }
-    match fussies.cache.get_with(rt, 0, two) {
+    match fussies.cache.make(rt, two) {
         Ok(made) => made.0 == 2,
         Err(_) => false,
     }
 }
 
 /// Whether the leader is refused, and who waited makes the value.
-fn next_leads<R: Threads + Wait + Sync>(rt: &R, fussies: &Stage<Fussies>) -> bool {
+fn next_leads<R: Threads + Wait + Sync, T: Fussies + Sync>(rt: &R, fussies: &Stage<T>) -> bool {
     let before = fussies.dial.readings();
     let (is_refused, is_made) = thread::join(
         rt,
@@ -73,30 +94,40 @@ fn next_leads<R: Threads + Wait + Sync>(rt: &R, fussies: &Stage<Fussies>) -> boo
     is_refused && is_made
 }
 
-/// An empty cache, with the moments of a dial.
-fn make_fussies(alloc: Global, dial: &Arc<Dial>) -> Option<Fussies> {
-    match moments_of(dial) {
-        Some(moments) => Cache::new(alloc, 10, moments).ok(),
-        None => None,
+/// The same on a cache, if one was made.
+fn next_leads_on<R: Threads + Wait + Sync, T: Fussies + Sync>(
+    rt: &R,
+    dial: Arc<Dial>,
+    cache: Result<T, BuildError>,
+) -> bool {
+    match cache {
+        Ok(cache) => next_leads(rt, &stage_of(cache, dial)),
+        Err(_) => false,
     }
 }
 
-/// The same on a stage.
-fn make_stage(alloc: Global) -> Option<Stage<Fussies>> {
+/// The same of a new cache of a form.
+fn next_leads_in<R: Threads + Wait + Sync>(rt: &R, alloc: Global, form: Form) -> Option<bool> {
     let dial = make_dial(alloc)?;
-    let cache = make_fussies(alloc, &dial)?;
-    Some(stage_of(cache, dial))
+    let moments = moments_of(&dial)?;
+    let builder = CacheBuilder::new(10);
+    Some(match form {
+        Form::One => next_leads_on(rt, dial, builder.build(alloc, moments)),
+        Form::Segments => next_leads_on(rt, dial, builder.segments(4).build(alloc, moments)),
+        Form::Shards => next_leads_on(rt, dial, builder.shards(4).build(alloc, moments)),
+    })
 }
 
-/// Whether the next caller leads in a new cache.
-fn next_leads_anew<R: Threads + Wait + Sync>(rt: &R, alloc: Global) -> bool {
-    match make_stage(alloc) {
-        Some(fussies) => next_leads(rt, &fussies),
-        None => false,
-    }
+/// The same, on the second attempt if memory is refused.
+fn holds<R: Threads + Wait + Sync>(rt: &R, alloc: Global, form: Form) -> bool {
+    next_leads_in(rt, alloc, form) == Some(true) || next_leads_in(rt, alloc, form) == Some(true)
 }
 
 #[test]
 fn refused_leader_gives_its_turn_up(rt: HostRuntime) {
-    assert!(rt; next_leads_anew(&rt, rt.alloc()) || next_leads_anew(&rt, rt.alloc()));
+    assert!(rt;
+        holds(&rt, rt.alloc(), Form::One)
+            && holds(&rt, rt.alloc(), Form::Segments)
+            && holds(&rt, rt.alloc(), Form::Shards)
+    );
 }

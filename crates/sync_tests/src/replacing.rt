@@ -1,28 +1,29 @@
 //! Closures that say which values are replaced, and look into the same cache.
-use crate::caches::{Numbers, Stage, make_numbers_stage, wait_for_readings};
+use crate::caches::{Stage, wait_for_readings};
+use crate::numbers::Numbers;
 use crate::rows::{gets, inserts};
-use std::alloc::Global;
+use crate::scenes::{Scene, holds};
 use std::sync::Wait;
 use std::sync::atomic::Ordering;
 use std::thread;
 use std::thread::Threads;
 
 /// Whether the value that is asked about is the one that the same cache shows, and is 5. Counts how often it is asked.
-fn is_five<H: Wait>(rt: &H, shared: &Stage<Numbers>, seen: u64) -> bool {
+fn is_five<H: Wait, T: Numbers>(rt: &H, shared: &Stage<T>, seen: u64) -> bool {
     shared.runs.fetch_add(1, Ordering::SeqCst);
     gets(rt, &shared.cache, 1, Some(seen)) && seen == 5
 }
 
 /// Whether a key has this value, once it is made anew if it was 5.
-fn asks<H: Wait>(rt: &H, shared: &Stage<Numbers>, value: u64) -> bool {
+fn asks<H: Wait, T: Numbers>(rt: &H, shared: &Stage<T>, value: u64) -> bool {
     shared
         .cache
-        .get_with_if(rt, 1, || 6, |seen: &u64| is_five(rt, shared, *seen))
+        .make_if(rt, 1, || 6, |seen: &u64| is_five(rt, shared, *seen))
         == Ok(value)
 }
 
 /// Whether a value that is not to be replaced stays, and one that is to be is made anew; each is asked about once.
-fn looks<H: Wait>(rt: &H, shared: &Stage<Numbers>) -> bool {
+fn looks<H: Wait, T: Numbers>(rt: &H, shared: &Stage<T>) -> bool {
     inserts(rt, &shared.cache, 1, 4)
         && asks(rt, shared, 4)
         && inserts(rt, &shared.cache, 1, 5)
@@ -31,24 +32,24 @@ fn looks<H: Wait>(rt: &H, shared: &Stage<Numbers>) -> bool {
 }
 
 /// Says yes of 7 alone, once another has written meanwhile.
-fn is_seven(shared: &Stage<Numbers>, seen: u64, readings: u64) -> bool {
+fn is_seven<T>(shared: &Stage<T>, seen: u64, readings: u64) -> bool {
     shared.runs.fetch_add(1, Ordering::SeqCst);
     wait_for_readings(&shared.dial, readings) && seen == 7
 }
 
 /// Whether 8 is kept, once it is asked about.
-fn keeps_eight<H: Wait>(rt: &H, shared: &Stage<Numbers>, before: u64) -> bool {
+fn keeps_eight<H: Wait, T: Numbers>(rt: &H, shared: &Stage<T>, before: u64) -> bool {
     let readings = before.saturating_add(2);
-    shared.cache.get_with_if(rt, 1, || 9, |seen: &u64| is_seven(shared, *seen, readings)) == Ok(8)
+    shared.cache.make_if(rt, 1, || 9, |seen: &u64| is_seven(shared, *seen, readings)) == Ok(8)
 }
 
 /// Whether 8 is written, once 7 is asked about.
-fn writes_eight<H: Wait>(rt: &H, shared: &Stage<Numbers>, before: u64) -> bool {
+fn writes_eight<H: Wait, T: Numbers>(rt: &H, shared: &Stage<T>, before: u64) -> bool {
     wait_for_readings(&shared.dial, before.saturating_add(1)) && inserts(rt, &shared.cache, 1, 8)
 }
 
 /// Whether the closure, if a value is written while it runs, is called again with that value.
-fn asks_again<R: Threads + Wait + Sync>(rt: &R, shared: &Stage<Numbers>) -> bool {
+fn asks_again<R: Threads + Wait + Sync, T: Numbers + Sync>(rt: &R, shared: &Stage<T>) -> bool {
     let before = shared.dial.readings();
     let asked = shared.runs.load(Ordering::SeqCst);
     let (kept, written) = thread::join(
@@ -60,19 +61,11 @@ fn asks_again<R: Threads + Wait + Sync>(rt: &R, shared: &Stage<Numbers>) -> bool
 }
 
 /// Whether closures look into the cache, and are asked again.
-fn are_right<R: Threads + Wait + Sync>(rt: &R, shared: &Stage<Numbers>) -> bool {
+pub fn are_right<R: Threads + Wait + Sync, T: Numbers + Sync>(rt: &R, shared: &Stage<T>) -> bool {
     looks(rt, shared) && inserts(rt, &shared.cache, 1, 7) && asks_again(rt, shared)
-}
-
-/// The same of a new cache.
-fn are_right_anew<R: Threads + Wait + Sync>(rt: &R, alloc: Global) -> bool {
-    match make_numbers_stage(alloc) {
-        Some(shared) => are_right(rt, &shared),
-        None => false,
-    }
 }
 
 #[test]
 fn closures_look_into_the_cache(rt: HostRuntime) {
-    assert!(rt; are_right_anew(&rt, rt.alloc()) || are_right_anew(&rt, rt.alloc()));
+    assert!(rt; holds(&rt, rt.alloc(), Scene::Replacing));
 }

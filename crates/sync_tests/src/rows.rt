@@ -1,7 +1,8 @@
 //! Calls of one thread on any cache of numbers, and what each is to answer. A call that is refused for lack of memory has changed
 //! nothing, and is made once more.
-use crate::caches::{NumbersBy, Stage};
-use moka_sync::{RemovalCause, Rules};
+use crate::caches::Stage;
+use crate::numbers::Numbers;
+use moka_sync::RemovalCause;
 use std::sync::Wait;
 
 /// What is done, and what is to come of it.
@@ -14,6 +15,8 @@ pub enum Row {
     Invalidate(u64),
     Clear,
     Run,
+    /// `get_with_if` of a key: what is made, which value is replaced, and what is returned.
+    MakeIf(u64, u64, u64, u64),
     Get(u64, Option<u64>),
     Has(u64, bool),
     Count(u64),
@@ -27,74 +30,58 @@ pub enum Row {
 }
 
 /// Whether a value is written.
-pub fn inserts<H: Wait, R: Rules<u64, u64> + Drop, C: Drop>(
-    rt: &H,
-    cache: &NumbersBy<R, C>,
-    key: u64,
-    value: u64,
-) -> bool {
-    cache.insert(rt, key, value).is_ok() || cache.insert(rt, key, value).is_ok()
+pub fn inserts<H: Wait, T: Numbers>(rt: &H, cache: &T, key: u64, value: u64) -> bool {
+    cache.put(rt, key, value).is_ok() || cache.put(rt, key, value).is_ok()
 }
 
 /// Whether a key has this value, or none.
-pub fn gets<H: Wait, R: Rules<u64, u64> + Drop, C: Drop>(
-    rt: &H,
-    cache: &NumbersBy<R, C>,
-    key: u64,
-    value: Option<u64>,
-) -> bool {
-    match cache.get(rt, &key) {
+pub fn gets<H: Wait, T: Numbers>(rt: &H, cache: &T, key: u64, value: Option<u64>) -> bool {
+    match cache.find(rt, key) {
         Ok(found) => found == value,
-        Err(_) => cache.get(rt, &key) == Ok(value),
+        Err(_) => cache.find(rt, key) == Ok(value),
     }
 }
 
 /// Whether a key had this value, or none, and has none now.
-pub fn removes<H: Wait, R: Rules<u64, u64> + Drop, C: Drop>(
-    rt: &H,
-    cache: &NumbersBy<R, C>,
-    key: u64,
-    value: Option<u64>,
-) -> bool {
-    match cache.remove(rt, &key) {
+pub fn removes<H: Wait, T: Numbers>(rt: &H, cache: &T, key: u64, value: Option<u64>) -> bool {
+    match cache.take_out(rt, key) {
         Ok(found) => found == value,
-        Err(_) => cache.remove(rt, &key) == Ok(value),
+        Err(_) => cache.take_out(rt, key) == Ok(value),
     }
 }
 
 /// Whether a key is taken back.
-pub fn invalidates<H: Wait, R: Rules<u64, u64> + Drop, C: Drop>(
+pub fn invalidates<H: Wait, T: Numbers>(rt: &H, cache: &T, key: u64) -> bool {
+    cache.take_back(rt, key).is_ok() || cache.take_back(rt, key).is_ok()
+}
+
+/// Whether a key has this value, once one is made if there is none or a certain old one.
+fn makes_if<H: Wait, T: Numbers>(
     rt: &H,
-    cache: &NumbersBy<R, C>,
+    cache: &T,
     key: u64,
+    made: u64,
+    old: u64,
+    value: u64,
 ) -> bool {
-    cache.invalidate(rt, &key).is_ok() || cache.invalidate(rt, &key).is_ok()
+    cache.make_if(rt, key, || made, |seen: &u64| *seen == old) == Ok(value)
 }
 
 /// Whether maintenance runs.
-pub fn runs<H: Wait, R: Rules<u64, u64> + Drop, C: Drop>(rt: &H, cache: &NumbersBy<R, C>) -> bool {
-    cache.run_pending_tasks(rt).is_ok()
+pub fn runs<H: Wait, T: Numbers>(rt: &H, cache: &T) -> bool {
+    cache.run(rt).is_ok()
 }
 
 /// The key of the oldest notice, if that is of this cause.
-pub fn told<H: Wait, R: Rules<u64, u64> + Drop, C: Drop>(
-    rt: &H,
-    cache: &NumbersBy<R, C>,
-    cause: RemovalCause,
-) -> Option<u64> {
-    match cache.next_notice(rt) {
+pub fn told<H: Wait, T: Numbers>(rt: &H, cache: &T, cause: RemovalCause) -> Option<u64> {
+    match cache.tell(rt) {
         Some(notice) if notice.cause == cause => Some(*notice.key),
         _ => None,
     }
 }
 
 /// Whether these are the keys of the two oldest notices, and both are of this cause.
-fn are_told<H: Wait, R: Rules<u64, u64> + Drop, C: Drop>(
-    rt: &H,
-    cache: &NumbersBy<R, C>,
-    keys: (u64, u64),
-    cause: RemovalCause,
-) -> bool {
+fn are_told<H: Wait, T: Numbers>(rt: &H, cache: &T, keys: (u64, u64), cause: RemovalCause) -> bool {
     match (told(rt, cache, cause), told(rt, cache, cause)) {
         (Some(first), Some(second)) => (first, second) == keys || (second, first) == keys,
         _ => false,
@@ -102,56 +89,41 @@ fn are_told<H: Wait, R: Rules<u64, u64> + Drop, C: Drop>(
 }
 
 /// Whether the notices are the expected ones.
-fn tells_so<H: Wait, R: Rules<u64, u64> + Drop, C: Drop>(
-    rt: &H,
-    cache: &NumbersBy<R, C>,
-    row: Row,
-) -> bool {
+fn tells_so<H: Wait, T: Numbers>(rt: &H, cache: &T, row: Row) -> bool {
     match row {
         Row::Is(key, cause) => told(rt, cache, cause) == Some(key),
         Row::Are(first, second, cause) => are_told(rt, cache, (first, second), cause),
-        Row::NoneTold => cache.next_notice(rt).is_none(),
+        Row::NoneTold => cache.tell(rt).is_none(),
         _ => false,
     }
 }
 
 /// Whether the cache shows what is expected.
-fn shows_so<H: Wait, R: Rules<u64, u64> + Drop, C: Drop>(
-    rt: &H,
-    cache: &NumbersBy<R, C>,
-    row: Row,
-) -> bool {
+fn shows_so<H: Wait, T: Numbers>(rt: &H, cache: &T, row: Row) -> bool {
     match row {
         Row::Get(key, value) => gets(rt, cache, key, value),
-        Row::Has(key, is_there) => cache.contains_key(rt, &key) == is_there,
-        Row::Count(count) => cache.entry_count(rt) == count,
-        Row::Weight(weight) => cache.weighted_size(rt) == weight,
+        Row::Has(key, is_there) => cache.has(rt, key) == is_there,
+        Row::Count(count) => cache.count(rt) == count,
+        Row::Weight(weight) => cache.weight(rt) == weight,
         row => tells_so(rt, cache, row),
     }
 }
 
 /// Whether a call that changes the cache returns the expected result, or the cache shows it.
-fn comes_so<H: Wait, R: Rules<u64, u64> + Drop, C: Drop>(
-    rt: &H,
-    cache: &NumbersBy<R, C>,
-    row: Row,
-) -> bool {
+fn comes_so<H: Wait, T: Numbers>(rt: &H, cache: &T, row: Row) -> bool {
     match row {
         Row::Insert(key, value) => inserts(rt, cache, key, value),
         Row::Remove(key, value) => removes(rt, cache, key, value),
         Row::Invalidate(key) => invalidates(rt, cache, key),
-        Row::Clear => cache.invalidate_all(rt).is_ok(),
+        Row::Clear => cache.clear(rt).is_ok(),
         Row::Run => runs(rt, cache),
+        Row::MakeIf(key, made, old, value) => makes_if(rt, cache, key, made, old, value),
         row => shows_so(rt, cache, row),
     }
 }
 
 /// The same; it may be another moment from here on.
-fn is_so<H: Wait, R: Rules<u64, u64> + Drop, C: Drop>(
-    rt: &H,
-    stage: &Stage<NumbersBy<R, C>>,
-    row: Row,
-) -> bool {
+fn is_so<H: Wait, T: Numbers>(rt: &H, stage: &Stage<T>, row: Row) -> bool {
     match row {
         Row::At(nanos) => {
             stage.dial.set(nanos);
@@ -162,11 +134,7 @@ fn is_so<H: Wait, R: Rules<u64, u64> + Drop, C: Drop>(
 }
 
 /// The place of the first row that does not come out so.
-pub fn wrong_row<H: Wait, R: Rules<u64, u64> + Drop, C: Drop>(
-    rt: &H,
-    stage: &Stage<NumbersBy<R, C>>,
-    rows: &[Row],
-) -> Option<usize> {
+pub fn wrong_row<H: Wait, T: Numbers>(rt: &H, stage: &Stage<T>, rows: &[Row]) -> Option<usize> {
     for (place, row) in rows.iter().enumerate() {
         if !is_so(rt, stage, *row) {
             return Some(place);
@@ -176,10 +144,35 @@ pub fn wrong_row<H: Wait, R: Rules<u64, u64> + Drop, C: Drop>(
 }
 
 /// Whether all rows come out so.
-pub fn are_so<H: Wait, R: Rules<u64, u64> + Drop, C: Drop>(
-    rt: &H,
-    stage: &Stage<NumbersBy<R, C>>,
-    rows: &[Row],
-) -> bool {
+pub fn are_so<H: Wait, T: Numbers>(rt: &H, stage: &Stage<T>, rows: &[Row]) -> bool {
     wrong_row(rt, stage, rows).is_none()
+}
+
+/// What is done with a key.
+#[derive(Clone, Copy)]
+pub enum Deed {
+    /// It is inserted with its double.
+    Insert,
+    /// The same, with a run behind it.
+    InsertAndRun,
+    Invalidate,
+}
+
+/// Whether that is done.
+fn does<H: Wait, T: Numbers>(rt: &H, cache: &T, deed: Deed, key: u64) -> bool {
+    match deed {
+        Deed::Insert => inserts(rt, cache, key, key.wrapping_mul(2)),
+        Deed::InsertAndRun => inserts(rt, cache, key, key.wrapping_mul(2)) && runs(rt, cache),
+        Deed::Invalidate => invalidates(rt, cache, key),
+    }
+}
+
+/// Whether it is done with each of this many keys.
+pub fn does_all<H: Wait, T: Numbers>(rt: &H, cache: &T, deed: Deed, keys: u64) -> bool {
+    for key in 0..keys {
+        if !does(rt, cache, deed, key) {
+            return false;
+        }
+    }
+    true
 }

@@ -1,50 +1,21 @@
-//! A cache of several shards: calls of threads beside one another, predicates in all shards or in none, and what leaves.
-ghost use Rattle.std.specs.Prelude.{◌==◌, ◌%◌};
-
-use crate::caches::{Moments, NumbersBy, each_says_yes, make_moments};
+//! Threads beside one another on a cache of any form: what they fill, clear and cover, what they hear of, and that none waits for
+//! itself.
+use crate::caches::{Stage, each_says_yes};
+use crate::forms::{FIVE_HUNDRED, Form, Settings, Staged};
+use crate::numbers::Told;
 use crate::rows::{inserts, removes, runs};
-use moka_sync::{
-    Build, Bundle, CacheBuilder, NoExpiry, Notice, Predicate, Sharded, Shared, WeighOne,
-};
+use crate::scenes::{Scene, holds, holds_in, never_fails};
 use std::alloc::Global;
 use std::sync::Wait;
 use std::sync::atomic::{AtomicU64, Ordering};
 use std::thread;
 use std::thread::Threads;
 
-/// Covers the entries of odd keys.
-#[derive(Drop)]
-struct Odd;
-
-impl<V> Predicate<u64, V> for Odd {
-    ghost covers = { λ _ key _. key % 2 == 1 };
-
-    fn is_match(&self, key: &u64, _value: &V) -> bool {
-        *key % 2 == 1
-    }
-}
-
-/// A cache of several shards that reports what leaves and accepts such predicates.
-type Shards = NumbersBy<Bundle<NoExpiry, WeighOne, Odd, ()>, Sharded>;
-
-/// One with room for all. 13 wanted shards are 16.
-fn make_shards(alloc: Global) -> Option<Shards> {
-    match make_moments(alloc) {
-        Some(moments) => CacheBuilder::new(1 << 20)
-            .shards(13)
-            .report_removals()
-            .support_invalidation_closures::<Odd>()
-            .build(alloc, moments)
-            .ok(),
-        None => None,
-    }
-}
-
 /// How many of the keys below a bound are visible.
-fn count_visible<H: Wait>(rt: &H, cache: &Shards, bound: u64) -> u64 {
+fn count_visible<H: Wait, T: Staged>(rt: &H, cache: &T, bound: u64) -> u64 {
     let mut count = 0u64;
     for key in 0..bound {
-        if cache.contains_key(rt, &key) {
+        if cache.has(rt, key) {
             count = count.saturating_add(1);
         }
     }
@@ -52,7 +23,7 @@ fn count_visible<H: Wait>(rt: &H, cache: &Shards, bound: u64) -> u64 {
 }
 
 /// Whether the keys of one of four threads, each fourth one below a bound, are inserted.
-fn fills<H: Wait>(rt: &H, cache: &Shards, number: usize, bound: u64) -> bool {
+fn fills<H: Wait, T: Staged>(rt: &H, cache: &T, number: usize, bound: u64) -> bool {
     for key in 0..bound {
         if key % 4 == number as u64 && !inserts(rt, cache, key, key) {
             return false;
@@ -75,7 +46,7 @@ enum Work {
 }
 
 /// Whether a key of one of four threads is removed.
-fn empties<H: Wait>(rt: &H, cache: &Shards, number: usize) -> bool {
+fn empties<H: Wait, T: Staged>(rt: &H, cache: &T, number: usize) -> bool {
     for key in 0..1600u64 {
         if key % 4 == number as u64 && !removes(rt, cache, key, Some(key)) {
             return false;
@@ -91,9 +62,9 @@ fn make(made: &AtomicU64, key: u64) -> u64 {
 }
 
 /// Whether each key has its number as its value, which may have to be made.
-fn makes<H: Wait>(rt: &H, cache: &Shards, made: &AtomicU64) -> bool {
+fn makes<H: Wait, T: Staged>(rt: &H, cache: &T, made: &AtomicU64) -> bool {
     for key in 0..1600u64 {
-        if cache.get_with(rt, key, || make(made, key)) != Ok(key) {
+        if cache.make(rt, key, || make(made, key)) != Ok(key) {
             return false;
         }
     }
@@ -101,10 +72,10 @@ fn makes<H: Wait>(rt: &H, cache: &Shards, made: &AtomicU64) -> bool {
 }
 
 /// Calls on all shards, and one on another key.
-fn calls_all<H: Wait>(rt: &H, cache: &Shards, key: u64) -> u64 {
-    let is_covered = cache.invalidate_entries_if(rt, Odd).is_ok();
-    let is_cleared = cache.invalidate_all(rt).is_ok();
-    let is_there = cache.contains_key(rt, &key.wrapping_add(1));
+fn calls_all<H: Wait, T: Staged>(rt: &H, cache: &T, key: u64) -> u64 {
+    let is_covered = cache.cover_odd(rt).is_ok();
+    let is_cleared = cache.clear(rt).is_ok();
+    let is_there = cache.has(rt, key.wrapping_add(1));
     if is_covered && is_cleared && !is_there && runs(rt, cache) {
         key
     } else {
@@ -113,12 +84,12 @@ fn calls_all<H: Wait>(rt: &H, cache: &Shards, key: u64) -> u64 {
 }
 
 /// Whether calls on all shards return, within a closure that makes a value and outside it.
-fn mixes<H: Wait>(rt: &H, cache: &Shards, number: usize) -> bool {
+fn mixes<H: Wait, T: Staged>(rt: &H, cache: &T, number: usize) -> bool {
     for round in 0..20u64 {
         let key = round
             .wrapping_mul(8)
             .wrapping_add((number as u64).wrapping_mul(2));
-        if cache.get_with(rt, key, || calls_all(rt, cache, key)) != Ok(key)
+        if cache.make(rt, key, || calls_all(rt, cache, key)) != Ok(key)
             || calls_all(rt, cache, key) != key
         {
             return false;
@@ -128,7 +99,13 @@ fn mixes<H: Wait>(rt: &H, cache: &Shards, number: usize) -> bool {
 }
 
 /// Whether one thread's work comes out as it should.
-fn works<H: Wait>(rt: &H, cache: &Shards, made: &AtomicU64, work: Work, number: usize) -> bool {
+fn works<H: Wait, T: Staged>(
+    rt: &H,
+    cache: &T,
+    made: &AtomicU64,
+    work: Work,
+    number: usize,
+) -> bool {
     match work {
         Work::Fill => fills(rt, cache, number, 1600),
         Work::Make => makes(rt, cache, made),
@@ -138,10 +115,10 @@ fn works<H: Wait>(rt: &H, cache: &Shards, made: &AtomicU64, work: Work, number: 
 }
 
 /// Whether the work of each of four threads does.
-fn all_work<R: Threads + Wait + Sync>(
+fn all_work<R: Threads + Wait + Sync, T: Staged + Sync>(
     rt: &R,
     alloc: Global,
-    cache: &Shards,
+    cache: &T,
     made: &AtomicU64,
     work: Work,
 ) -> bool {
@@ -154,29 +131,28 @@ fn all_work<R: Threads + Wait + Sync>(
 }
 
 /// Whether so many keys are visible, and as many are counted after a run.
-fn has_visible<H: Wait>(rt: &H, cache: &Shards, count: u64) -> bool {
+fn has_visible<H: Wait, T: Staged>(rt: &H, cache: &T, count: u64) -> bool {
     runs(rt, cache)
         && count_visible(rt, cache, 1600) == count
-        && cache.entry_count(rt) == count
-        && cache.weighted_size(rt) == count
+        && cache.count(rt) == count
+        && cache.weight(rt) == count
 }
 
 /// Whether what four threads fill is covered by a predicate, is made once each by four threads, and is gone after a clear.
-fn are_right<R: Threads + Wait + Sync>(
+pub fn are_right<R: Threads + Wait + Sync, T: Staged + Sync>(
     rt: &R,
     alloc: Global,
-    cache: &Shards,
+    cache: &T,
     made: &AtomicU64,
 ) -> bool {
-    cache.policy().num_segments() == 16
-        && all_work(rt, alloc, cache, made, Work::Fill)
+    all_work(rt, alloc, cache, made, Work::Fill)
         && has_visible(rt, cache, 1600)
-        && cache.invalidate_entries_if(rt, Odd).is_ok()
+        && cache.cover_odd(rt).is_ok()
         && has_visible(rt, cache, 800)
         && all_work(rt, alloc, cache, made, Work::Make)
         && made.load(Ordering::SeqCst) == 800
         && has_visible(rt, cache, 1600)
-        && cache.invalidate_all(rt).is_ok()
+        && cache.clear(rt).is_ok()
         && has_visible(rt, cache, 0)
 }
 
@@ -188,7 +164,7 @@ fn note(told: &[AtomicU64], value: u64) {
 }
 
 /// The same of some notices, which are taken out.
-fn note_all(told: &[AtomicU64], notices: &mut Vec<Notice<Shared<u64>, u64>>) {
+fn note_all(told: &[AtomicU64], notices: &mut Vec<Told>) {
     for _ in 0..notices.len() {
         if let Some(notice) = notices.pop() {
             note(told, notice.value);
@@ -197,22 +173,28 @@ fn note_all(told: &[AtomicU64], notices: &mut Vec<Notice<Shared<u64>, u64>>) {
 }
 
 /// Takes so many batches of at most 7 notices. False if there is no memory for them.
-fn hears<H: Wait>(rt: &H, alloc: Global, cache: &Shards, told: &[AtomicU64], batches: u32) -> bool {
+fn hears<H: Wait, T: Staged>(
+    rt: &H,
+    alloc: Global,
+    cache: &T,
+    told: &[AtomicU64],
+    batches: u32,
+) -> bool {
     let Ok(mut notices) = Vec::with_capacity(alloc, 7) else {
         return false;
     };
     for _ in 0..batches {
-        cache.take_notices(rt, &mut notices);
+        cache.tell_all(rt, &mut notices);
         note_all(told, &mut notices);
     }
     true
 }
 
 /// One of five threads: four remove, and the last one hears of it.
-fn removes_or_hears<R: Wait>(
+fn removes_or_hears<R: Wait, T: Staged>(
     rt: &R,
     alloc: Global,
-    cache: &Shards,
+    cache: &T,
     told: &[AtomicU64],
     number: usize,
 ) -> bool {
@@ -229,10 +211,10 @@ fn are_all_one(told: &[AtomicU64]) -> bool {
 }
 
 /// Whether each of 1600 values that four threads remove is told once, to one that counts.
-fn are_counted_once<R: Threads + Wait + Sync>(
+fn are_counted_once<R: Threads + Wait + Sync, T: Staged + Sync>(
     rt: &R,
     alloc: Global,
-    cache: &Shards,
+    cache: &T,
     told: &[AtomicU64],
 ) -> bool {
     fills(rt, cache, 0, 1600)
@@ -247,7 +229,7 @@ fn are_counted_once<R: Threads + Wait + Sync>(
         ))
         && hears(rt, alloc, cache, told, 1000)
         && are_all_one(told)
-        && cache.next_notice(rt).is_none()
+        && cache.tell(rt).is_none()
 }
 
 /// This many counts at 0.
@@ -260,7 +242,11 @@ fn make_counts(alloc: Global, count: usize) -> Option<Vec<AtomicU64>> {
 }
 
 /// The same, with memory for the counts.
-fn are_told_once<R: Threads + Wait + Sync>(rt: &R, alloc: Global, cache: &Shards) -> bool {
+pub fn are_told_once<R: Threads + Wait + Sync, T: Staged + Sync>(
+    rt: &R,
+    alloc: Global,
+    cache: &T,
+) -> bool {
     match make_counts(alloc, 1600) {
         Some(told) => are_counted_once(rt, alloc, cache, told.as_slice()),
         None => false,
@@ -268,73 +254,72 @@ fn are_told_once<R: Threads + Wait + Sync>(rt: &R, alloc: Global, cache: &Shards
 }
 
 /// Whether a predicate covers all shards, or none if it is refused. A value that is refused is no fault of the cache.
-fn covers_all_or_none<H: Wait>(rt: &H, cache: &Shards) -> bool {
+pub fn covers_all_or_none<H: Wait, T: Staged>(rt: &H, cache: &T) -> bool {
     for key in 0..64u64 {
-        if cache.insert(rt, key, key).is_err() {
+        if cache.put(rt, key, key).is_err() {
             return true;
         }
     }
-    let is_covered = cache.invalidate_entries_if(rt, Odd).is_ok();
+    let is_covered = cache.cover_odd(rt).is_ok();
     let wanted = if is_covered { 32 } else { 64 };
     count_visible(rt, cache, 64) == wanted
 }
 
-/// What is tried on a new cache.
-#[derive(Clone, Copy)]
-enum Trial {
-    /// What threads fill is all there, and all covered.
-    Fill,
-    /// Calls on all shards return, whose callers come beside one another.
-    Return,
-    /// Each value is told once.
-    Tell,
-    /// A predicate is not refused.
-    Cover,
-    /// A predicate that is refused covers nothing.
-    Refuse,
-}
+/// 13 wanted parts, which are 16, and room for all.
+pub const ROOMY: Settings = Settings {
+    parts: 13,
+    capacity: 1 << 20,
+    ..FIVE_HUNDRED
+};
 
-/// Whether it comes out as it should.
-fn tries<R: Threads + Wait + Sync>(rt: &R, alloc: Global, cache: &Shards, trial: Trial) -> bool {
-    match trial {
-        Trial::Fill => are_right(rt, alloc, cache, &AtomicU64::new(0)),
-        Trial::Return => all_work(rt, alloc, cache, &AtomicU64::new(0), Work::Mix),
-        Trial::Tell => are_told_once(rt, alloc, cache),
-        Trial::Cover => cache.invalidate_entries_if(rt, Odd) == Ok(()),
-        Trial::Refuse => covers_all_or_none(rt, cache),
-    }
-}
-
-/// The same of a new cache; nothing if none can be made.
-fn tries_anew<R: Threads + Wait + Sync>(rt: &R, alloc: Global, trial: Trial) -> Option<bool> {
-    let cache = make_shards(alloc)?;
-    Some(tries(rt, alloc, &cache, trial))
-}
-
-/// The same, on the second attempt if memory is refused.
-fn passes<R: Threads + Wait + Sync>(rt: &R, alloc: Global, trial: Trial) -> bool {
-    tries_anew(rt, alloc, trial) == Some(true) || tries_anew(rt, alloc, trial) == Some(true)
+/// Whether calls on the whole return, whose callers come beside one another.
+pub fn return_all<R: Threads + Wait + Sync, T: Staged + Sync>(
+    rt: &R,
+    alloc: Global,
+    cache: &T,
+    made: &AtomicU64,
+) -> bool {
+    all_work(rt, alloc, cache, made, Work::Mix)
 }
 
 #[test]
-fn four_threads_on_shards(rt: HostRuntime) {
-    assert!(rt; passes(&rt, rt.alloc(), Trial::Fill));
+fn threads_fill_and_clear(rt: HostRuntime) {
+    assert!(rt; holds_in(&rt, rt.alloc(), Form::One, Scene::Fill));
+}
+
+#[test]
+fn threads_fill_and_clear_segments(rt: HostRuntime) {
+    assert!(rt; holds_in(&rt, rt.alloc(), Form::Segments, Scene::Fill));
+}
+
+#[test]
+fn threads_fill_and_clear_shards(rt: HostRuntime) {
+    assert!(rt; holds_in(&rt, rt.alloc(), Form::Shards, Scene::Fill));
 }
 
 #[test]
 fn no_caller_waits_for_itself(rt: HostRuntime) {
-    assert!(rt; passes(&rt, rt.alloc(), Trial::Return));
+    assert!(rt; holds(&rt, rt.alloc(), Scene::Return));
 }
 
 #[test]
-fn each_shard_tells_once(rt: HostRuntime) {
-    assert!(rt; passes(&rt, rt.alloc(), Trial::Tell));
+fn each_is_told_once(rt: HostRuntime) {
+    assert!(rt; holds_in(&rt, rt.alloc(), Form::One, Scene::Tell));
 }
 
 #[test]
-fn a_predicate_covers_all_shards_or_none(rt: HostRuntime) {
+fn each_of_segments_is_told_once(rt: HostRuntime) {
+    assert!(rt; holds_in(&rt, rt.alloc(), Form::Segments, Scene::Tell));
+}
+
+#[test]
+fn each_of_shards_is_told_once(rt: HostRuntime) {
+    assert!(rt; holds_in(&rt, rt.alloc(), Form::Shards, Scene::Tell));
+}
+
+#[test]
+fn a_predicate_covers_all_parts_or_none(rt: HostRuntime) {
     assert!(rt;
-        tries_anew(&rt, rt.alloc(), Trial::Refuse) != Some(false)
-            && passes(&rt, rt.alloc(), Trial::Cover)
+        never_fails(&rt, rt.alloc(), Scene::Refuse) && holds(&rt, rt.alloc(), Scene::Cover)
     );
 }

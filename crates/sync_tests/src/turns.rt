@@ -1,8 +1,9 @@
 //! Calls that make a value, by two threads that gates hold.
-use crate::caches::{Numbers, Stage, make_numbers_stage, wait_for_readings};
+use crate::caches::{Stage, wait_for_readings};
+use crate::forms::Staged;
 use crate::rows::gets;
+use crate::scenes::{Scene, holds};
 use moka_sync::TurnKind;
-use std::alloc::Global;
 use std::sync::Wait;
 use std::sync::atomic::Ordering;
 use std::thread;
@@ -55,7 +56,7 @@ const TURNS: [Turn; 5] = [
 ];
 
 /// Runs a closure: what it makes, or 99 if the dial is not read this often.
-fn make(shared: &Stage<Numbers>, making: Making) -> Option<u64> {
+fn make<T>(shared: &Stage<T>, making: Making) -> Option<u64> {
     shared.runs.fetch_add(1, Ordering::SeqCst);
     if wait_for_readings(&shared.dial, making.readings) {
         making.made
@@ -65,12 +66,10 @@ fn make(shared: &Stage<Numbers>, making: Making) -> Option<u64> {
 }
 
 /// Whether a call whose closure may fail returns what its turn makes.
-fn is_tried<H: Wait>(rt: &H, shared: &Stage<Numbers>, turn: Turn, making: Making) -> bool {
-    let answer = shared
-        .cache
-        .try_get_with(rt, turn.key, || -> Result<u64, u64> {
-            make(shared, making).ok_or(7)
-        });
+fn is_tried<H: Wait, T: Staged>(rt: &H, shared: &Stage<T>, turn: Turn, making: Making) -> bool {
+    let answer = shared.cache.try_make(rt, turn.key, || -> Result<u64, u64> {
+        make(shared, making).ok_or(7)
+    });
     match answer {
         Ok(Ok(value)) => turn.made == Some(value),
         Ok(Err(fault)) => turn.made.is_none() && *fault == 7,
@@ -79,23 +78,28 @@ fn is_tried<H: Wait>(rt: &H, shared: &Stage<Numbers>, turn: Turn, making: Making
 }
 
 /// The same of one whose closure may make none.
-fn is_made_or_none<H: Wait>(rt: &H, shared: &Stage<Numbers>, turn: Turn, making: Making) -> bool {
+fn is_made_or_none<H: Wait, T: Staged>(
+    rt: &H,
+    shared: &Stage<T>,
+    turn: Turn,
+    making: Making,
+) -> bool {
     shared
         .cache
-        .optionally_get_with(rt, turn.key, || make(shared, making))
+        .make_or_none(rt, turn.key, || make(shared, making))
         == Ok(turn.made)
 }
 
 /// The same of one whose closure makes a value.
-fn is_made<H: Wait>(rt: &H, shared: &Stage<Numbers>, turn: Turn, making: Making) -> bool {
+fn is_made<H: Wait, T: Staged>(rt: &H, shared: &Stage<T>, turn: Turn, making: Making) -> bool {
     shared
         .cache
-        .get_with(rt, turn.key, || make(shared, making).unwrap_or(0))
+        .make(rt, turn.key, || make(shared, making).unwrap_or(0))
         == Ok(turn.made.unwrap_or(0))
 }
 
 /// Whether a call of the turn's kind returns what its turn makes.
-fn is_answered<H: Wait>(rt: &H, shared: &Stage<Numbers>, turn: Turn, making: Making) -> bool {
+fn is_answered<H: Wait, T: Staged>(rt: &H, shared: &Stage<T>, turn: Turn, making: Making) -> bool {
     match turn.kind {
         TurnKind::Try => is_tried(rt, shared, turn, making),
         TurnKind::Optionally => is_made_or_none(rt, shared, turn, making),
@@ -104,13 +108,13 @@ fn is_answered<H: Wait>(rt: &H, shared: &Stage<Numbers>, turn: Turn, making: Mak
 }
 
 /// Whether a call that leads returns the expected result: its closure continues once another waits.
-fn leads<H: Wait>(rt: &H, shared: &Stage<Numbers>, turn: Turn, readings: u64) -> bool {
+fn leads<H: Wait, T: Staged>(rt: &H, shared: &Stage<T>, turn: Turn, readings: u64) -> bool {
     let made = turn.made;
     is_answered(rt, shared, turn, Making { made, readings })
 }
 
 /// Whether, once the other leads, a look-up sees nothing, and a call that waits returns the expected result.
-fn follows<H: Wait>(rt: &H, shared: &Stage<Numbers>, turn: Turn, readings: u64) -> bool {
+fn follows<H: Wait, T: Staged>(rt: &H, shared: &Stage<T>, turn: Turn, readings: u64) -> bool {
     wait_for_readings(&shared.dial, readings)
         && gets(rt, &shared.cache, turn.key, None)
         && is_answered(rt, shared, turn, other(98))
@@ -125,7 +129,11 @@ fn other(made: u64) -> Making {
 }
 
 /// Whether one of two calls makes it, and both return it.
-fn is_shared<R: Threads + Wait + Sync>(rt: &R, shared: &Stage<Numbers>, turn: Turn) -> bool {
+fn is_shared<R: Threads + Wait + Sync, T: Staged + Sync>(
+    rt: &R,
+    shared: &Stage<T>,
+    turn: Turn,
+) -> bool {
     let before = shared.dial.readings();
     let runs = shared.runs.load(Ordering::SeqCst);
     let (led, followed) = thread::join(
@@ -137,12 +145,16 @@ fn is_shared<R: Threads + Wait + Sync>(rt: &R, shared: &Stage<Numbers>, turn: Tu
 }
 
 /// Whether a turn has the expected result. A third caller gets the value too.
-fn is_right<R: Threads + Wait + Sync>(rt: &R, shared: &Stage<Numbers>, turn: Turn) -> bool {
+fn is_right<R: Threads + Wait + Sync, T: Staged + Sync>(
+    rt: &R,
+    shared: &Stage<T>,
+    turn: Turn,
+) -> bool {
     is_shared(rt, shared, turn) && (turn.made.is_none() || is_answered(rt, shared, turn, other(97)))
 }
 
 /// Whether each turn comes out so.
-fn are_right<R: Threads + Wait + Sync>(rt: &R, shared: &Stage<Numbers>) -> bool {
+pub fn are_right<R: Threads + Wait + Sync, T: Staged + Sync>(rt: &R, shared: &Stage<T>) -> bool {
     for turn in &TURNS {
         if !is_right(rt, shared, *turn) {
             return false;
@@ -151,15 +163,7 @@ fn are_right<R: Threads + Wait + Sync>(rt: &R, shared: &Stage<Numbers>) -> bool 
     true
 }
 
-/// The same of a new cache.
-fn are_right_anew<R: Threads + Wait + Sync>(rt: &R, alloc: Global) -> bool {
-    match make_numbers_stage(alloc) {
-        Some(shared) => are_right(rt, &shared),
-        None => false,
-    }
-}
-
 #[test]
 fn a_turn_is_answered_to_all(rt: HostRuntime) {
-    assert!(rt; are_right_anew(&rt, rt.alloc()) || are_right_anew(&rt, rt.alloc()));
+    assert!(rt; holds(&rt, rt.alloc(), Scene::Turns));
 }

@@ -1,195 +1,17 @@
-//! Whole caches: iterators beside writers, reported evictions, no room at all, printed text, what builders make.
-use crate::caches::{Moments, NumbersBy, Play, Stage, each_says_yes, make_moments, passes};
-use crate::rows::{inserts, invalidates, runs, told};
+//! Whole caches: keys alone, printed text, what builders make.
+use crate::caches::{Moments, NumbersBy, Play, Stage, make_moments, passes};
+use crate::scenes::{Scene, holds};
 use moka_sync::{
-    Attached, Build, BuildError, CacheBuilder, CacheError, Made, PlainCache, PlainRules,
-    RemovalCause, Segmented, SegmentedCache, Shared, Single, StdHasher, WaiterValue,
+    Build, BuildError, CacheBuilder, Made, PlainCache, PlainRules, Segmented, SegmentedCache,
+    ShardedCache, Shared, StdHasher, WaiterValue, shards_for,
 };
 use std::alloc::{AllocError, Global};
 use std::fmt::Write;
 use std::sync::Wait;
-use std::thread;
 use std::thread::Threads;
 
-/// A cache of numbers by plain rules, of either form.
-type Plain<C = Single> = NumbersBy<PlainRules, C>;
-
-/// What is done with a key.
-#[derive(Clone, Copy)]
-enum Deed {
-    /// It is inserted with its double.
-    Insert,
-    /// The same, with a run behind it.
-    InsertAndRun,
-    Invalidate,
-}
-
-/// Whether that is done.
-fn does<H: Wait, C: Drop>(rt: &H, cache: &Plain<C>, deed: Deed, key: u64) -> bool {
-    match deed {
-        Deed::Insert => inserts(rt, cache, key, key.wrapping_mul(2)),
-        Deed::InsertAndRun => inserts(rt, cache, key, key.wrapping_mul(2)) && runs(rt, cache),
-        Deed::Invalidate => invalidates(rt, cache, key),
-    }
-}
-
-/// Whether it is done with each of this many keys.
-fn does_all<H: Wait, C: Drop>(rt: &H, cache: &Plain<C>, deed: Deed, keys: u64) -> bool {
-    for key in 0..keys {
-        if !does(rt, cache, deed, key) {
-            return false;
-        }
-    }
-    true
-}
-
-/// A handle of a cache of several segments.
-type Handle<H> = Attached<u64, u64, StdHasher, PlainRules, Moments, H, Segmented>;
-
-/// Whether a pair is that of a key that was not seen before.
-fn is_new(seen: &mut Vec<bool>, key: u64, value: u64) -> bool {
-    let place = key as usize;
-    if place < seen.len() && !seen[place] && value == key.wrapping_mul(2) {
-        seen[place] = true;
-        true
-    } else {
-        false
-    }
-}
-
-/// Whether an item is such a pair.
-fn is_new_item(seen: &mut Vec<bool>, item: Result<(Shared<u64>, u64), CacheError>) -> bool {
-    match item {
-        Ok((key, value)) => is_new(seen, *key, value),
-        Err(_) => false,
-    }
-}
-
-/// How many items come, if each of them is such a pair. (It stops at one that is not: a call that lacks memory would go on for ever.)
-fn count_seen<H: Wait>(attached: &Handle<H>, seen: &mut Vec<bool>) -> Option<usize> {
-    let mut count: usize = 0;
-    for item in attached {
-        if !is_new_item(seen, item) {
-            return None;
-        }
-        count = count.saturating_add(1);
-    }
-    Some(count)
-}
-
-/// The same on a handle that is made of a cache.
-fn count_seen_in<H: Wait + Copy>(
-    rt: &H,
-    cache: Plain<Segmented>,
-    seen: &mut Vec<bool>,
-) -> Option<usize> {
-    let attached = cache.attach(*rt);
-    count_seen(&attached, seen)
-}
-
-/// Whether each of so many keys comes once.
-fn sees_each_once<H: Wait + Copy>(
-    rt: &H,
-    alloc: Global,
-    cache: &Plain<Segmented>,
-    keys: usize,
-) -> Result<bool, AllocError> {
-    let mut seen = vec![in alloc; false; keys]?;
-    Ok(count_seen_in(rt, cache.clone()?, &mut seen) == Some(keys))
-}
-
-/// One of sixteen threads: eight insert, eight go over all.
-fn writes_or_sees<H: Wait + Copy>(
-    rt: &H,
-    alloc: Global,
-    cache: &Plain<Segmented>,
-    number: usize,
-) -> bool {
-    if number < 8 {
-        does_all(rt, cache, Deed::Insert, 1024)
-    } else {
-        sees_each_once(rt, alloc, cache, 1024) == Ok(true)
-    }
-}
-
-/// Whether all threads do what they should.
-fn all_see<R: Threads + Wait + Sync + Copy>(
-    rt: &R,
-    alloc: Global,
-    cache: &Plain<Segmented>,
-) -> bool {
-    each_says_yes(thread::map_indices(
-        rt,
-        alloc,
-        16,
-        &|number: usize| { writes_or_sees(rt, alloc, cache, number) },
-    ))
-}
-
-/// Iterators beside writers.
-fn are_right<R: Threads + Wait + Sync + Copy>(
-    rt: &R,
-    alloc: Global,
-    cache: &Plain<Segmented>,
-) -> bool {
-    does_all(rt, cache, Deed::Insert, 1024) && all_see(rt, alloc, cache)
-}
-
-/// A cache with room for all.
-fn make_roomy(alloc: Global) -> Option<Plain<Segmented>> {
-    match make_moments(alloc) {
-        Some(moments) => SegmentedCache::new(alloc, 2048, 4, moments).ok(),
-        None => None,
-    }
-}
-
-/// The same of a new cache.
-fn are_right_anew<R: Threads + Wait + Sync + Copy>(rt: &R, alloc: Global) -> bool {
-    match make_roomy(alloc) {
-        Some(cache) => are_right(rt, alloc, &cache),
-        None => false,
-    }
-}
-
-#[test]
-fn iterators_beside_writers(rt: HostRuntime) {
-    assert!(rt; are_right_anew(&rt, rt.alloc()) || are_right_anew(&rt, rt.alloc()));
-}
-
-/// Whether this many notices of a cause are told, and then no more.
-fn are_told<H: Wait>(rt: &H, cache: &Plain, cause: RemovalCause, count: u64) -> bool {
-    for _ in 0..count {
-        if told(rt, cache, cause).is_none() {
-            return false;
-        }
-    }
-    cache.next_notice(rt).is_none()
-}
-
-/// 600 keys come into a cache of 500: 100 are told `Size`. Then all are invalidated: 500 are told `Explicit`.
-struct SixHundred;
-
-impl<H: Wait> Play<H> for SixHundred {
-    type Cache = Plain;
-
-    fn make(&self, _rt: &H, alloc: Global, moments: Moments) -> Result<Plain, BuildError> {
-        CacheBuilder::new(500)
-            .eviction_listener()
-            .build(alloc, moments)
-    }
-
-    fn plays(&self, rt: &H, _alloc: Global, stage: &Stage<Plain>) -> bool {
-        does_all(rt, &stage.cache, Deed::InsertAndRun, 600)
-            && are_told(rt, &stage.cache, RemovalCause::Size, 100)
-            && does_all(rt, &stage.cache, Deed::Invalidate, 600)
-            && are_told(rt, &stage.cache, RemovalCause::Explicit, 500)
-    }
-}
-
-#[test]
-fn six_hundred_into_five_hundred(rt: HostRuntime) {
-    assert!(rt; passes(&rt, rt.alloc(), &SixHundred));
-}
+/// A cache of numbers in segments, by plain rules.
+type Plain = NumbersBy<PlainRules, Segmented>;
 
 /// A cache of nothing but keys.
 type Keys = SegmentedCache<u64, (), StdHasher, PlainRules, Moments>;
@@ -199,7 +21,7 @@ fn shows_nothing<H: Wait>(rt: &H, cache: &Keys) -> bool {
     !cache.contains_key(rt, &0) && cache.get(rt, &0) == Ok(None) && cache.entry_count(rt) == 0
 }
 
-/// A value is taken by a cache of capacity 0 and not kept, before a run and after it.
+/// Keys are not kept without room either.
 struct NoRoom;
 
 impl<H: Wait> Play<H> for NoRoom {
@@ -218,7 +40,7 @@ impl<H: Wait> Play<H> for NoRoom {
 }
 
 #[test]
-fn capacity_zero_keeps_nothing(rt: HostRuntime) {
+fn capacity_zero_keeps_no_key(rt: HostRuntime) {
     assert!(rt; passes(&rt, rt.alloc(), &NoRoom));
 }
 
@@ -302,7 +124,7 @@ fn turns_have_words(rt: HostRuntime) {
 }
 
 /// Whether a handle of a cache has its name.
-fn has_name(cache: &Plain<Segmented>, name: &str) -> bool {
+fn has_name(cache: &Plain, name: &str) -> bool {
     match cache.clone() {
         Ok(cache) => cache.name() == Some(name),
         Err(_) => false,
@@ -313,14 +135,9 @@ fn has_name(cache: &Plain<Segmented>, name: &str) -> bool {
 struct Tracked;
 
 impl<H> Play<H> for Tracked {
-    type Cache = Plain<Segmented>;
+    type Cache = Plain;
 
-    fn make(
-        &self,
-        _rt: &H,
-        alloc: Global,
-        moments: Moments,
-    ) -> Result<Plain<Segmented>, BuildError> {
+    fn make(&self, _rt: &H, alloc: Global, moments: Moments) -> Result<Plain, BuildError> {
         let name = String::from_str(alloc, "tracked")?;
         CacheBuilder::new(400)
             .name(name)
@@ -328,7 +145,7 @@ impl<H> Play<H> for Tracked {
             .build(alloc, moments)
     }
 
-    fn plays(&self, _rt: &H, _alloc: Global, stage: &Stage<Plain<Segmented>>) -> bool {
+    fn plays(&self, _rt: &H, _alloc: Global, stage: &Stage<Plain>) -> bool {
         let policy = stage.cache.policy();
         policy.max_capacity() == Some(400)
             && policy.num_segments() == 32
@@ -336,19 +153,40 @@ impl<H> Play<H> for Tracked {
     }
 }
 
-/// Why so many segments are refused.
-fn why_refused(alloc: Global, segments: usize) -> Option<BuildError> {
-    match make_moments(alloc) {
-        Some(moments) => SegmentedCache::<u64, u64, StdHasher, PlainRules, Moments>::new(
-            alloc, 1, segments, moments,
-        ).err(),
-        None => None,
-    }
+#[test]
+fn parts_are_rounded(rt: HostRuntime) {
+    assert!(rt; holds(&rt, rt.alloc(), Scene::Rounding));
 }
 
-/// Whether segments are refused by their number alone, on the second attempt if memory is refused.
-fn refuses(alloc: Global, segments: usize, why: BuildError) -> bool {
-    why_refused(alloc, segments) == Some(why) || why_refused(alloc, segments) == Some(why)
+/// Why so many segments are refused.
+fn why_segments_are_refused(alloc: Global, segments: usize) -> Option<BuildError> {
+    SegmentedCache::<u64, u64, StdHasher, PlainRules, Moments>::new(
+        alloc,
+        1,
+        segments,
+        make_moments(alloc)?,
+    ).err()
+}
+
+/// Why so many shards are refused.
+fn why_shards_are_refused(alloc: Global, shards: usize) -> Option<BuildError> {
+    ShardedCache::<u64, u64, StdHasher, PlainRules, Moments>::new(
+        alloc,
+        1,
+        shards,
+        make_moments(alloc)?,
+    ).err()
+}
+
+/// Whether so many segments and shards are refused for this reason.
+fn are_refused(alloc: Global, parts: usize, why: BuildError) -> bool {
+    why_segments_are_refused(alloc, parts) == Some(why)
+        && why_shards_are_refused(alloc, parts) == Some(why)
+}
+
+/// The same, on the second attempt if memory is refused.
+fn refuses(alloc: Global, parts: usize, why: BuildError) -> bool {
+    are_refused(alloc, parts, why) || are_refused(alloc, parts, why)
 }
 
 #[test]
@@ -358,4 +196,43 @@ fn builders(rt: HostRuntime) {
             && refuses(rt.alloc(), 0, BuildError::NoSegments)
             && refuses(rt.alloc(), 65_537, BuildError::TooManySegments)
     );
+}
+
+/// So many cores, a capacity, and how many shards suit them.
+const SUITING: [(usize, u64, usize); 10] = [
+    (0, 1_000_000, 16),
+    (1, 1_000_000, 16),
+    (4, 1_000_000, 16),
+    (5, 1_000_000, 32),
+    (64, 1_000_000, 256),
+    (4, 1_600, 16),
+    (4, 1_599, 8),
+    (4, 199, 1),
+    (4, 0, 1),
+    (usize::MAX, u64::MAX, 65_536),
+];
+
+#[test]
+fn shards_suit_cores(rt: HostRuntime) {
+    assert!(rt; SUITING.iter().all(|row| shards_for(row.0, row.1) == row.2));
+}
+
+/// How many shards a cache of this capacity has on this machine.
+fn count_shards<R: Threads>(rt: &R, alloc: Global, capacity: u64) -> Option<usize> {
+    let moments = make_moments(alloc)?;
+    let cache: ShardedCache<u64, u64, StdHasher, PlainRules, Moments> = ShardedCache::for_cores(
+        rt, alloc, capacity, moments,
+    ).ok()?;
+    Some(cache.policy().num_segments())
+}
+
+/// Whether a small cache has one shard, and a large one 16 or more.
+fn are_shards_chosen<R: Threads>(rt: &R, alloc: Global) -> bool {
+    count_shards(rt, alloc, 150) == Some(1)
+        && count_shards(rt, alloc, 1_000_000).is_some_and(|shards| shards >= 16)
+}
+
+#[test]
+fn shards_are_chosen_by_cores(rt: HostRuntime) {
+    assert!(rt; are_shards_chosen(&rt, rt.alloc()) || are_shards_chosen(&rt, rt.alloc()));
 }

@@ -1,4 +1,5 @@
 //! The caches that are compared, with one hasher, behind the calls that are timed.
+use crossbeam_utils::CachePadded;
 use lru::LruCache;
 use moka_sync::{
     Cache, MachineEnv, PlainRules, Sharded, ShardedCache, SharedCache, Single, StdHasher,
@@ -90,5 +91,53 @@ impl SharedNumbers for Lru {
         let mut guard = self.cache.lock(rt);
         let cache = &mut *guard;
         cache.put(key, value).is_ok()
+    }
+}
+
+/// How many pieces `Pieces` has.
+const PIECES: u64 = 16;
+
+/// The kit's cache in pieces, each with its share of the capacity under a lock of its own.
+#[derive(Drop)]
+pub struct Pieces {
+    pieces: Vec<CachePadded<Lru>>,
+}
+
+impl Pieces {
+    /// Empty pieces of a capacity together, rounded up; or nothing, where memory was refused.
+    pub fn make(alloc: Global, capacity: NonZeroUsize) -> Option<Pieces> {
+        let share = NonZeroUsize::new(capacity.get().div_ceil(PIECES as usize))?;
+        let mut pieces = Vec::new(alloc);
+        for _ in 0..PIECES {
+            pieces
+                .push(CachePadded::new(Lru::make(alloc, share)?))
+                .ok()?;
+        }
+        Some(Pieces { pieces })
+    }
+
+    /// The piece of a key.
+    fn of(&self, key: u64) -> Option<&Lru> {
+        let mixed = key.wrapping_mul(0x9E37_79B9_7F4A_7C15) >> 60;
+        match self.pieces.get(mixed as usize) {
+            Some(piece) => Some(&**piece),
+            None => None,
+        }
+    }
+}
+
+impl SharedNumbers for Pieces {
+    fn get<H: Wait>(&self, rt: &H, key: u64) -> bool {
+        match self.of(key) {
+            Some(piece) => piece.get(rt, key),
+            None => false,
+        }
+    }
+
+    fn put<H: Wait>(&self, rt: &H, key: u64, value: u64) -> bool {
+        match self.of(key) {
+            Some(piece) => piece.put(rt, key, value),
+            None => false,
+        }
     }
 }

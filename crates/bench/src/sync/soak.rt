@@ -4,8 +4,9 @@ mod calls;
 
 use crate::drawing::place_of;
 use crate::orders::number_of;
-use calls::{Call, Soaked};
+use calls::{Call, Parted, Soaked};
 use moka_sync::EvictionPolicy::{Lru, TinyLfu};
+use moka_sync::{Segmented, Sharded};
 use rand_core::{Rng, SeedableRng};
 use rand_xoshiro::Xoshiro256PlusPlus;
 use std::alloc::{Allocator, Global};
@@ -40,11 +41,11 @@ impl Order {
     }
 
     /// One thread's calls, whose values count from `first` on.
-    fn make_calls<H: Wait + Copy>(
+    fn make_calls<H: Wait + Copy, C: Parted>(
         self,
         rt: &H,
         alloc: Global,
-        soaked: &Soaked,
+        soaked: &Soaked<C>,
         first: u64,
     ) -> Option<Tally> {
         let mut tally = Tally::new(alloc);
@@ -67,11 +68,11 @@ impl Order {
     }
 
     /// All threads' calls on a cache, which is emptied then.
-    fn soak<R: Threads + Wait + Sync + Copy>(
+    fn soak<R: Threads + Wait + Sync + Copy, C: Parted + Send + Sync>(
         self,
         rt: &R,
         alloc: Global,
-        soaked: &Soaked,
+        soaked: &Soaked<C>,
         first: u64,
         tally: &mut Tally,
     ) -> Option<()> {
@@ -141,10 +142,16 @@ impl Display for Tally {
 pub fn run<R: Threads + Wait + Sync + Copy>(rt: &R, alloc: Global, order: Order) -> Option<Tally> {
     let mut tally = Tally::new(alloc);
     let mut first = 0u64;
-    for (policy, segments) in [(TinyLfu, 1), (Lru, 1), (TinyLfu, 4), (Lru, 4)] {
-        let soaked = Soaked::make(alloc, order.size.get() as u64, policy, segments)?;
-        order.soak(rt, alloc, &soaked, first, &mut tally)?;
-        first = first.wrapping_add(order.threads.wrapping_mul(order.calls) as u64);
+    let (size, step) = (
+        order.size.get() as u64,
+        order.threads.wrapping_mul(order.calls) as u64,
+    );
+    for (policy, parts) in [(TinyLfu, 1), (Lru, 1), (TinyLfu, 4), (Lru, 4)] {
+        let segments = Soaked::<Segmented>::make(alloc, size, policy, parts)?;
+        order.soak(rt, alloc, &segments, first, &mut tally)?;
+        let shards = Soaked::<Sharded>::make(alloc, size, policy, parts)?;
+        order.soak(rt, alloc, &shards, first.wrapping_add(step), &mut tally)?;
+        first = first.wrapping_add(step.wrapping_mul(2));
     }
     tally.accepted.sort_unstable();
     tally.told.sort_unstable();

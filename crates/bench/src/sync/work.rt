@@ -3,7 +3,7 @@ ghost use Rattle.std.specs.Prelude.{◌<◌, length};
 
 use crate::drawing::{Draws, draw_keys};
 use crate::orders::number_of;
-use crate::sync::caches::{Lru, Moka, SharedNumbers};
+use crate::sync::caches::{Lru, Moka, Pieces, SharedNumbers};
 use std::alloc::{Allocator, Global};
 use std::num::NonZeroUsize;
 use std::sync::Wait;
@@ -20,6 +20,8 @@ enum Which {
     Shards,
     /// The kit's under one lock.
     Lru,
+    /// The kit's in 16 pieces, each under a lock of its own.
+    Pieces,
     /// None: the loop alone.
     Loops,
 }
@@ -30,8 +32,36 @@ impl Which {
             "moka" => Some(Which::Moka),
             "shards" => Some(Which::Shards),
             "lru" => Some(Which::Lru),
+            "pieces" => Some(Which::Pieces),
             "loops" => Some(Which::Loops),
             _ => None,
+        }
+    }
+}
+
+/// What a thread calls.
+#[derive(Clone, Copy, Debug, PartialEq, Eq)]
+enum Work {
+    /// Nine look-ups and then a write, of as many keys as are held.
+    Mix,
+    /// Look-ups, and a write after each miss, of twice as many keys as are held.
+    Load,
+}
+
+impl Work {
+    fn from_word(word: &str) -> Option<Work> {
+        match word {
+            "mix" => Some(Work::Mix),
+            "load" => Some(Work::Load),
+            _ => None,
+        }
+    }
+
+    /// How many keys there are, where so many values are held.
+    fn keys(self, size: NonZeroUsize) -> NonZeroUsize {
+        match self {
+            Work::Mix => size,
+            Work::Load => size.saturating_add(size.get()),
         }
     }
 }
@@ -40,6 +70,7 @@ impl Which {
 #[derive(Clone, Copy)]
 pub struct Order {
     which: Which,
+    work: Work,
     threads: usize,
     size: NonZeroUsize,
     drawn: usize,
@@ -47,14 +78,15 @@ pub struct Order {
 }
 
 impl Order {
-    /// The order of its words behind the first: the cache, how many threads, how many keys there
-    /// are and values are held, how many keys are drawn, and how many calls each thread makes.
+    /// The order of its words behind the first: the cache, the work, how many threads, how many values are held, how many keys are drawn,
+    /// and how many calls each thread makes.
     pub fn from_words<A: Allocator>(words: &[String<A>]) -> Option<Order> {
-        let [cache, threads, size, drawn, calls] = words else {
+        let [cache, work, threads, size, drawn, calls] = words else {
             return None;
         };
         Some(Order {
             which: Which::from_word(cache.as_str())?,
+            work: Work::from_word(work.as_str())?,
             threads: number_of(threads.as_str())?,
             size: NonZeroUsize::new(number_of(size.as_str())?)?,
             drawn: number_of(drawn.as_str())?,
@@ -79,12 +111,29 @@ impl SharedNumbers for Nothing {
 }
 
 /// One call: nine of ten are look-ups. Whether a value was found.
-fn call<C: SharedNumbers, H: Wait>(rt: &H, cache: &C, turn: usize, key: u64) -> bool {
+fn mix<C: SharedNumbers, H: Wait>(rt: &H, cache: &C, turn: usize, key: u64) -> bool {
     if turn % 10 == 9 {
         let _is_written = cache.put(rt, key, key);
         false
     } else {
         cache.get(rt, key)
+    }
+}
+
+/// A look-up, and a write if there is no value. Whether there was one.
+fn load<C: SharedNumbers, H: Wait>(rt: &H, cache: &C, key: u64) -> bool {
+    if cache.get(rt, key) {
+        return true;
+    }
+    let _is_written = cache.put(rt, key, key);
+    false
+}
+
+/// A call of a kind. Whether a value was found.
+fn call<C: SharedNumbers, H: Wait>(rt: &H, cache: &C, work: Work, turn: usize, key: u64) -> bool {
+    match work {
+        Work::Mix => mix(rt, cache, turn, key),
+        Work::Load => load(rt, cache, key),
     }
 }
 
@@ -94,14 +143,14 @@ fn make_calls<C: SharedNumbers, H: Wait>(
     cache: &C,
     keys: &[u64],
     from: usize,
-    calls: usize,
+    order: Order,
 ) -> u64
     requires { 0 < length keys.now }
 {
     let mut found = 0u64;
-    for turn in 0..calls {
+    for turn in 0..order.calls {
         let key = keys[turn.wrapping_add(from) % keys.len()];
-        found = found.wrapping_add(call(rt, cache, turn, key) as u64);
+        found = found.wrapping_add(call(rt, cache, order.work, turn, key) as u64);
     }
     found
 }
@@ -119,11 +168,10 @@ fn work_with<C: SharedNumbers + Sync, R: Threads + Wait + Sync>(
     alloc: Global,
     cache: &C,
     keys: &[u64],
-    order: &Order,
+    order: Order,
 ) -> Option<u64>
     requires { 0 < length keys.now }
 {
-    let calls = order.calls;
     fill(rt, cache, order.size.get());
     let found = thread::map_indices(
         rt,
@@ -131,7 +179,7 @@ fn work_with<C: SharedNumbers + Sync, R: Threads + Wait + Sync>(
         order.threads,
         &|number: usize| -> u64
             requires { 0 < length keys.now }
-        { make_calls(rt, cache, keys, number.wrapping_mul(7919), calls) },
+        { make_calls(rt, cache, keys, number.wrapping_mul(7919), order) },
     );
     match found {
         Ok(found) => Some(found.iter().fold(0u64, |sum, one| sum.wrapping_add(*one))),
@@ -145,7 +193,7 @@ fn work_on<C: SharedNumbers + Sync + Drop, R: Threads + Wait + Sync>(
     alloc: Global,
     cache: Option<C>,
     keys: &[u64],
-    order: &Order,
+    order: Order,
 ) -> Option<u64>
     requires { 0 < length keys.now }
 {
@@ -162,22 +210,28 @@ pub fn run<R: Threads + Wait + Send + Sync + Clock + Copy + Drop>(
     alloc: Global,
     order: Order,
 ) -> Option<u64> {
-    let keys = draw_keys(alloc, Draws::Zipf, order.size.get(), order.drawn)?;
+    let keys = draw_keys(
+        alloc,
+        Draws::Zipf,
+        order.work.keys(order.size).get(),
+        order.drawn,
+    )?;
     if keys.is_empty() {
         return None;
     }
     match order.which {
-        Which::Moka => work_on(rt, alloc, Moka::make(alloc, order.size, *rt), &keys, &order),
+        Which::Moka => work_on(rt, alloc, Moka::make(alloc, order.size, *rt), &keys, order),
         Which::Shards => {
             work_on(
                 rt,
                 alloc,
                 Moka::make_shards(alloc, order.size, *rt),
                 &keys,
-                &order,
+                order,
             )
         }
-        Which::Lru => work_on(rt, alloc, Lru::make(alloc, order.size), &keys, &order),
-        Which::Loops => work_with(rt, alloc, &Nothing, &keys, &order),
+        Which::Lru => work_on(rt, alloc, Lru::make(alloc, order.size), &keys, order),
+        Which::Pieces => { work_on(rt, alloc, Pieces::make(alloc, order.size), &keys, order) }
+        Which::Loops => work_with(rt, alloc, &Nothing, &keys, order),
     }
 }

@@ -1,4 +1,4 @@
-use Rattle.std.proofs.Common.{◌≡◌, ◌∙◌, ap, arith, length, subst, sym}
+use Rattle.std.proofs.Common.{◌∙◌, ap, arith, length, subst, sym}
 use Rattle.front_parts.proofs.wholes.Firsts.{first-length}
 use Rattle.front_parts.specs.Wholes.Covering.{AreAll}
 use Rattle.moka_sync.proofs.Shards.{all_prepared, covers_all}

@@ -1,5 +1,5 @@
-use Rattle.std.proofs.Common.{◌≡◌, ◌+◌, ◌≤◌, length}
-use Rattle.std.specs.Prelude.{vec_capacity, vec_len}
+use Rattle.std.proofs.Common.{◌≡◌, ◌≤◌, length}
+use Rattle.std.specs.Prelude.{vec_capacity}
 use Rattle.front_parts.specs.Wholes.Firsts.{changed_first}
 use Rattle.moka_sync.specs.Covering.{MayCoverEach, prepared}
 use Rattle.moka_sync.proofs.covering.AllDesks.prepare_all.Given as goal
