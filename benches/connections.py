@@ -2,18 +2,19 @@
 """Drives the proved server `cached --config` over loopback with clients of its own, and ends by itself.
 
     python3 benches/connections.py          requests per second, and the server's processor time per request, by connections and depth
-    python3 benches/connections.py NAME     the same requests to `redis` or `memcached`, if they are on the path, or to `plain` (plain_server)
+    python3 benches/connections.py NAME     the same requests to `bivrangd`, to `redis` or `memcached`, if they are on the path, or to `plain`
+                                            (plain_server)
     python3 benches/connections.py beside   all of these that are there, three rounds in turn, medians; fills figures.json
     python3 benches/connections.py soak     a million requests over 200 connections, with the server's memory on the way
     python3 benches/connections.py memory   what the server holds for each of a million values
+    python3 benches/connections.py idle     what `bivrangd` holds for each of 5,000 idle connections, and what is left once they have closed
 
-Build the server first: in crates/cached, `rt run` leaves the program at out/cached; CACHED names another one. Half of the requests are
-SET, half GET, with keys of 16 bytes and values of 32. Each connection has keys of its own, so a GET returns what the same connection
-stored last, or NONE if that was evicted: each reply is compared, and a stale value ends the run with an error.
+Build the servers first (servers.py says where they are). Half of the requests are SET, half GET, with keys of 16 bytes and values of 32. Each connection has keys
+of its own, so a GET returns what the same connection stored last, or NONE if that was evicted: each reply is compared, and a stale value
+ends the run with an error.
 """
 import contextlib
 import multiprocessing
-import os
 import pathlib
 import random
 import selectors
@@ -28,18 +29,19 @@ import time
 
 import figures
 import progress
+import servers
 
-PROGRAM = pathlib.Path(os.environ.get("CACHED", pathlib.Path(__file__).resolve().parent.parent / "crates/cached/out/cached"))
 HOST = "127.0.0.1"
 KEYS = 10_000
 CAPACITY = 1_000
-CONNECTIONS = (1, 16, 64)
+CONNECTIONS = (1, 16, 64, 256)
 DEPTHS = {1: 60_000, 32: 600_000}
 ROUNDS = 3
 SOAK_CONNECTIONS, SOAK_REQUESTS, SOAK_DEPTH = 200, 1_000_000, 8
 CLIENT_PROCESSES = 3
 ANSWER_SECONDS = 30
 HELD = 1_000_000
+IDLE = 5_000
 
 
 class Lines:
@@ -96,9 +98,9 @@ def free_port():
 
 
 class Server:
-    """The program, serving one namespace of that capacity until it is stopped; what it prints is read and dropped."""
+    """A server of lines, with one namespace of that capacity until it is stopped; what it prints is read and dropped."""
 
-    dialect = Lines
+    dialect, row = Lines, servers.ROWS["cached"]
 
     def __init__(self, capacity):
         self.port = free_port()
@@ -108,8 +110,8 @@ class Server:
         """Starts the program with these tables as its configuration."""
         self.folder = tempfile.TemporaryDirectory()
         file = pathlib.Path(self.folder.name, "cached.toml")
-        file.write_text("".join(f"[[namespace]]\n{namespace}" for namespace in namespaces))
-        self.process = subprocess.Popen([PROGRAM, "--config", file], stdout=subprocess.PIPE, stdin=subprocess.DEVNULL)
+        file.write_text("".join(f"[[namespace]]\n{self.row.keys}{namespace}" for namespace in namespaces))
+        self.process = subprocess.Popen([self.row.path, "--config", file], stdout=subprocess.PIPE, stdin=subprocess.DEVNULL)
         for _ in namespaces:
             if not self.process.stdout.readline().startswith(b"listening "):
                 sys.exit("the server does not listen")
@@ -124,6 +126,10 @@ class Server:
         fields = pathlib.Path(f"/proc/{self.process.pid}/stat").read_text().rsplit(")", 1)[1].split()
         return (int(fields[11]) + int(fields[12])) / 100
 
+    @classmethod
+    def is_there(cls):
+        return cls.row.path.exists()
+
     def resident_kibibytes(self):
         """The memory that it holds now."""
         lines = pathlib.Path(f"/proc/{self.process.pid}/status").read_text().splitlines()
@@ -133,6 +139,12 @@ class Server:
         self.process.kill()
         self.process.wait()
         self.folder.cleanup()
+
+
+class Bivrangd(Server):
+    """`bivrangd`, with as many loops as it chooses."""
+
+    row = servers.ROWS["bivrangd"]
 
 
 class Other(Server):
@@ -298,7 +310,7 @@ def bench(name):
 
 def beside():
     """All servers that are there, in turn."""
-    makes = {name: make for name, make in SERVERS.items() if make is Server or make.is_there()}
+    makes = {name: make for name, make in SERVERS.items() if make.is_there()}
     taken = {}
     for _ in range(ROUNDS):
         for name, make in makes.items():
@@ -349,8 +361,34 @@ def memory():
     print(f"{HELD} values of 32 bytes by keys of 16: {used / HELD - 48:.0f} bytes a value above key and value")
 
 
-SERVERS = {"cached": Server, "redis": Redis, "memcached": Memcached, "plain": Plain}
-KINDS = {"soak": soak, "memory": memory, "beside": beside}
+def idle():
+    """Connects so many clients, each of which asks once, and tells what that takes."""
+    server = Bivrangd(KEYS)
+    with socket.create_connection((HOST, server.port), timeout=ANSWER_SECONDS) as client:
+        client.sendall(b"SYNC\n")
+        client.recv(100)
+        before = server.resident_kibibytes()
+        clients = []
+        for number in range(IDLE):
+            clients.append(socket.create_connection((HOST, server.port), timeout=ANSWER_SECONDS))
+            clients[-1].sendall(b"GET key\n")
+            clients[-1].recv(100)
+            progress.show(f"{number:,} of {IDLE:,} connections")
+        progress.clear()
+        used = (server.resident_kibibytes() - before) * 1024
+        for held in clients:
+            held.close()
+        time.sleep(1)
+        client.sendall(b"SYNC\n")
+        client.recv(100)
+        left = (server.resident_kibibytes() - before) * 1024
+    server.stop()
+    figures.keep("idle", {"bivrangd": {"bytes": round(used / IDLE), "left": round(left / IDLE)}})
+    print(f"{IDLE} idle connections: {used / IDLE:.0f} bytes each, {left / IDLE:.0f} once they have closed")
+
+
+SERVERS = {"cached": Server, "bivrangd": Bivrangd, "redis": Redis, "memcached": Memcached, "plain": Plain}
+KINDS = {"soak": soak, "memory": memory, "idle": idle, "beside": beside}
 
 
 if __name__ == "__main__":

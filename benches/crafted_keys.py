@@ -92,7 +92,7 @@ def by_script(batches):
         source.write(b"".join(sent for sent, _ in batches))
         source.seek(0)
         before = os.times()
-        written = subprocess.run([connections.PROGRAM, "--script"], stdin=source, capture_output=True, check=True).stdout
+        written = subprocess.run([connections.Server.row.path, "--script"], stdin=source, capture_output=True, check=True).stdout
         after = os.times()
     if written != b"".join(wanted for _, wanted in batches):
         sys.exit("a wrong reply")

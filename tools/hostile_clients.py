@@ -1,7 +1,7 @@
 #!/usr/bin/env python3
-"""Drives the proved server `cached --config` with hostile clients, and ends by itself.
+"""Drives each server of lines with hostile clients, and ends by itself.
 
-    python3 tools/hostile_clients.py [--program PATH] [--seed N] [CASE ..]
+    python3 tools/hostile_clients.py [--server NAME ..] [--seed N] [CASE ..]
 
 The cases; without a name, all of them. Each prints what it measured, and the status is 1 if one fails:
 
@@ -19,7 +19,8 @@ The cases; without a name, all of them. Each prints what it measured, and the st
     minute       10,000 connections held open for a minute, or as many as the limits allow: memory, and each answered before and after
     soak         five million requests over TinyLFU, own deadlines and `DROPIF`: memory stays flat
 
-The server is crates/cached/out/cached, where `rt run` leaves it. All random numbers come from the seed, by default 1.
+The servers are those of benches/servers.py, or `--server cached` or `--server bivrangd` alone. All random numbers come from the seed, by
+default 1.
 """
 import argparse
 import multiprocessing
@@ -37,6 +38,7 @@ import time
 
 sys.path.insert(0, str(pathlib.Path(__file__).resolve().parent.parent / "benches"))
 import connections  # noqa: E402
+import servers  # noqa: E402
 from connections import HOST, Server, free_port  # noqa: E402
 
 ANSWER_SECONDS = 60
@@ -53,8 +55,8 @@ class Served(Server):
         self.port = free_port()
         self.folder = tempfile.TemporaryDirectory()
         file = pathlib.Path(self.folder.name, "cached.toml")
-        file.write_text(f'[[namespace]]\nname = "main"\nport = {self.port}\n{settings}\n')
-        self.process = subprocess.Popen([connections.PROGRAM, "--config", file], stdout=subprocess.PIPE, stdin=subprocess.DEVNULL, **streams)
+        file.write_text(f'[[namespace]]\n{self.row.keys}name = "main"\nport = {self.port}\n{settings}\n')
+        self.process = subprocess.Popen([self.row.path, "--config", file], stdout=subprocess.PIPE, stdin=subprocess.DEVNULL, **streams)
         if not self.process.stdout.readline().startswith(b"listening main "):
             raise Failed("the server does not listen")
         if reads:
@@ -552,24 +554,25 @@ CASES = {
 def main():
     words = argparse.ArgumentParser(description=__doc__, formatter_class=argparse.RawDescriptionHelpFormatter, add_help=False)
     words.add_argument("-h", "--help", action="help", help=argparse.SUPPRESS)
-    words.add_argument("--program", type=pathlib.Path, default=connections.PROGRAM, help=argparse.SUPPRESS)
+    words.add_argument("--server", action="append", choices=servers.ROWS, help=argparse.SUPPRESS)
     words.add_argument("--seed", type=int, default=1, help=argparse.SUPPRESS)
     words.add_argument("cases", nargs="*", choices=[*CASES, []], help=argparse.SUPPRESS)
     words = words.parse_args()
-    if not words.program.exists():
-        sys.exit(f"there is no {words.program}: in crates/cached `rt run` leaves it there")
     global SEED
-    connections.PROGRAM, SEED = words.program, words.seed
+    SEED = words.seed
     _, hard = resource.getrlimit(resource.RLIMIT_NOFILE)
     resource.setrlimit(resource.RLIMIT_NOFILE, (hard, hard))
     failed = False
-    for name in words.cases or CASES:
-        try:
-            CASES[name]()
-        except (Failed, OSError) as error:
-            print(f"{name}: failed: {type(error).__name__} {error}")
-            failed = True
-        sys.stdout.flush()
+    for row in servers.rows_of(words.server):
+        Server.row = row
+        for name in words.cases or CASES:
+            print(f"{row.name}: ", end="", flush=True)
+            try:
+                CASES[name]()
+            except (Failed, OSError) as error:
+                print(f"{name}: failed: {type(error).__name__} {error}")
+                failed = True
+            sys.stdout.flush()
     sys.exit(1 if failed else 0)
 
 

@@ -2,9 +2,9 @@
 """Uses the programs at random, and judges everything that they return. It ends by itself; a difference is printed, and the status is 1.
 
     python3 tools/random_use.py [sockets | turns | plays ..] [--seed N] [--rounds N] [--plays N]
-                                [--cached PATH] [--transcript PATH] [--keep FOLDER] [--lie]
+                                [--server NAME ..] [--transcript PATH] [--keep FOLDER] [--lie]
 
-    sockets   random clients, several at once, over `cached --config`: every line of docs/PROTOCOL.md, live and
+    sockets   random clients, several at once, over each server: every line of docs/PROTOCOL.md, live and
               idle times, own deadlines, capacities, parts. Replies and notices are collected, and each is judged
               within the window of time in which it was requested and answered, or reported
     turns     the same, one request at a time, over several connections; the result is written as a transcript,
@@ -17,8 +17,8 @@
     --lie     the server is `tools/lying_server.py`, and one in a thousand replies of the plays is changed: the
               run fails if no lie of a kind is detected
 
-Without arguments it runs all three. The programs are crates/cached/out/cached and crates/transcript/out/transcript, where
-`rt run` leaves them. Runs with the same seed send the same requests, but the order of two clients' concurrent requests varies.
+Without arguments it runs all three. The servers are those of benches/servers.py, or `--server cached` or `--server bivrangd` alone;
+`rt run` leaves the other program at crates/transcript/out/transcript. Runs with the same seed send the same requests, but the order of two clients' concurrent requests varies.
 
 All that `sockets` knows of the moment of a reply is that it lies between sending the line and receiving the reply; of a
 notice, that the step that reported it belongs to a request that was answered at most 300 ms before. So it reports a difference
@@ -42,11 +42,12 @@ import tempfile
 import time
 
 sys.path.insert(0, str(pathlib.Path(__file__).resolve().parent))
+sys.path.insert(0, str(pathlib.Path(__file__).resolve().parent.parent / "benches"))
+import servers  # noqa: E402
 from lying_server import HOST, KINDS, free_ports  # noqa: E402
 from refuse_allocations import Refuser  # noqa: E402
 
 ROOT = pathlib.Path(__file__).resolve().parent.parent
-CACHED = ROOT / "crates/cached/out/cached"
 TRANSCRIPT = ROOT / "crates/transcript/out/transcript"
 LIAR = ROOT / "tools/lying_server.py"
 PATIENCE = 60
@@ -1379,7 +1380,7 @@ def run_served(name, play, rounds, seed):
         sums.update(asked=asked, judged=judged, told=told)
         failed += len(wrong)
         show(number, wrong)
-    what = "looks" if name == "sockets" else "lines of transcripts"
+    what = "looks" if name.endswith("sockets") else "lines of transcripts"
     print(
         f"{name}: {rounds} rounds, {sums['asked']} requests, {sums['judged']} {what} judged, {sums['told']} notices: "
         f"{failed} differences; {time.monotonic() - start:.0f} s", flush=True)
@@ -1433,7 +1434,7 @@ def main():
     words.add_argument("--seed", type=int, default=1, help=argparse.SUPPRESS)
     words.add_argument("--rounds", type=int, help=argparse.SUPPRESS)
     words.add_argument("--plays", type=int, help=argparse.SUPPRESS)
-    words.add_argument("--cached", type=pathlib.Path, default=CACHED, help=argparse.SUPPRESS)
+    words.add_argument("--server", action="append", choices=servers.ROWS, help=argparse.SUPPRESS)
     words.add_argument("--transcript", type=pathlib.Path, default=TRANSCRIPT, help=argparse.SUPPRESS)
     words.add_argument("--keep", type=pathlib.Path, help=argparse.SUPPRESS)
     words.add_argument("--lie", action="store_true", help=argparse.SUPPRESS)
@@ -1441,19 +1442,19 @@ def main():
     global KEPT
     KEPT = words.keep
     parts = words.parts or ["sockets", "turns", "plays"]
-    for part, program in (("sockets", words.cached), ("turns", words.cached), ("turns", words.transcript), ("plays", words.transcript)):
-        if part in parts and not program.exists():
-            sys.exit(f"there is no {program}: in its crate `rt run` leaves it there")
-    server = [sys.executable, str(LIAR)] if words.lie else [str(words.cached)]
-
-    def lying(lies):
-        return {**lies, "LIE_PROGRAM": str(words.cached)} if lies else None
-
+    if set(parts) & {"turns", "plays"} and not words.transcript.exists():
+        sys.exit(f"there is no {words.transcript}: in its crate `rt run` leaves it there")
     run, failed = run_lies if words.lie else run_served, 0
-    if "sockets" in parts:
-        failed += run("sockets", lambda seed, lies=None: play_sockets(server, seed, lying(lies)), words.rounds or (10 if words.lie else 40), words.seed)
-    if "turns" in parts:
-        failed += run("turns", lambda seed, lies=None: play_turns(server, words.transcript, seed, lying(lies)), words.rounds or 4, words.seed)
+    for row in servers.rows_of(words.server) if set(parts) & {"sockets", "turns"} else []:
+        server = [sys.executable, str(LIAR)] if words.lie else [str(row.path)]
+
+        def lying(lies):
+            return {**lies, "LIE_PROGRAM": str(row.path)} if lies else None
+
+        if "sockets" in parts:
+            failed += run(f"{row.name}: sockets", lambda seed, lies=None: play_sockets(server, seed, lying(lies)), words.rounds or (10 if words.lie else 40), words.seed)
+        if "turns" in parts:
+            failed += run(f"{row.name}: turns", lambda seed, lies=None: play_turns(server, words.transcript, seed, lying(lies)), words.rounds or 4, words.seed)
     if "plays" in parts:
         failed += run_plays(words.transcript, words.plays or (200 if words.lie else 10_000), words.seed, words.lie)
     sys.exit(1 if failed else 0)

@@ -1,8 +1,8 @@
 #!/usr/bin/env bash
-# Builds the package, installs it in a fresh folder, and runs what is there once: both programs, the server on a free port, the man pages.
+# Builds the package, installs it in a fresh folder, and runs what is there once: the programs, the server on a free port, the man pages.
 # The status is 1 if something is wrong. Without dpkg it is skipped.
 #
-#   tools/test_package.sh [PATH_OF_CACHED PATH_OF_CACHED_CHECK]
+#   tools/test_package.sh [PATH_OF_CACHED PATH_OF_CACHED_CHECK PATH_OF_BIVRANGD]
 set -euo pipefail
 if ! command -v dpkg-deb > /dev/null; then
     echo "package: skipped: there is no dpkg-deb on the path"
@@ -38,6 +38,7 @@ cd "$root"
 same "cached_check" "$(usr/bin/cached_check etc/cached.toml)" "etc/cached.toml: ok"
 same "a script" "$(printf 'SET a - two words\nGET a\nHAS b\n' | usr/bin/cached --script 2> /dev/null)" $'OK\nVAL two words\nNO'
 same "the programs of the unit" "$(sed -n 's/^ExecStart=\(\S*\) .*/\1/p' usr/lib/systemd/system/cached.service)" /usr/bin/cached
+usr/bin/bivrangd --check etc/bivrangd.toml > "$folder/told" 2>&1 || fail "bivrangd --check: $(cat "$folder/told")"
 if command -v systemd-analyze > /dev/null; then
     # An older one has not these options, and says nothing of the unit.
     systemd-analyze verify --root="$root" --recursive-errors=no cached.service > "$folder/told" 2>&1 || ! grep -q cached.service "$folder/told" || fail "the unit: $(cat "$folder/told")"

@@ -15,7 +15,7 @@ import lying_server  # noqa: E402
 import random_use  # noqa: E402
 from random_use import MS, Asked, Judge, Line, Note, Space  # noqa: E402
 
-PROGRAM = random_use.CACHED
+PROGRAM = random_use.servers.ROWS["cached"].path
 LAST = 1000
 
 

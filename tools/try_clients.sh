@@ -1,22 +1,23 @@
 #!/usr/bin/env bash
-# Runs the clients' tests in parallel, against the program that `rt run` or the gate leaves: in Python, and its types (mypy, which apt-get
-# installs where it can; skipped otherwise), in Rust (cargo without a registry; skipped if there is no cargo), those of the watcher, and
-# those of the judge of random use. The status is 1 if one fails, or if the program is missing.
+# Runs the clients' tests in parallel, against each server of benches/servers.py, as `rt run` or the gate leaves it: in Python, and in Rust
+# (cargo without a registry; skipped if there is no cargo); and once their types (mypy, which apt-get installs where it can; skipped
+# otherwise), the tests of the watcher, and those of the judge of random use. The status is 1 if one fails, or if a server is missing.
 #
-#   tools/try_clients.sh [PATH_OF_CACHED_OR_BIVRANGD]
+#   tools/try_clients.sh
 set -uo pipefail
 cd "$(dirname "$0")/.."
-program=$(realpath -m "${1:-crates/cached/out/cached}")
 seconds=240
-
-if [ ! -x "$program" ]; then
-    echo "clients: FAILED: $program is missing; \`rt run\` in crates/cached creates it" >&2
-    exit 1
-fi
+export PYTHONDONTWRITEBYTECODE=1
+mapfile -t programs < <(python3 benches/servers.py)
+for program in "${programs[@]}"; do
+    if [ ! -x "$program" ]; then
+        echo "clients: FAILED: $program is missing; \`rt run\` in its crate creates it" >&2
+        exit 1
+    fi
+done
 
 folder=$(mktemp -d)
 trap 'rm -rf "$folder"' EXIT
-export PYTHONDONTWRITEBYTECODE=1
 
 # Runs a command; prints its output if it fails.
 try() { # name, command
@@ -51,18 +52,28 @@ try_rust() {
         echo "clients: rust skipped: there is no cargo on the path"
         return
     fi
-    cd clients/rust && CACHED=$program CARGO_TARGET_DIR=$folder/target try rust cargo test --offline --quiet
+    # (one after the other: they share the built tests)
+    local program failed=0
+    cd clients/rust || return 1
+    for program in "${programs[@]}"; do
+        CACHED=$program CARGO_TARGET_DIR=$folder/target try "rust-$(basename "$program")" cargo test --offline --quiet || failed=1
+    done
+    return $failed
 }
 
 rest=$(cd clients/python/tests && printf '%s\n' test_*.py | sed 's/\.py$//' | grep -vx test_aio)
-try asyncio python3 clients/python/tests "$program" test_aio & asyncio=$!
-try python python3 clients/python/tests "$program" $rest & python=$!
-try_types & types=$!
-try_rust & rust=$!
-try watcher python3 tools/test_watch.py & watcher=$!
-try judge python3 tools/test_random_use.py Right Wrong Liars & judge=$!
+running=()
+for program in "${programs[@]}"; do
+    name=$(basename "$program")
+    try "asyncio-$name" python3 clients/python/tests "$program" test_aio & running+=($!)
+    try "python-$name" python3 clients/python/tests "$program" $rest & running+=($!)
+done
+try_types & running+=($!)
+try_rust & running+=($!)
+try watcher python3 tools/test_watch.py & running+=($!)
+try judge python3 tools/test_random_use.py Right Wrong Liars & running+=($!)
 failed=0
-for it in $asyncio $python $types $rust $watcher $judge; do
+for it in "${running[@]}"; do
     wait "$it" || failed=1
 done
 exit $failed

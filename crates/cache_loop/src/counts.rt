@@ -1,5 +1,6 @@
 //! What a loop counts.
 
+use crate::replies::Found;
 use std::io;
 use std::io::{Read, Write};
 use std::time::{Clock, Instant};
@@ -22,6 +23,8 @@ pub struct Counts {
     pub read: u64,
     /// Bytes that were written.
     pub written: u64,
+    /// Replies that told a value, and replies that there is none.
+    pub found: Found,
     /// Loads that a loader was asked for.
     pub loads: u64,
     /// Turns within each of the bounds and above the one before, and those above the last.
@@ -40,6 +43,7 @@ impl Counts {
             starved: 0,
             read: 0,
             written: 0,
+            found: Found::new(),
             loads: 0,
             turns: [0; 6],
             nanos: 0,
@@ -54,6 +58,7 @@ impl Counts {
         self.starved = self.starved.saturating_add(other.starved);
         self.read = self.read.saturating_add(other.read);
         self.written = self.written.saturating_add(other.written);
+        self.found.add(&other.found);
         self.loads = self.loads.saturating_add(other.loads);
         for (turns, more) in self.turns.iter_mut().zip(&other.turns) {
             *turns = turns.saturating_add(*more);

@@ -6,9 +6,11 @@ mod counts;
 mod doorway;
 mod hall;
 mod looping;
+mod replies;
 mod served;
 
 pub use counting::Counting;
 pub use counts::{Counts, TURN_BOUNDS};
 pub use doorway::{Doorway, Stream};
 pub use looping::{Crew, LOADED, Rules, STOP, serve_all};
+pub use replies::Found;

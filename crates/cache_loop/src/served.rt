@@ -4,6 +4,7 @@ ghost use Rattle.audit_model.specs.declared.input.Conn.{Conn};
 
 use crate::counts::{Counts, Metered};
 use crate::doorway::Stream;
+use crate::replies::{Overheard, Replies};
 use cache_link::{Link, Next, Patient, Tools};
 use cache_run::{Clock, Host, Loader, RunError};
 use std::io::{Read, Write};
@@ -21,6 +22,7 @@ pub struct Served {
     pub tells_room: bool,
     /// For how many seconds its socket has reported nothing.
     pub quiet: u64,
+    replies: Replies,
 }
 
 impl Served {
@@ -33,6 +35,7 @@ impl Served {
             is_waiting: false,
             tells_room: false,
             quiet: 0,
+            replies: Replies::new(),
         }
     }
 
@@ -49,15 +52,20 @@ impl Served {
     {
         self.is_queued = false;
         self.is_waiting = false;
-        let Served { stream, link, .. } = self;
+        let Served {
+            stream,
+            link,
+            replies,
+            ..
+        } = self;
         match stream {
             Stream::Tcp(stream) => {
                 let (input, output) = (&*stream, &*stream);
-                turn_over(link, input, output, host, place, tools, counts)
+                turn_over((link, replies), input, output, host, place, tools, counts)
             }
             Stream::Unix(stream) => {
                 let (input, output) = (&*stream, &*stream);
-                turn_over(link, input, output, host, place, tools, counts)
+                turn_over((link, replies), input, output, host, place, tools, counts)
             }
         }
     }
@@ -65,7 +73,7 @@ impl Served {
 
 /// Gives a connection a turn over its socket.
 fn turn_over<I: Read + Drop, O: Write + Drop, H: Host, K: Clock, D: Loader>(
-    link: &mut Link,
+    served: (&mut Link, &mut Replies),
     input: I,
     output: O,
     host: &mut H,
@@ -77,6 +85,8 @@ fn turn_over<I: Read + Drop, O: Write + Drop, H: Host, K: Clock, D: Loader>(
     requires known { (conn : Conn) → (place : H.Place) → H.knows conn place }
 {
     let mut reader = Patient::new(Metered::new(input, &mut counts.read));
-    let mut writer = Patient::new(Metered::new(output, &mut counts.written));
+    let (link, replies) = served;
+    let metered = Metered::new(output, &mut counts.written);
+    let mut writer = Patient::new(Overheard::new(metered, replies, &mut counts.found));
     link.turn(host, place, &mut reader, &mut writer, tools)
 }

@@ -1,0 +1,233 @@
+//! The program over its words and streams.
+
+use crate::alarms::Alarms;
+use crate::house::House;
+use crate::listening::{Opened, announce_all, clear_paths, open_all};
+use crate::starting::Told;
+use crate::stopping::read_orders;
+use crate::words::{Asked, take_words};
+use crate::writing::Writing;
+use cache_run::{Watched, send};
+use cached_config::{ConfigFault, ConfigReport, check_hosted};
+use cached_server::{Ending, Fault, Machine, Scribe, Shown, Threaded};
+use crossbeam_channel::{Receiver, Sender, unbounded};
+use std::alloc::{AllocError, Global};
+use std::convert::AsStr;
+use std::io::{ErrorKind, Read, Write};
+use std::net::{Net, TcpListener, TcpStream};
+use std::rt::Files;
+use std::{fs, thread};
+
+const USAGE: &[u8] = b"usage: bivrangd --config FILE | --check FILE | --version | --help\n";
+
+const VERSION: &[u8] = b"bivrangd 0.1.0\n";
+
+/// The command that lists all that is wrong with a configuration file.
+const CHECK: &str = "bivrangd --check";
+
+/// What the program is told by its threads, and how they tell it.
+pub type Orders = (Sender<Told, Global>, Receiver<Told, Global>);
+
+/// The text of a fault.
+fn text_of(fault: Fault) -> &'static str {
+    match fault {
+        Fault::Read => "read failed",
+        Fault::Write => "write failed",
+        Fault::OutOfMemory => "out of memory",
+        Fault::UsedUp => "used up",
+        Fault::BadConfiguration => "bad configuration",
+        Fault::CannotListen => "cannot listen",
+    }
+}
+
+/// The program, with its arguments and streams. Returns its status: 0 after it was told to stop, 1 after an error, 2 if the arguments are
+/// wrong.
+pub fn bivrangd<S: AsStr, I, O: Write, E: Write + Drop, W: Shown, V: Shown, R>(
+    rt: R,
+    alloc: Global,
+    words: &[S],
+    input: I,
+    writer: &mut Watched<O>,
+    errors: E,
+    shown: (W, V),
+) -> u8
+where
+    I: Read + Drop + Send + 'static,
+    R: Threaded + Net<Listener = TcpListener, Stream = TcpStream> + Files + AllocGlobal,
+{
+    let mut alarms = Alarms::new(rt, alloc, errors);
+    match take_words(alloc, words) {
+        Ok(asked) => {
+            let done = obey(rt, alloc, asked, input, writer, &mut alarms, shown);
+            status_of(alloc, asked.path(), done, &mut alarms)
+        }
+        Err(ErrorKind::OutOfMemory) => {
+            alarms.say(text_of(Fault::OutOfMemory));
+            1
+        }
+        Err(_) => {
+            alarms.show(USAGE);
+            2
+        }
+    }
+}
+
+/// Says what went wrong with the file at a path, and returns the status.
+fn status_of<E: Write + Drop, R: Machine>(
+    alloc: Global,
+    path: &str,
+    done: Result<(), Ending>,
+    alarms: &mut Alarms<R, E>,
+) -> u8 {
+    match done {
+        Ok(()) => 0,
+        Err(ending) => {
+            alarms.say(text_of(ending.fault));
+            if let Ok(line) = ending.cause.line(alloc, path, CHECK) {
+                say_cause(line.as_str().trim_end(), alarms);
+            }
+            1
+        }
+    }
+}
+
+/// Says what caused a fault, if there is something to say.
+fn say_cause<E: Write + Drop, R: Machine>(cause: &str, alarms: &mut Alarms<R, E>) {
+    if !cause.is_empty() {
+        alarms.say(cause);
+    }
+}
+
+/// Does what the words ask for.
+fn obey<I, O: Write, E: Write + Drop, W: Shown, V: Shown, R>(
+    rt: R,
+    alloc: Global,
+    asked: Asked<'_>,
+    input: I,
+    writer: &mut Watched<O>,
+    alarms: &mut Alarms<R, E>,
+    shown: (W, V),
+) -> Result<(), Ending>
+where
+    I: Read + Drop + Send + 'static,
+    R: Machine + Files + AllocGlobal,
+{
+    match asked {
+        Asked::Config(path) => serve_file(rt, alloc, path, input, shown, alarms),
+        Asked::Check(path) => check_file(&rt, alloc, path, writer),
+        Asked::Version => show(VERSION, writer),
+        Asked::Help => show(USAGE, writer),
+    }
+}
+
+/// Writes a text.
+fn show<O: Write>(text: &[u8], writer: &mut Watched<O>) -> Result<(), Ending> {
+    match send(text, writer) {
+        Ok(()) => Ok(()),
+        Err(_) => Err(Ending::from(Fault::Write)),
+    }
+}
+
+/// Writes the faults of the configuration file at a path, a line each, and its warnings. It is an error if there are faults.
+fn check_file<O: Write, R: Machine + Files + AllocGlobal>(
+    rt: &R,
+    alloc: Global,
+    path: &str,
+    writer: &mut Watched<O>,
+) -> Result<(), Ending> {
+    let text = fs::read_to_string(rt, path).map_err(Ending::file)?;
+    let ConfigReport { faults, warnings } = check_hosted(alloc, text.as_str())?;
+    show_each(alloc, path, "", &faults, writer)?;
+    show_each(alloc, path, "warning: ", &warnings, writer)?;
+    if faults.is_empty() {
+        Ok(())
+    } else {
+        Err(Ending::from(Fault::BadConfiguration))
+    }
+}
+
+/// Writes faults of this kind of the file at a path, a line each.
+fn show_each<O: Write>(
+    alloc: Global,
+    path: &str,
+    kind: &str,
+    faults: &[ConfigFault],
+    writer: &mut Watched<O>,
+) -> Result<(), Ending> {
+    for fault in faults {
+        let line = format!(in alloc; "{path}:{}: {kind}{}\n", fault.line, fault.what)?;
+        show(line.as_bytes(), writer)?;
+    }
+    Ok(())
+}
+
+/// Serves what the configuration file at a path says, until a line of the input says `stop`.
+fn serve_file<I, E: Write + Drop, W: Shown, V: Shown, R>(
+    rt: R,
+    alloc: Global,
+    path: &str,
+    input: I,
+    shown: (W, V),
+    alarms: &mut Alarms<R, E>,
+) -> Result<(), Ending>
+where
+    I: Read + Drop + Send + 'static,
+    R: Machine + Files + AllocGlobal,
+{
+    let text = fs::read_to_string(&rt, path).map_err(Ending::file)?;
+    let orders = unbounded(alloc)?;
+    start_reading(rt, input, &orders.0)?;
+    serve_text(rt, alloc, text.as_str(), shown, alarms, orders)
+}
+
+/// Starts to read orders from the input. Nobody waits for the thread that does: it may wait for a line when the program ends.
+fn start_reading<I, R>(rt: R, input: I, orders: &Sender<Told, Global>) -> Result<(), AllocError>
+where
+    I: Read + Drop + Send + 'static,
+    R: Machine,
+{
+    let orders = Sender::clone(orders)?;
+    let mut input = input;
+    let _reader = thread::spawn(&rt, move || read_orders(&rt, &mut input, &orders))?;
+    Ok(())
+}
+
+/// Serves what the text of a configuration file says, until it is told to stop.
+pub fn serve_text<E: Write + Drop, W: Shown, V: Shown, R: Machine + Files>(
+    rt: R,
+    alloc: Global,
+    text: &str,
+    shown: (W, V),
+    alarms: &mut Alarms<R, E>,
+    orders: Orders,
+) -> Result<(), Ending> {
+    let opened = open_all(&rt, alloc, text)?;
+    let (shown, troubles) = shown;
+    let lines = announce_all(alloc, &opened, shown)?;
+    let scribe = Scribe::new(alloc, lines, troubles)?;
+    serve_opened(rt, alloc, opened, scribe, orders, alarms)
+}
+
+/// Serves namespaces at their listeners, until it is told to stop.
+fn serve_opened<E: Write + Drop, W: Shown, V: Shown, R: Machine + Files>(
+    rt: R,
+    alloc: Global,
+    opened: Opened,
+    scribe: Scribe<W, V>,
+    orders: Orders,
+    alarms: &mut Alarms<R, E>,
+) -> Result<(), Ending> {
+    let Opened {
+        spaces,
+        hostings,
+        listeners,
+        metrics,
+    } = opened;
+    let (sender, told) = orders;
+    let house = House::new(rt, alloc, sender)?;
+    let writing = Writing::start(rt, alloc, scribe, &house.outlet)?;
+    let served = house.serve(spaces, &hostings, listeners, metrics, &told, alarms);
+    clear_paths(&rt, &hostings);
+    writing.end(&rt, &house.outlet);
+    served
+}

@@ -1,0 +1,274 @@
+//! All namespaces of a server.
+ghost use Rattle.std.specs.Prelude.{◌≡◌, ◌∷◌, [], false, IfOk};
+ghost use Rattle.cache_shared.specs.Recordings.{bare_spaces, no_journals};
+ghost use Rattle.cache_shared.specs.Events.{StandsAfter};
+
+use crate::alarms::Alarms;
+use crate::http::Metrics;
+use crate::listening::Listener;
+use crate::sources::Source;
+use crate::starting::{Loops, Start, Told};
+use crate::watch::Watch;
+use audit_model::{Config, Instant};
+use cache_loop::Rules;
+use cache_shared::{Seating, Shareable, SharedService};
+use cache_spaces::Service;
+use cached_config::{HostedNamespace, Hosting, Notices};
+use cached_server::{Cause, Ending, Fault, Machine, Outlet, Site};
+use crossbeam_channel::{Receiver, Sender};
+use mio::Waker;
+use rand_core::SeedableRng;
+use rand_xoshiro::Xoshiro256PlusPlus;
+use std::alloc::{AllocError, Global};
+use std::io::Write;
+use std::marker::Brand;
+use std::net::TcpListener;
+use std::sync::ledger::Blank;
+use std::sync::{Arc, Wait};
+use std::{thread, time};
+
+/// As many loops may share a namespace.
+const SEATS: u64 = 1 << 32;
+
+/// A loop that accepts alone accepts so many connections in one wake-up.
+const ACCEPTS: usize = 64;
+
+/// Where nothing else is said, a namespace has at most so many loops.
+const LOOPS: usize = 2;
+
+/// What all namespaces are served with.
+#[derive(Drop)]
+pub struct House<R> {
+    rt: R,
+    alloc: Global,
+    begun: time::Instant,
+    ending: Sender<Told, Global>,
+    pub outlet: Arc<Outlet>,
+}
+
+/// The service of a namespace, made at moment 0, with a generator of its own that no stranger can foresee.
+fn make_service<R: Machine>(rt: &R, alloc: Global, config: Config) -> Result<Service, Ending>
+    ensures empty { IfOk result
+        (StandsAfter false (config ∷ []) bare_spaces no_journals 0) }
+{
+    let mut seed = [0; 32];
+    if let Err(error) = rt.fill_bytes(&mut seed) {
+        return Err(Ending::machine("the random source", error));
+    }
+    let generator = Xoshiro256PlusPlus::from_seed(seed);
+    match Service::new(alloc, &[config], generator, Instant { nanos: 0 }) {
+        Ok(service) => Ok(service),
+        Err(_) => Err(Ending::from(Fault::OutOfMemory)),
+    }
+}
+
+impl<R: Machine> House<R> {
+    /// Without namespaces. Its clock begins now.
+    pub fn new(rt: R, alloc: Global, ending: Sender<Told, Global>) -> Result<House<R>, Ending> {
+        let begun = match time::Instant::now(&rt) {
+            Ok(begun) => begun,
+            Err(error) => return Err(Ending::machine("the clock", error)),
+        };
+        Ok(House {
+            rt,
+            alloc,
+            begun,
+            ending,
+            outlet: Outlet::new(alloc)?,
+        })
+    }
+
+    /// Serves all namespaces, until all loops have ended.
+    pub fn serve<E: Write + Drop>(
+        &self,
+        spaces: Vec<HostedNamespace>,
+        hostings: &[Hosting],
+        listeners: Vec<Listener>,
+        metrics: Option<(u16, TcpListener)>,
+        told: &Receiver<Told, Global>,
+        alarms: &mut Alarms<R, E>,
+    ) -> Result<(), Ending> {
+        let Loops {
+            threads,
+            stoppers,
+            sources,
+        } = self.start_all(spaces, hostings, listeners)?;
+        let sources = Arc::new(self.alloc, sources)?;
+        let page = self.start_metrics(metrics, &sources)?;
+        let waited = self.wait(told, &stoppers, &sources, alarms);
+        if let Some(page) = page {
+            page.end(&self.rt);
+        }
+        waited?;
+        for thread in threads {
+            thread.join(&self.rt);
+        }
+        Ok(())
+    }
+
+    /// Starts the loops of all namespaces.
+    fn start_all(
+        &self,
+        spaces: Vec<HostedNamespace>,
+        hostings: &[Hosting],
+        listeners: Vec<Listener>,
+    ) -> Result<Loops, Ending> {
+        let mut all = Loops {
+            threads: Vec::new(self.alloc),
+            stoppers: Vec::new(self.alloc),
+            sources: Vec::new(self.alloc),
+        };
+        let loops = self.loops_for(spaces.len());
+        let hosted = spaces.into_iter().zip(hostings);
+        for ((space, hosting), listener) in hosted.zip(listeners) {
+            let plan = self.plan(space, hosting, loops)?;
+            self.start(plan, &listener, &mut all)?;
+        }
+        Ok(all)
+    }
+
+    /// How many loops each of so many namespaces has if nothing else is said: those that have a core each, but one at least.
+    fn loops_for(&self, spaces: usize) -> usize {
+        let cores = match thread::available_parallelism(&self.rt) {
+            Ok(cores) => cores.get(),
+            Err(_) => 1,
+        };
+        let share = cores.checked_div(spaces).unwrap_or(1);
+        share.max(1).min(LOOPS)
+    }
+
+    /// Starts to serve the metrics, if there is a listener for them.
+    fn start_metrics(
+        &self,
+        metrics: Option<(u16, TcpListener)>,
+        sources: &Arc<Vec<Source>>,
+    ) -> Result<Option<Metrics>, AllocError> {
+        let Some((port, listener)) = metrics else {
+            return Ok(None);
+        };
+        let sources = Arc::try_clone(sources)?;
+        let page = Metrics::start(self.rt, self.alloc, port, listener, sources)?;
+        Ok(Some(page))
+    }
+
+    /// Starts the loops of a namespace.
+    fn start(&self, plan: Plan<R>, listener: &Listener, all: &mut Loops) -> Result<(), Ending> {
+        let core = make_service(&self.rt, self.alloc, plan.config)?;
+        self.share::<Brand, Service>(core, Blank::new(SEATS), plan, listener, all)
+    }
+
+    /// How a namespace is served, by so many loops if nothing else is said.
+    fn plan(
+        &self,
+        space: HostedNamespace,
+        hosting: &Hosting,
+        loops: usize,
+    ) -> Result<Plan<R>, AllocError> {
+        let loops = match hosting.loops {
+            Some(loops) => loops as usize,
+            None => loops,
+        };
+        let config = space.config;
+        let source = Source::new(self.alloc, &space, hosting)?;
+        let space = Arc::new(self.alloc, space)?;
+        Ok(Plan {
+            config,
+            loops,
+            source,
+            notices: hosting.notices,
+            rules: Rules {
+                accepts: if loops == 1 { ACCEPTS } else { 1 },
+                connections: hosting.connections,
+                idle: hosting.idle,
+            },
+            site: Site {
+                rt: self.rt,
+                start: self.begun,
+                space,
+                outlet: Arc::try_clone(&self.outlet)?,
+            },
+        })
+    }
+
+    /// Shares a service among loops, and starts them.
+    fn share<L: Seating + Send + Sync + 'static, C: Shareable + Send + 'static>(
+        &self,
+        core: C,
+        blank: Blank,
+        plan: Plan<R>,
+        listener: &Listener,
+        all: &mut Loops,
+    ) -> Result<(), Ending>
+        requires empty { StandsAfter C.KEEPS L.configs C.spaces C.journals 0 core }
+        requires name { blank.name ≡ L.name }
+        requires parts { (blank.parts ≡ L.parts) × (L.all ≡ L.parts) × (L.parts ≡ 4294967296) }
+    {
+        let Ok(shared) = SharedService::<L, C>::new(self.alloc, core, blank, SEATS) else {
+            return Err(Ending::from(Fault::OutOfMemory));
+        };
+        let start = Start {
+            rt: self.rt,
+            alloc: self.alloc,
+            shared,
+            site: plan.site,
+            notices: plan.notices,
+            rules: plan.rules,
+            ending: Sender::clone(&self.ending)?,
+        };
+        start.start(listener, plan.loops, plan.source, all)
+    }
+
+    /// Waits until all loops have ended. When it is told to stop, it tells them; when it is told again, or after some seconds, they end at
+    /// once.
+    fn wait<E: Write + Drop>(
+        &self,
+        told: &Receiver<Told, Global>,
+        stoppers: &[Waker],
+        sources: &[Source],
+        alarms: &mut Alarms<R, E>,
+    ) -> Result<(), Ending> {
+        let mut watch = Watch::new(self.alloc, stoppers.len(), sources)?;
+        let second = time::Duration::from_secs(1);
+        for _told in self.rt.forever() {
+            if watch.running == 0 {
+                return Ok(());
+            }
+            match told.recv_timeout(&self.rt, second) {
+                Ok(Told::Ended) => watch.running = watch.running.saturating_sub(1),
+                Ok(Told::Failed(number)) => return Err(failed(self.alloc, sources, number)),
+                Ok(Told::Stop) => watch.stop(stoppers, alarms),
+                Err(_) => watch.count_second(&self.rt, stoppers, sources, alarms),
+            }
+        }
+        unreachable!()
+    }
+}
+
+/// How a namespace is served.
+#[derive(Drop)]
+struct Plan<R: time::Clock + Wait + Copy> {
+    config: Config,
+    site: Site<R>,
+    notices: Notices,
+    rules: Rules,
+    loops: usize,
+    source: Source,
+}
+
+/// Why the program ends if a loop of the namespace with this number cannot go on.
+fn failed(alloc: Global, sources: &[Source], number: usize) -> Ending {
+    match line_of_failure(alloc, sources, number) {
+        Some(line) => Ending {
+            fault: Fault::CannotListen,
+            cause: Cause::Said(line),
+        },
+        None => Ending::from(Fault::CannotListen),
+    }
+}
+
+/// The line that says that a loop of the namespace with this number cannot go on.
+fn line_of_failure(alloc: Global, sources: &[Source], number: usize) -> Option<String> {
+    let source = sources.get(number)?;
+    let (name, port) = (&source.name, source.port);
+    format!(in alloc; "{name} {port}: cannot wait for connections any more\n").ok()
+}

@@ -1,0 +1,79 @@
+//! What is counted of a namespace.
+
+use crate::heralds::Departures;
+use crate::holdings::{Holding, Place};
+use cache_loop::Counts;
+use cached_config::{HostedNamespace, Hosting};
+use cached_server::Machine;
+use std::alloc::{AllocError, Global};
+use std::sync::atomic::{AtomicU64, Ordering};
+use std::sync::{Arc, Mutex, Wait};
+
+/// Where the numbers of a namespace are.
+#[derive(Drop)]
+pub struct Source {
+    pub name: String,
+    pub port: u16,
+    place: Place,
+    /// How many connections are open.
+    pub open: Arc<AtomicU64>,
+    pub departures: Arc<Mutex<Departures>>,
+    /// What each of its loops has counted.
+    pub counts: Vec<Arc<Mutex<Counts>>>,
+}
+
+/// The numbers of a namespace, at some moment each.
+#[derive(Clone, Copy, Drop)]
+pub struct Reading {
+    pub open: u64,
+    pub departures: Departures,
+    pub counts: Counts,
+    /// Unknown if the namespace does not answer.
+    pub holding: Option<Holding>,
+}
+
+impl Source {
+    /// A namespace without loops.
+    pub fn new(
+        alloc: Global,
+        space: &HostedNamespace,
+        hosting: &Hosting,
+    ) -> Result<Source, AllocError> {
+        Ok(Source {
+            name: String::from_utf8_lossy(alloc, space.name.as_slice())?,
+            port: space.port,
+            place: Place::of(alloc, space, hosting)?,
+            open: Arc::new(alloc, AtomicU64::new(0))?,
+            departures: Arc::new(alloc, Mutex::new(Departures::new()))?,
+            counts: Vec::new(alloc),
+        })
+    }
+
+    /// A place for the counts of one more loop.
+    pub fn add_loop(&mut self, alloc: Global) -> Result<Arc<Mutex<Counts>>, AllocError> {
+        let counts = Arc::new(alloc, Mutex::new(Counts::new()))?;
+        let own = Arc::try_clone(&counts)?;
+        self.counts.push(own)?;
+        Ok(counts)
+    }
+
+    /// What its loops have counted.
+    pub fn counts<R: Wait>(&self, rt: &R) -> Counts {
+        let mut counts = Counts::new();
+        for counted in &self.counts {
+            let counted = *counted.lock(rt);
+            counts.add(&counted);
+        }
+        counts
+    }
+
+    /// Reads the numbers.
+    pub fn read<R: Machine>(&self, rt: &R) -> Reading {
+        Reading {
+            holding: self.place.ask(rt),
+            open: self.open.load(Ordering::SeqCst),
+            departures: *self.departures.lock(rt),
+            counts: self.counts(rt),
+        }
+    }
+}

@@ -1,0 +1,109 @@
+//! What the program knows of its loops while it waits for them.
+
+use crate::alarms::Alarms;
+use crate::sources::Source;
+use cache_loop::Counts;
+use cached_server::Machine;
+use mio::Waker;
+use std::alloc::{AllocError, Global};
+use std::io::Write;
+
+/// After it was told to stop, the server waits about so many seconds for replies to be taken.
+const PATIENCE: u64 = 10;
+
+/// What the program knows of its loops while it waits for them.
+#[derive(Drop)]
+pub struct Watch {
+    /// How many loops run.
+    pub running: usize,
+    is_stopping: bool,
+    // seconds since it was told to stop last, or since it has looked at the numbers
+    seconds: u64,
+    // what was counted in each namespace when it looked last
+    seen: Vec<Counts>,
+}
+
+impl Watch {
+    /// So many loops run.
+    pub fn new(alloc: Global, running: usize, sources: &[Source]) -> Result<Watch, AllocError> {
+        Ok(Watch {
+            running,
+            is_stopping: false,
+            seconds: 0,
+            seen: sources.iter().map(|_| Counts::new()).collect(alloc)?,
+        })
+    }
+
+    /// Tells the loops to stop.
+    pub fn stop<E: Write + Drop, R: Machine>(
+        &mut self,
+        stoppers: &[Waker],
+        alarms: &mut Alarms<R, E>,
+    ) {
+        if self.is_stopping {
+            alarms.say("stopping at once");
+        } else {
+            alarms.say("stopping");
+        }
+        self.is_stopping = true;
+        self.seconds = 0;
+        for stopper in stoppers {
+            let _ = stopper.wake();
+        }
+    }
+
+    /// Notes that about a second has passed.
+    pub fn count_second<E: Write + Drop, R: Machine>(
+        &mut self,
+        rt: &R,
+        stoppers: &[Waker],
+        sources: &[Source],
+        alarms: &mut Alarms<R, E>,
+    ) {
+        self.seconds = self.seconds.saturating_add(1);
+        if self.seconds < PATIENCE {
+            return;
+        }
+        self.seconds = 0;
+        if self.is_stopping {
+            self.stop(stoppers, alarms);
+        } else {
+            self.look(rt, sources, alarms);
+        }
+    }
+
+    /// Says which connections could not be served since it looked last.
+    fn look<E: Write + Drop, R: Machine>(
+        &mut self,
+        rt: &R,
+        sources: &[Source],
+        alarms: &mut Alarms<R, E>,
+    ) {
+        for (source, seen) in sources.iter().zip(self.seen.iter_mut()) {
+            let counts = source.counts(rt);
+            say_unserved(source, seen, &counts, alarms);
+            *seen = counts;
+        }
+    }
+}
+
+/// Says which connections of a namespace could not be served between two readings.
+fn say_unserved<E: Write + Drop, R: Machine>(
+    source: &Source,
+    before: &Counts,
+    now: &Counts,
+    alarms: &mut Alarms<R, E>,
+) {
+    let (name, port) = (&source.name, source.port);
+    let refused = now.refused.saturating_sub(before.refused);
+    if refused > 0 {
+        alarms.say(format_args!(
+            "{name} {port}: {refused} connections beyond max_connections were closed"
+        ));
+    }
+    if now.starved > before.starved {
+        alarms.say(format_args!(
+            "{name} {port}: no descriptors, or no memory, for connections that wait"
+        ));
+    }
+}

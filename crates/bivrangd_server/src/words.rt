@@ -1,0 +1,82 @@
+//! The program's words.
+use clap::{Arg, ArgAction, ArgMatches, Command, Error};
+use std::alloc::Global;
+use std::convert::AsStr;
+use std::io::ErrorKind;
+
+/// What the words ask for.
+#[derive(Clone, Copy, Drop)]
+pub enum Asked<'a> {
+    /// To serve what the configuration file at this path says.
+    Config(&'a str),
+    /// To say what is wrong with the configuration file at this path.
+    Check(&'a str),
+    /// To say which version it is.
+    Version,
+    /// To say how it is used.
+    Help,
+}
+
+impl<'a> Asked<'a> {
+    /// The path of the file that is asked for; empty if none is.
+    pub fn path(self) -> &'a str {
+        match self {
+            Asked::Config(path) | Asked::Check(path) => path,
+            Asked::Version | Asked::Help => "",
+        }
+    }
+}
+
+/// Takes the arguments: exactly one of `--config FILE`, `--check FILE`, `--version` and `--help`. The first is the program's name. The error
+/// is `OutOfMemory`, or `InvalidInput` for others.
+pub fn take_words<'a, S: AsStr>(alloc: Global, words: &'a [S]) -> Result<Asked<'a>, ErrorKind> {
+    match match_words(alloc, words) {
+        Ok(matches) => asked_by(&matches).ok_or(ErrorKind::InvalidInput),
+        Err(error) => Err(kind_of(error.kind())),
+    }
+}
+
+/// Which kind of error it is that words do not match.
+fn kind_of(kind: clap::error::ErrorKind) -> ErrorKind {
+    match kind {
+        clap::error::ErrorKind::OutOfMemory => ErrorKind::OutOfMemory,
+        _ => ErrorKind::InvalidInput,
+    }
+}
+
+/// What matched words ask for, if it is one thing.
+fn asked_by<'a>(matches: &ArgMatches<'a>) -> Option<Asked<'a>> {
+    let flags = (matches.get_flag("version"), matches.get_flag("help"));
+    match (matches.get_str("config"), matches.get_str("check"), flags) {
+        (Some(path), None, (false, false)) => Some(Asked::Config(path)),
+        (None, Some(path), (false, false)) => Some(Asked::Check(path)),
+        (None, None, (true, false)) => Some(Asked::Version),
+        (None, None, (false, true)) => Some(Asked::Help),
+        _ => None,
+    }
+}
+
+/// The words, matched with the arguments that there are.
+fn match_words<'a, S: AsStr>(alloc: Global, words: &'a [S]) -> Result<ArgMatches<'a>, Error> {
+    let config = Arg::new(alloc, "config")
+        .long("config")
+        .action(ArgAction::Set);
+    let check = Arg::new(alloc, "check")
+        .long("check")
+        .action(ArgAction::Set);
+    let version = Arg::new(alloc, "version")
+        .long("version")
+        .action(ArgAction::SetTrue);
+    let help = Arg::new(alloc, "help")
+        .long("help")
+        .action(ArgAction::SetTrue);
+    let command = Command::new(alloc, "bivrangd")
+        .disable_help_flag(true)
+        .disable_version_flag(true);
+    command
+        .arg(config)?
+        .arg(check)?
+        .arg(version)?
+        .arg(help)?
+        .try_get_matches_from(words)
+}
