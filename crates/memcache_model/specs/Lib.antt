@@ -7,3 +7,4 @@ pub mod Replies
 pub mod Outcomes
 pub mod Meta
 pub mod Answers
+pub mod Leases

@@ -1,5 +1,5 @@
 -- Requests by the answers to their commands.
-use Rattle.std.proofs.Common.{◌≡◌, ℕ, Bool, ◌⊎◌, ⊎_elim, inl, inr, ◌∙◌, sym, ap, subst, List, [], ◌++◌, length, take, None}
+use Rattle.std.proofs.Common.{◌≡◌, ℕ, ◌⊎◌, ⊎_elim, inl, inr, ◌∙◌, sym, ap, subst, List, [], ◌++◌, length, take, None}
 use Rattle.std.specs.Prelude.{if◌then◌else◌}
 use Rattle.memcache_model.specs.Answers.{answer}
 use Rattle.memcache_model.specs.Commands as model

@@ -1,5 +1,5 @@
 -- Requests served of some bytes, and of more bytes.
-use Rattle.std.proofs.Common.{◌≡◌, ℕ, ◌-◌, ◌≤◌, ◌⊎◌, ⊎_elim, inl, inr, List, [], ◌++◌, length, drop, ap, subst, refl, arith}
+use Rattle.std.proofs.Common.{◌≡◌, ℕ, ◌-◌, ◌≤◌, ◌⊎◌, ⊎_elim, inl, inr, List, [], ◌++◌, length, drop, subst, refl, arith}
 use Rattle.std.proofs.lemmas.Bool.{cases_lt}
 use Rattle.std.proofs.lemmas.List.{drop-append-le, length-append}
 use Rattle.std.proofs.Math.ListN.{drop_of_length-le}

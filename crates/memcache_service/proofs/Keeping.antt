@@ -1,8 +1,12 @@
 -- What a call leaves that did what it was to do, or was refused.
-use Rattle.std.proofs.Common.{◌≡◌, ℕ, List, Result, Ok, Err, IfOk, OnErr}
+use Rattle.std.proofs.Common.{◌≡◌, ℕ, ⊎_elim, inl, inr, ◌∙◌, refl, ap, Bool, true, false, List, Some, Result, Ok, Err, IfOk, OnErr}
+use Rattle.std.proofs.lemmas.Slice.Eq.{bytes_eq-Decides}
+use Rattle.std.specs.Prelude.{if◌then◌else◌}
+use Rattle.memcache_model.specs.Bytes.{same}
+use Rattle.memcache_model.specs.Items.{Item, with_item}
 use Rattle.memcache_model.specs.Outcomes.{Outcome}
-use Rattle.memcache_service.specs.Shelves.{IsMoment, Shelved}
-use Rattle.memcache_service.specs.Stocks.{Does, Keeps}
+use Rattle.memcache_service.specs.Shelves.{IsMoment, Shelved, live_on}
+use Rattle.memcache_service.specs.Stocks.{Does, Keeps, Leaves, stock_at}
 use Rattle.memcache_service.specs.declared.stock.Stock.{Stock}
 
 -- a call may follow at the moment of one that did what it was to do, or was refused
@@ -14,3 +18,17 @@ may_follow view moment outcome text old new (Err e) done refused = refused.may_f
 pub most_kept : {T X E : Type 0} (view : T → Shelved) (moment : ℕ) (outcome : Outcome) (text : X → List ℕ) (old new : Stock T) (r : Result X E) → IfOk r (λ x. Does view moment outcome old new (text x)) → OnErr r (Keeps view moment old new) → new.most ≡ old.most
 most_kept view moment outcome text old new (Ok x) done refused = done.leaves.most
 most_kept view moment outcome text old new (Err e) done refused = refused.most
+
+-- the live item of a key is given it again: nothing changes
+pub same_item : {T : Type 0} (view : T → Shelved) (moment : ℕ) (key : List ℕ) (item : Item) (old new : Stock T) → live_on (view old.shelf) moment key ≡ Some item → Keeps view moment old new → Leaves view moment (record (stock_at view moment old) { items = with_item key (Some item) (live_on (view old.shelf) moment) }) old new
+same_item view moment key item old new is kept = record {
+  items = λ k. ⊎_elim (λ e. inl (e ∙ put k (same k key) refl)) (λ none. inr none) (kept.items k);
+  uniques = kept.uniques;
+  flush = kept.flush;
+  may_follow = kept.may_follow;
+  most = kept.most;
+}
+  where
+    put : (k : List ℕ) (b : Bool) → same k key ≡ b → live_on (view old.shelf) moment k ≡ (if b then Some item else live_on (view old.shelf) moment k)
+    put k true e = ap (live_on (view old.shelf) moment) ((bytes_eq-Decides k key).0 e) ∙ is
+    put k false e = refl

@@ -1,5 +1,6 @@
 mod Answering
 mod Cutting
+mod Finding
 mod Keeping
 mod Parting
 mod Touching

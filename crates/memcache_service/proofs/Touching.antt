@@ -1,12 +1,12 @@
 -- Items of keys that get a deadline, one key after the other.
-use Rattle.std.proofs.Common.{◌≡◌, ℕ, zero, suc, ◌+◌, Bool, true, false, cond, ◌⊎◌, ⊎_elim, inl, inr, ◌∙◌, sym, ap, subst, refl, List, [], ◌∷◌, ◌++◌, take, drop, Option, Some, None}
+use Rattle.std.proofs.Common.{◌≡◌, ℕ, zero, suc, Bool, true, false, cond, ◌⊎◌, ⊎_elim, inl, inr, ◌∙◌, sym, ap, subst, refl, List, [], ◌∷◌, ◌++◌, take, drop, Option, Some, None}
 use Rattle.std.proofs.lemmas.Option.{none-some}
 use Rattle.std.proofs.lemmas.Slice.Eq.{bytes_eq-Decides}
 use Rattle.memcache_model.specs.Answers.{retimed, touched, touches_one}
 use Rattle.memcache_model.specs.Bytes.{same}
 use Rattle.memcache_model.specs.Items.{Item, Items, with_item}
 use Rattle.memcache_service.specs.Shelves.{IsMoment, Shelved, live_on}
-use Rattle.memcache_service.specs.Stocks.{Does, Leaves, Touches, stock_at}
+use Rattle.memcache_service.specs.Stocks.{Does, Touches, stock_at}
 use Rattle.memcache_service.specs.declared.stock.Stock.{Stock}
 
 touched-push : (deadline : Option ℕ) (xs : List (List ℕ)) (key : List ℕ) (items : Items) → touched deadline (xs ++ key ∷ []) items ≡ with_item key (retimed deadline (touched deadline xs items key)) (touched deadline xs items)

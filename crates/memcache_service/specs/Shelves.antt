@@ -11,6 +11,10 @@ pub record Shelved : Type 0 where
 abbrev pub live_on : Shelved → (moment : ℕ) → Items
 live_on shelved moment = λ key. unexpired moment (shelved.items moment key)
 
+-- there is nothing
+abbrev pub ShowsNothing : Shelved → Type 0
+ShowsNothing shelved = (moment : ℕ) (key : List ℕ) → shelved.items moment key ≡ None
+
 -- a call may come at this moment
 pub record IsMoment (shelved : Shelved) (moment : ℕ) : Type 0 where
   pub later : shelved.latest ≤ moment

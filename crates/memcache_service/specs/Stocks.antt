@@ -25,12 +25,6 @@ is_short (meta kind key flags) = false
 is_short (meta_set key flags block) = false
 is_short command = true
 
--- it is no meta command
-abbrev pub is_plain : Command → Bool
-is_plain (meta kind key flags) = false
-is_plain (meta_set key flags block) = false
-is_plain command = true
-
 -- what is replied where memory is lacking
 abbrev pub IsRefusal : List ℕ → Type 0
 IsRefusal text = (text ≡ reply_text NoMemory) ⊎ (text ≡ reply_text NoRoom)

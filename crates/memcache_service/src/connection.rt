@@ -41,7 +41,9 @@ impl Connection {
     }
 
     /// Whether no further request runs: the client has quit, a line was too long, or there was no memory.
-    pub fn is_closed(&self) -> bool {
+    pub fn is_closed(&self) -> bool
+        ensures { result ≡ self.now.is_closed }
+    {
         self.is_closed
     }
 

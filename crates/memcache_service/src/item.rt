@@ -1,6 +1,6 @@
 //! Items.
 ghost use Rattle.std.specs.Prelude.{◌≡◌, ◌+◌, ◌++◌, ◌<◌, ◌≤◌, ◌^◌, length, decimal, nat_lt, IfOk, Some, None, if◌then◌else◌, option_map};
-ghost use Rattle.memcache_model.specs.Items.{deadline_of};
+ghost use Rattle.memcache_model.specs.Items.{deadline_of, has_come};
 ghost use Rattle.memcache_model.specs.Outcomes.{new_item};
 
 use itoa::Buffer;
@@ -56,6 +56,16 @@ impl StoredItem {
             deadline,
             stale: false,
             leased: false,
+        }
+    }
+
+    /// Whether its deadline has come.
+    pub fn has_expired(&self, moment: u64) -> bool
+        ensures { result ≡ has_come moment self.now.deadline }
+    {
+        match self.deadline {
+            Some(deadline) => deadline <= moment,
+            None => false,
         }
     }
 

@@ -1,5 +1,7 @@
 //! A service: a stock of items, and the connections that use it.
-ghost use Rattle.std.specs.Prelude.{◌≡◌, ◌≤◌, ◌<◌, ◌^◌};
+ghost use Rattle.slab.specs.Slab.{get};
+ghost use Rattle.std.specs.Prelude.{◌≡◌, ◌≤◌, ◌<◌, ◌^◌, None, false, true};
+ghost use Rattle.memcache_service.specs.Serving.{HasFed};
 ghost use Rattle.memcache_service.specs.Shelves.{IsMoment};
 
 use crate::connection::Connection;
@@ -26,7 +28,7 @@ pub struct Service<T: Shelf> {
 }
 
 impl<T: Shelf> Service<T> {
-    /// A service over a shelf.
+    /// Creates a service over a shelf, without connections. Returns an error if there is no memory for it.
     pub fn new(alloc: Global, shelf: T, setup: Setup, moment: u64) -> Result<Service<T>, AllocError>
         requires { IsMoment (T.view shelf) moment }
     {
@@ -38,7 +40,7 @@ impl<T: Shelf> Service<T> {
         })
     }
 
-    /// Opens a connection.
+    /// Opens a connection, and returns its number, which no other open connection has. Returns an error if there is no memory for it.
     pub fn open(&mut self) -> Result<Conn, AllocError> {
         let alloc = self.stock.alloc;
         let conn = self.connections.insert(Connection::new(alloc))?;
@@ -47,7 +49,7 @@ impl<T: Shelf> Service<T> {
         Ok(conn)
     }
 
-    /// Closes a connection. Its number may then be that of another.
+    /// Closes a connection, if it is open. A later one may have its number.
     pub fn close(&mut self, conn: Conn) {
         let _ = self.connections.try_remove(conn);
         self.stock.connections = self.connections.len() as u64;
@@ -55,7 +57,14 @@ impl<T: Shelf> Service<T> {
 
     /// Feeds a connection a piece of bytes at a moment, and runs the requests that it completes. Returns false if the connection has ended:
     /// its replies are to be taken, and then it is to be closed.
-    pub fn feed(&mut self, conn: Conn, piece: &[u8], moment: u64) -> bool {
+    pub fn feed(&mut self, conn: Conn, piece: &[u8], moment: u64) -> bool
+        ensures served { result ≡ true → HasFed T.view self.new.moment conn piece.now
+            self.old.connections self.new.connections self.old.stock self.new.stock }
+        ensures later { self.old.moment ≤ self.new.moment }
+        ensures absent { get self.old.connections conn ≡ None
+            → (result ≡ false) × (self.new.connections ≡ self.old.connections)
+            × (self.new.stock ≡ self.old.stock) }
+    {
         let now = later(self.moment, moment);
         match self.connections.get_mut(conn) {
             Some(connection) => {

@@ -54,9 +54,9 @@ pub trait Shelf: Drop {
     fn count_removals(&mut self, counters: &mut Counters)
         ensures { view self.new ≡ view self.old };
 
-    /// How many items there are, as far as maintenance has come.
+    /// How many items there are, as of the last maintenance.
     fn item_count(&self) -> u64;
 
-    /// What they weigh.
+    /// What these items weigh together, as of the last maintenance.
     fn weight(&self) -> u64;
 }

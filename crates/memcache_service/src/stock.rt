@@ -5,7 +5,7 @@ ghost use Rattle.memcache_model.specs.Answers.{answer};
 ghost use Rattle.memcache_model.specs.Items.{live_at, nothing};
 ghost use Rattle.memcache_service.specs.Lines.{reply_text, said_from};
 ghost use Rattle.memcache_service.specs.Shelves.{IsMoment};
-ghost use Rattle.memcache_service.specs.Stocks.{Answers, Does, Keeps, Leaves, Serves, is_plain, is_short, kept, service_of, stock_at};
+ghost use Rattle.memcache_service.specs.Stocks.{Answers, Does, Keeps, Leaves, Serves, is_short, kept, service_of, stock_at};
 
 use crate::counters::{Counters, Tally};
 use crate::replies::{Reply, SHORT};
@@ -88,8 +88,8 @@ impl<T: Shelf> Stock<T> {
         output: &mut Vec<u8>,
     ) -> Result<(), AllocError>
         requires { IsMoment (T.view self.old.shelf) moment }
-        ensures served { is_plain (asks request.now.command) ≡ true
-            → OnOk result (Serves T.view moment (live_at moment (kept T.view moment self.old))
+        ensures served { OnOk result (Serves T.view moment
+            (live_at moment (kept T.view moment self.old))
             (record { command = asks request.now.command; quiet = request.now.quiet })
             self.old self.new output.old.items output.new.items) }
         ensures refused { OnErr result (Keeps T.view moment self.old self.new
@@ -143,10 +143,11 @@ impl<T: Shelf> Stock<T> {
     }
 
     /// Does what a command asks for. It writes the reply, or returns it if it is one of a line.
+    #[tactic(auto, using(crate::proofs::Keeping::may_follow, crate::proofs::Keeping::most_kept))]
     fn answer(&mut self, command: &Command<'_>, moment: u64, output: &mut Vec<u8>) -> Reply
         requires { IsMoment (T.view self.old.shelf) moment }
-        ensures answered { is_plain (asks command.now) ≡ true → Answers T.view moment
-            (asks command.now) self.old self.new output.old.items output.new.items result }
+        ensures answered { Answers T.view moment (asks command.now) self.old self.new
+            output.old.items output.new.items result }
         ensures may_follow { IsMoment (T.view self.new.shelf) moment }
         ensures most { self.new.most ≡ self.old.most }
         ensures capacity { vec_capacity output.old ≤ vec_capacity output.new }

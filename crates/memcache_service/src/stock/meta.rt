@@ -1,6 +1,14 @@
 //! The meta commands.
-ghost use Rattle.std.specs.Prelude.{◌≡◌, ◌≤◌, ◌<◌, ◌^◌, vec_capacity};
-ghost use Rattle.memcache_service.specs.Shelves.{IsMoment};
+ghost use Rattle.std.specs.Prelude.{◌≡◌, ◌+◌, ◌≤◌, ◌<◌, ◌^◌, ◌++◌, ◌&&◌, ◌||◌, [], not, true, false, codes, length, take, None, Some, IfOk, OnOk, OnErr, MatchOption, option_map, vec_capacity};
+ghost use Rattle.std.specs.Option.{option_or};
+ghost use Rattle.memcache_model.specs.Bytes.{tokens};
+ghost use Rattle.memcache_model.specs.Items.{Item};
+ghost use Rattle.memcache_model.specs.Meta.{code_alone, code_with, flags_fault, item_text, unless_quiet, is_other, meta_answer, meta_arithmetic, meta_compare, meta_counted, meta_get, meta_get_none, meta_item, meta_put, meta_set_answer, meta_stored, mode_fault, mode_of, retimed_by};
+ghost use Rattle.memcache_model.specs.Outcomes.{changes};
+ghost use Rattle.memcache_service.specs.Lines.{said_from};
+ghost use Rattle.memcache_service.specs.Shelves.{IsMoment, live_on};
+ghost use Rattle.memcache_service.specs.Stocks.{Does, Keeps, Leaves, stock_at};
+ghost use Rattle.memcache_service.specs.Told.{found_item, late_by, moded, told_found};
 
 use super::Stock;
 use super::flags::{
@@ -68,8 +76,12 @@ impl<T: Shelf> Stock<T> {
         output: &mut Vec<u8>,
     ) -> Result<Reply, AllocError>
         requires { IsMoment (T.view self.old.shelf) moment }
-        ensures may_follow { IsMoment (T.view self.new.shelf) moment }
-        ensures most { self.new.most ≡ self.old.most }
+        ensures ok { IfOk result (λ reply. Does T.view moment
+            (meta_answer moment kind key.now (tokens flags.now)
+            ((stock_at T.view moment self.old).items key.now) (stock_at T.view moment self.old))
+            self.old self.new (said_from (length output.old.items) output.new.items reply)) }
+        ensures err { OnErr result (Keeps T.view moment self.old self.new) }
+        ensures begun { take (length output.old.items) output.new.items ≡ output.old.items }
         ensures capacity { vec_capacity output.old ≤ vec_capacity output.new }
     {
         let asked = Asked { key, flags, moment };
@@ -90,8 +102,13 @@ impl<T: Shelf> Stock<T> {
         output: &mut Vec<u8>,
     ) -> Result<Reply, AllocError>
         requires { IsMoment (T.view self.old.shelf) moment }
-        ensures may_follow { IsMoment (T.view self.new.shelf) moment }
-        ensures most { self.new.most ≡ self.old.most }
+        ensures ok { IfOk result (λ reply. Does T.view moment
+            (meta_set_answer self.old.most moment key.now (tokens flags.now)
+            block.now ((stock_at T.view moment self.old).items key.now)
+            (stock_at T.view moment self.old))
+            self.old self.new (said_from (length output.old.items) output.new.items reply)) }
+        ensures err { OnErr result (Keeps T.view moment self.old self.new) }
+        ensures begun { take (length output.old.items) output.new.items ≡ output.old.items }
         ensures capacity { vec_capacity output.old ≤ vec_capacity output.new }
     {
         let asked = Asked { key, flags, moment };
@@ -101,8 +118,13 @@ impl<T: Shelf> Stock<T> {
     /// `mg`.
     fn meta_get(&mut self, asked: Asked<'_>, output: &mut Vec<u8>) -> Result<Reply, AllocError>
         requires { IsMoment (T.view self.old.shelf) asked.moment }
-        ensures may_follow { IsMoment (T.view self.new.shelf) asked.entry.moment }
-        ensures most { self.new.most ≡ self.old.most }
+        ensures ok { IfOk result (λ reply. Does T.view asked.entry.moment
+            (meta_answer asked.entry.moment Meta.Get asked.entry.key.now
+            (tokens asked.entry.flags.now)
+            ((stock_at T.view asked.entry.moment self.old).items asked.entry.key.now) (stock_at T.view asked.entry.moment self.old))
+            self.old self.new (said_from (length output.old.items) output.new.items reply)) }
+        ensures err { OnErr result (Keeps T.view asked.entry.moment self.old self.new) }
+        ensures begun { take (length output.old.items) output.new.items ≡ output.old.items }
         ensures capacity { vec_capacity output.old ≤ vec_capacity output.new }
     {
         if let Some(error) = GET.fault(asked.flags) {
@@ -115,20 +137,40 @@ impl<T: Shelf> Stock<T> {
             return self.meta_vivify(asked, output);
         };
         self.counters.up(Tally::GetHits);
-        match say_found(asked, item, output)? {
-            Some(changed) => self.shelf.put(&self.key, changed, asked.moment)?,
+        let changed = say_found(asked, item, output)?;
+        self.renew(changed, asked.moment)?;
+        Ok(Reply::Written)
+    }
+
+    /// Gives the key what its live item becomes. One that stays as it is is used.
+    #[tactic(auto, using(crate::proofs::Keeping::same_item))]
+    fn renew(&mut self, changed: Option<StoredItem>, moment: u64) -> Result<(), AllocError>
+        requires { IsMoment (T.view self.old.shelf) moment }
+        ensures ok { (found : Item) → MatchOption changed
+            (live_on (T.view self.old.shelf) moment self.old.key ≡ Some found) (λ c. c ≡ found)
+            → OnOk result (Leaves T.view moment (changes [] self.old.key (Some found)
+            (stock_at T.view moment self.old)).stock self.old self.new) }
+        ensures err { OnErr result (Keeps T.view moment self.old self.new) }
+    {
+        match changed {
+            Some(item) => self.shelf.put(&self.key, item, moment),
             None => {
-                self.shelf.note_use(&self.key, asked.moment);
+                self.shelf.note_use(&self.key, moment);
+                Ok(())
             }
         }
-        Ok(Reply::Written)
     }
 
     /// `mg` of a key without a live item.
     fn meta_vivify(&mut self, asked: Asked<'_>, output: &mut Vec<u8>) -> Result<Reply, AllocError>
-        requires { IsMoment (T.view self.old.shelf) asked.moment }
-        ensures may_follow { IsMoment (T.view self.new.shelf) asked.entry.moment }
-        ensures most { self.new.most ≡ self.old.most }
+        requires in_time { IsMoment (T.view self.old.shelf) asked.moment }
+        requires named { self.old.key ≡ asked.key.now }
+        ensures ok { IfOk result (λ reply. Does T.view asked.entry.moment
+            (meta_get asked.entry.moment self.old.key
+            (tokens asked.entry.flags.now) None (stock_at T.view asked.entry.moment self.old))
+            self.old self.new (said_from (length output.old.items) output.new.items reply)) }
+        ensures err { OnErr result (Keeps T.view asked.entry.moment self.old self.new) }
+        ensures begun { take (length output.old.items) output.new.items ≡ output.old.items }
         ensures capacity { vec_capacity output.old ≤ vec_capacity output.new }
     {
         let Some(exptime) = exptime_of(b'N', asked.flags) else {
@@ -137,6 +179,26 @@ impl<T: Shelf> Stock<T> {
             }
             return Ok(Reply::Written);
         };
+        self.put_leased(asked, exptime, output)
+    }
+
+    /// Stores an empty item whose lease the client wins, and tells it.
+    fn put_leased(
+        &mut self,
+        asked: Asked<'_>,
+        exptime: Exptime,
+        output: &mut Vec<u8>,
+    ) -> Result<Reply, AllocError>
+        requires in_time { IsMoment (T.view self.old.shelf) asked.moment }
+        requires named { self.old.key ≡ asked.key.now }
+        ensures ok { IfOk result (λ reply. Does T.view asked.entry.moment
+            (meta_get_none asked.entry.moment self.old.key (tokens asked.entry.flags.now)
+            (Some exptime) (stock_at T.view asked.entry.moment self.old))
+            self.old self.new (said_from (length output.old.items) output.new.items reply)) }
+        ensures err { OnErr result (Keeps T.view asked.entry.moment self.old self.new) }
+        ensures begun { take (length output.old.items) output.new.items ≡ output.old.items }
+        ensures capacity { vec_capacity output.old ≤ vec_capacity output.new }
+    {
         let deadline = deadline_of(asked.moment, exptime);
         let mut item = StoredItem::new(Vec::new(self.alloc), 0, deadline);
         item.leased = true;
@@ -152,15 +214,22 @@ impl<T: Shelf> Stock<T> {
     }
 
     /// The unique that the next item gets that is stored.
-    fn next_unique(&self) -> u64 {
+    fn next_unique(&self) -> u64
+        ensures { self.now.uniques + 1 < 2 ^ 64 → result ≡ self.now.uniques + 1 }
+    {
         self.uniques.saturating_add(1)
     }
 
     /// `md`.
     fn meta_delete(&mut self, asked: Asked<'_>, output: &mut Vec<u8>) -> Result<Reply, AllocError>
         requires { IsMoment (T.view self.old.shelf) asked.moment }
-        ensures may_follow { IsMoment (T.view self.new.shelf) asked.entry.moment }
-        ensures most { self.new.most ≡ self.old.most }
+        ensures ok { IfOk result (λ reply. Does T.view asked.entry.moment
+            (meta_answer asked.entry.moment Meta.Delete asked.entry.key.now
+            (tokens asked.entry.flags.now)
+            ((stock_at T.view asked.entry.moment self.old).items asked.entry.key.now) (stock_at T.view asked.entry.moment self.old))
+            self.old self.new (said_from (length output.old.items) output.new.items reply)) }
+        ensures err { OnErr result (Keeps T.view asked.entry.moment self.old self.new) }
+        ensures begun { take (length output.old.items) output.new.items ≡ output.old.items }
         ensures capacity { vec_capacity output.old ≤ vec_capacity output.new }
     {
         if let Some(error) = DELETE.fault(asked.flags) {
@@ -194,8 +263,13 @@ impl<T: Shelf> Stock<T> {
         output: &mut Vec<u8>,
     ) -> Result<Reply, AllocError>
         requires { IsMoment (T.view self.old.shelf) asked.moment }
-        ensures may_follow { IsMoment (T.view self.new.shelf) asked.entry.moment }
-        ensures most { self.new.most ≡ self.old.most }
+        ensures ok { IfOk result (λ reply. Does T.view asked.entry.moment
+            (meta_answer asked.entry.moment Meta.Arithmetic asked.entry.key.now
+            (tokens asked.entry.flags.now)
+            ((stock_at T.view asked.entry.moment self.old).items asked.entry.key.now) (stock_at T.view asked.entry.moment self.old))
+            self.old self.new (said_from (length output.old.items) output.new.items reply)) }
+        ensures err { OnErr result (Keeps T.view asked.entry.moment self.old self.new) }
+        ensures begun { take (length output.old.items) output.new.items ≡ output.old.items }
         ensures capacity { vec_capacity output.old ≤ vec_capacity output.new }
     {
         if let Some(error) = ARITHMETIC.fault(asked.flags) {
@@ -213,16 +287,22 @@ impl<T: Shelf> Stock<T> {
         };
         let delta = number_of(b'D', asked.flags).unwrap_or(1);
         let count = counted(direction_of(asked.flags), old, delta);
+        let deadline = retimed(asked, item);
         let mut changed = item.with_number(self.alloc, count)?;
-        changed.deadline = retimed(asked, changed.deadline);
+        changed.deadline = deadline;
         self.put_number(asked, changed, output)
     }
 
     /// `ma` of a key without a live item.
     fn meta_first(&mut self, asked: Asked<'_>, output: &mut Vec<u8>) -> Result<Reply, AllocError>
-        requires { IsMoment (T.view self.old.shelf) asked.moment }
-        ensures may_follow { IsMoment (T.view self.new.shelf) asked.entry.moment }
-        ensures most { self.new.most ≡ self.old.most }
+        requires in_time { IsMoment (T.view self.old.shelf) asked.moment }
+        requires named { self.old.key ≡ asked.key.now }
+        ensures ok { IfOk result (λ reply. Does T.view asked.entry.moment
+            (meta_arithmetic asked.entry.moment self.old.key
+            (tokens asked.entry.flags.now) None (stock_at T.view asked.entry.moment self.old))
+            self.old self.new (said_from (length output.old.items) output.new.items reply)) }
+        ensures err { OnErr result (Keeps T.view asked.entry.moment self.old self.new) }
+        ensures begun { take (length output.old.items) output.new.items ≡ output.old.items }
         ensures capacity { vec_capacity output.old ≤ vec_capacity output.new }
     {
         let Some(exptime) = exptime_of(b'N', asked.flags) else {
@@ -242,15 +322,17 @@ impl<T: Shelf> Stock<T> {
         item: StoredItem,
         output: &mut Vec<u8>,
     ) -> Result<Reply, AllocError>
-        requires { IsMoment (T.view self.old.shelf) asked.moment }
-        ensures may_follow { IsMoment (T.view self.new.shelf) asked.entry.moment }
-        ensures most { self.new.most ≡ self.old.most }
+        requires in_time { IsMoment (T.view self.old.shelf) asked.moment }
+        requires named { self.old.key ≡ asked.key.now }
+        ensures ok { IfOk result (λ reply. Does T.view asked.entry.moment
+            (meta_counted asked.entry.moment self.old.key
+            (tokens asked.entry.flags.now) item (stock_at T.view asked.entry.moment self.old))
+            self.old self.new (said_from (length output.old.items) output.new.items reply)) }
+        ensures err { OnErr result (Keeps T.view asked.entry.moment self.old self.new) }
+        ensures begun { take (length output.old.items) output.new.items ≡ output.old.items }
         ensures capacity { vec_capacity output.old ≤ vec_capacity output.new }
     {
-        if !has_flag(b'q', asked.flags) {
-            let told = Told::new(asked.key, &item, self.next_unique(), asked.moment);
-            told.say_item(output, asked.flags, &NO_LEASE)?;
-        }
+        say_counted(asked, &item, self.next_unique(), output)?;
         self.put(item, asked.moment)?;
         Ok(Reply::Written)
     }
@@ -263,8 +345,13 @@ impl<T: Shelf> Stock<T> {
         output: &mut Vec<u8>,
     ) -> Result<Reply, AllocError>
         requires { IsMoment (T.view self.old.shelf) asked.moment }
-        ensures may_follow { IsMoment (T.view self.new.shelf) asked.entry.moment }
-        ensures most { self.new.most ≡ self.old.most }
+        ensures ok { IfOk result (λ reply. Does T.view asked.entry.moment
+            (meta_set_answer self.old.most asked.entry.moment asked.entry.key.now
+            (tokens asked.entry.flags.now) block.now
+            ((stock_at T.view asked.entry.moment self.old).items asked.entry.key.now) (stock_at T.view asked.entry.moment self.old))
+            self.old self.new (said_from (length output.old.items) output.new.items reply)) }
+        ensures err { OnErr result (Keeps T.view asked.entry.moment self.old self.new) }
+        ensures begun { take (length output.old.items) output.new.items ≡ output.old.items }
         ensures capacity { vec_capacity output.old ≤ vec_capacity output.new }
     {
         self.counters.up(Tally::CmdSet);
@@ -286,9 +373,16 @@ impl<T: Shelf> Stock<T> {
         block: &[u8],
         output: &mut Vec<u8>,
     ) -> Result<Reply, AllocError>
-        requires { IsMoment (T.view self.old.shelf) asked.moment }
-        ensures may_follow { IsMoment (T.view self.new.shelf) asked.entry.moment }
-        ensures most { self.new.most ≡ self.old.most }
+        requires in_time { IsMoment (T.view self.old.shelf) asked.moment }
+        requires named { self.old.key ≡ asked.key.now }
+        ensures ok { IfOk result (λ reply. Does T.view asked.entry.moment
+            (meta_compare self.old.most asked.entry.moment unique self.old.key
+            (tokens asked.entry.flags.now)
+            (meta_item asked.entry.moment
+            (tokens asked.entry.flags.now) block.now) ((stock_at T.view asked.entry.moment self.old).items self.old.key) (stock_at T.view asked.entry.moment self.old))
+            self.old self.new (said_from (length output.old.items) output.new.items reply)) }
+        ensures err { OnErr result (Keeps T.view asked.entry.moment self.old self.new) }
+        ensures begun { take (length output.old.items) output.new.items ≡ output.old.items }
         ensures capacity { vec_capacity output.old ≤ vec_capacity output.new }
     {
         let Some(held) = self.shelf.peek(&self.key, asked.moment) else {
@@ -314,9 +408,17 @@ impl<T: Shelf> Stock<T> {
         block: &[u8],
         output: &mut Vec<u8>,
     ) -> Result<Reply, AllocError>
-        requires { IsMoment (T.view self.old.shelf) asked.moment }
-        ensures may_follow { IsMoment (T.view self.new.shelf) asked.entry.moment }
-        ensures most { self.new.most ≡ self.old.most }
+        requires in_time { IsMoment (T.view self.old.shelf) asked.moment }
+        requires named { self.old.key ≡ asked.key.now }
+        ensures ok { IfOk result (λ reply. Does T.view asked.entry.moment
+            (meta_put self.old.most asked.entry.moment (mode_of
+            (tokens asked.entry.flags.now)) self.old.key
+            (tokens asked.entry.flags.now)
+            (meta_item asked.entry.moment
+            (tokens asked.entry.flags.now) block.now) ((stock_at T.view asked.entry.moment self.old).items self.old.key) (stock_at T.view asked.entry.moment self.old))
+            self.old self.new (said_from (length output.old.items) output.new.items reply)) }
+        ensures err { OnErr result (Keeps T.view asked.entry.moment self.old self.new) }
+        ensures begun { take (length output.old.items) output.new.items ≡ output.old.items }
         ensures capacity { vec_capacity output.old ≤ vec_capacity output.new }
     {
         let mode = mode_of(asked.flags);
@@ -334,31 +436,40 @@ impl<T: Shelf> Stock<T> {
         item: StoredItem,
         output: &mut Vec<u8>,
     ) -> Result<Reply, AllocError>
-        requires { IsMoment (T.view self.old.shelf) asked.moment }
-        ensures may_follow { IsMoment (T.view self.new.shelf) asked.entry.moment }
-        ensures most { self.new.most ≡ self.old.most }
+        requires in_time { IsMoment (T.view self.old.shelf) asked.moment }
+        requires named { self.old.key ≡ asked.key.now }
+        ensures ok { IfOk result (λ reply. Does T.view asked.entry.moment
+            (meta_stored asked.entry.moment self.old.key
+            (tokens asked.entry.flags.now) item (stock_at T.view asked.entry.moment self.old))
+            self.old self.new (said_from (length output.old.items) output.new.items reply)) }
+        ensures err { OnErr result (Keeps T.view asked.entry.moment self.old self.new) }
+        ensures begun { take (length output.old.items) output.new.items ≡ output.old.items }
         ensures capacity { vec_capacity output.old ≤ vec_capacity output.new }
     {
-        if !has_flag(b'q', asked.flags) {
-            let told = Told::new(asked.key, &item, self.next_unique(), asked.moment);
-            told.say_stored(output, asked.flags)?;
-        }
+        say_stored(asked, &item, self.next_unique(), output)?;
         self.put(item, asked.moment)?;
         Ok(Reply::Written)
     }
 }
 
 /// Tells a live item, and returns what it becomes, if it changes.
+#[tactic(auto, using(crate::proofs::Finding::told_found_of, crate::proofs::Finding::found_item_of))]
 fn say_found(
     asked: Asked<'_>,
     item: &StoredItem,
     output: &mut Vec<u8>,
 ) -> Result<Option<StoredItem>, AllocError>
     requires { asked.moment < 2 ^ 43 }
-    ensures { vec_capacity output.old ≤ vec_capacity output.new }
+    ensures told { OnOk result (output.new.items ≡ output.old.items ++ told_found
+        asked.entry.moment asked.entry.key.now (tokens asked.entry.flags.now) item.now) }
+    ensures becomes { IfOk result (λ changed. MatchOption changed
+        (found_item asked.entry.moment (tokens asked.entry.flags.now) item.now ≡ item.now)
+        (λ c. c ≡ found_item asked.entry.moment (tokens asked.entry.flags.now) item.now)) }
+    ensures begun { take (length output.old.items) output.new.items ≡ output.old.items }
+    ensures capacity { vec_capacity output.old ≤ vec_capacity output.new }
 {
-    let deadline = retimed(asked, item.deadline);
-    let wins = !item.leased && (item.stale || is_late(asked, deadline));
+    let deadline = retimed(asked, item);
+    let wins = wins(asked, item, deadline);
     let lease = Lease {
         held: item.leased,
         stale: item.stale,
@@ -367,7 +478,7 @@ fn say_found(
     let mut told = Told::new(asked.key, item, item.unique, asked.moment);
     told.deadline = deadline;
     told.say_item(output, asked.flags, &lease)?;
-    if !wins && !has_flag(b'T', asked.flags) {
+    if !wins && deadline == item.deadline {
         return Ok(None);
     }
     let mut changed = item.with_deadline(deadline)?;
@@ -375,16 +486,64 @@ fn say_found(
     Ok(Some(changed))
 }
 
+/// Tells a number that gets this unique, unless the request is quiet.
+fn say_counted(
+    asked: Asked<'_>,
+    item: &StoredItem,
+    unique: u64,
+    output: &mut Vec<u8>,
+) -> Result<(), AllocError>
+    ensures ok { OnOk result (output.new.items ≡ output.old.items
+        ++ unless_quiet (tokens asked.entry.flags.now) (item_text asked.entry.moment
+        asked.entry.key.now (record item.now { unique = unique }) (tokens asked.entry.flags.now) [])) }
+    ensures begun { take (length output.old.items) output.new.items ≡ output.old.items }
+    ensures capacity { vec_capacity output.old ≤ vec_capacity output.new }
+{
+    if has_flag(b'q', asked.flags) {
+        return Ok(());
+    }
+    let told = Told::new(asked.key, item, unique, asked.moment);
+    told.say_item(output, asked.flags, &NO_LEASE)
+}
+
+/// Tells that an item that gets this unique is stored, unless the request is quiet.
+fn say_stored(
+    asked: Asked<'_>,
+    item: &StoredItem,
+    unique: u64,
+    output: &mut Vec<u8>,
+) -> Result<(), AllocError>
+    ensures ok { OnOk result (output.new.items ≡ output.old.items
+        ++ unless_quiet (tokens asked.entry.flags.now) (code_with asked.entry.moment (codes "HD")
+        asked.entry.key.now (record item.now { unique = unique }) (tokens asked.entry.flags.now))) }
+    ensures begun { take (length output.old.items) output.new.items ≡ output.old.items }
+    ensures capacity { vec_capacity output.old ≤ vec_capacity output.new }
+{
+    if has_flag(b'q', asked.flags) {
+        return Ok(());
+    }
+    let told = Told::new(asked.key, item, unique, asked.moment);
+    told.say_stored(output, asked.flags)
+}
+
 /// Tells that nothing is done, by a code.
 fn refuse(code: &[u8], asked: Asked<'_>, output: &mut Vec<u8>) -> Result<Reply, AllocError>
-    ensures { vec_capacity output.old ≤ vec_capacity output.new }
+    ensures ok { IfOk result (λ reply. (reply ≡ Reply.Written) × (output.new.items
+        ≡ output.old.items ++ code_alone code.now asked.entry.key.now
+        (tokens asked.entry.flags.now))) }
+    ensures begun { take (length output.old.items) output.new.items ≡ output.old.items }
+    ensures capacity { vec_capacity output.old ≤ vec_capacity output.new }
 {
     say_alone(output, code, asked.key, asked.flags)?;
     Ok(Reply::Written)
 }
 
 /// What is wrong with the flags of a `ms`, if anything is.
-fn set_fault(flags: &[u8]) -> Option<ProtocolError> {
+fn set_fault(flags: &[u8]) -> Option<ProtocolError>
+    ensures { result ≡ option_or
+        (flags_fault (codes "kqOstcfIM") (codes "CF") (codes "T") (tokens flags.now))
+        (mode_fault (tokens flags.now)) }
+{
     match SET.fault(flags) {
         Some(error) => Some(error),
         None => mode_fault(flags),
@@ -392,36 +551,56 @@ fn set_fault(flags: &[u8]) -> Option<ProtocolError> {
 }
 
 /// Whether `C` names another unique than the item's.
-fn is_other(flags: &[u8], item: &StoredItem) -> bool {
+fn is_other(flags: &[u8], item: &StoredItem) -> bool
+    ensures { result ≡ is_other (tokens flags.now) item.now }
+{
     match number_of(b'C', flags) {
         Some(unique) => unique != item.unique,
         None => false,
     }
 }
 
-/// The deadline that `T` gives, or the old one.
-fn retimed(asked: Asked<'_>, deadline: Option<u64>) -> Option<u64>
+/// The deadline that `T` gives an item, or its own.
+fn retimed(asked: Asked<'_>, item: &StoredItem) -> Option<u64>
     requires { asked.moment < 2 ^ 43 }
+    ensures { record item.now { deadline = result }
+        ≡ retimed_by asked.entry.moment (codes "T") (tokens asked.entry.flags.now) item.now }
 {
     match exptime_of(b'T', asked.flags) {
         Some(exptime) => deadline_of(asked.moment, exptime),
-        None => deadline,
+        None => item.deadline,
     }
 }
 
+/// Whether a client wins the lease of an item that has this deadline.
+fn wins(asked: Asked<'_>, item: &StoredItem, deadline: Option<u64>) -> bool
+    ensures { result ≡ (not item.now.leased && (item.now.stale
+        || late_by asked.entry.moment (tokens asked.entry.flags.now) deadline)) }
+{
+    !item.leased && (item.stale || is_late(asked, deadline))
+}
+
 /// Whether fewer seconds are left than `R` says.
-fn is_late(asked: Asked<'_>, deadline: Option<u64>) -> bool {
-    match (deadline, number_of(b'R', asked.flags)) {
-        (Some(deadline), Some(seconds)) => deadline.saturating_sub(asked.moment) / 1000 < seconds,
-        _ => false,
+fn is_late(asked: Asked<'_>, deadline: Option<u64>) -> bool
+    ensures { result ≡ late_by asked.entry.moment (tokens asked.entry.flags.now) deadline }
+{
+    match deadline {
+        Some(deadline) => match number_of(b'R', asked.flags) {
+            Some(seconds) => deadline.saturating_sub(asked.moment) / 1000 < seconds,
+            None => false,
+        },
+        None => false,
     }
 }
 
 /// The item that a `md` leaves stale.
 fn stale_item(asked: Asked<'_>, item: &StoredItem) -> Result<StoredItem, AllocError>
     requires { asked.moment < 2 ^ 43 }
+    ensures { IfOk result (λ made. made ≡ record
+        (retimed_by asked.entry.moment (codes "T") (tokens asked.entry.flags.now) item.now)
+        { stale = true; leased = false }) }
 {
-    let mut changed = item.with_deadline(retimed(asked, item.deadline))?;
+    let mut changed = item.with_deadline(retimed(asked, item))?;
     changed.stale = true;
     changed.leased = false;
     Ok(changed)
@@ -430,6 +609,8 @@ fn stale_item(asked: Asked<'_>, item: &StoredItem) -> Result<StoredItem, AllocEr
 /// The item of a block: its flags by `F`, its expiry by `T`.
 fn block_item(alloc: Global, asked: Asked<'_>, block: &[u8]) -> Result<StoredItem, AllocError>
     requires { asked.moment < 2 ^ 43 }
+    ensures { IfOk result (λ made. made
+        ≡ meta_item asked.entry.moment (tokens asked.entry.flags.now) block.now) }
 {
     let bytes = Vec::from_slice(alloc, block)?;
     let exptime = exptime_of(b'T', asked.flags).unwrap_or(Exptime::Never);
@@ -447,6 +628,9 @@ fn moded_item(
     old: Option<&StoredItem>,
 ) -> Result<Option<StoredItem>, AllocError>
     requires { asked.moment < 2 ^ 43 }
+    ensures { IfOk result (λ item. item ≡ moded most mode
+        (meta_item asked.entry.moment (tokens asked.entry.flags.now) block.now)
+        (option_map (λ i. i.now) old.entry)) }
 {
     match old {
         None => match mode {

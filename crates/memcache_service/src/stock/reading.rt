@@ -31,9 +31,9 @@ impl<T: Shelf> Stock<T> {
         output: &mut Vec<u8>,
     ) -> Result<Reply, AllocError>
         requires { IsMoment (T.view self.old.shelf) moment }
-        ensures told { OnOk result (output.new.items ≡ output.old.items
-            ++ tells uniques (tokens keys.now) (stock_at T.view moment self.old).items) }
-        ensures written { IfOk result (λ reply. reply ≡ Reply.Written) }
+        ensures told { IfOk result (λ reply. (reply ≡ Reply.Written)
+            × (output.new.items ≡ output.old.items
+            ++ tells uniques (tokens keys.now) (stock_at T.view moment self.old).items)) }
         ensures begun { take (length output.old.items) output.new.items ≡ output.old.items }
         ensures capacity { vec_capacity output.old ≤ vec_capacity output.new }
         ensures keeps { Keeps T.view moment self.old self.new }
@@ -82,9 +82,9 @@ impl<T: Shelf> Stock<T> {
         output: &mut Vec<u8>,
     ) -> Result<Reply, AllocError>
         requires { IsMoment (T.view self.old.shelf) moment }
-        ensures told { OnOk result (output.new.items ≡ output.old.items
-            ++ tells uniques (tokens keys.now) (stock_at T.view moment self.old).items) }
-        ensures written { IfOk result (λ reply. reply ≡ Reply.Written) }
+        ensures told { IfOk result (λ reply. (reply ≡ Reply.Written)
+            × (output.new.items ≡ output.old.items
+            ++ tells uniques (tokens keys.now) (stock_at T.view moment self.old).items)) }
         ensures begun { take (length output.old.items) output.new.items ≡ output.old.items }
         ensures capacity { vec_capacity output.old ≤ vec_capacity output.new }
         ensures ok { OnOk result (Touches T.view moment (deadline_of moment exptime)

@@ -1,5 +1,5 @@
 //! The storage commands.
-ghost use Rattle.std.specs.Prelude.{◌≡◌, ◌↔◌, ◌≤◌, ◌+◌, ◌++◌, [], length, nat_lt, IsTrue, IfOk, OnOk, OnErr, Some, None, if◌then◌else◌};
+ghost use Rattle.std.specs.Prelude.{◌≡◌, ◌↔◌, ◌<◌, ◌≤◌, ◌+◌, ◌^◌, ◌++◌, [], length, nat_lt, IsTrue, IfOk, OnOk, OnErr, Some, None, if◌then◌else◌};
 ghost use Rattle.memcache_model.specs.Answers.{passes_over, store_over};
 ghost use Rattle.memcache_model.specs.Outcomes.{new_item, stores};
 ghost use Rattle.memcache_model.specs.Items.{deadline_of};
@@ -102,6 +102,7 @@ impl<T: Shelf> Stock<T> {
             (stores [] self.old.key (block_item block.entry) (stock_at T.view moment self.old)).stock
             self.old self.new) }
         ensures err { OnErr result (Keeps T.view moment self.old self.new) }
+        ensures same { OnErr result (self.new.shelf ≡ self.old.shelf) }
     {
         let item = block.item(self.alloc)?;
         self.put(item, moment)?;
@@ -111,10 +112,12 @@ impl<T: Shelf> Stock<T> {
     /// Gives the key an item, with the next unique.
     pub fn put(&mut self, item: StoredItem, moment: u64) -> Result<(), AllocError>
         requires { IsMoment (T.view self.old.shelf) moment }
+        ensures numbered { OnOk result (self.old.uniques + 1 < 2 ^ 64) }
         ensures ok { OnOk result (Leaves T.view moment
             (stores [] self.old.key item (stock_at T.view moment self.old)).stock self.old
             self.new) }
         ensures err { OnErr result (Keeps T.view moment self.old self.new) }
+        ensures same { OnErr result (self.new.shelf ≡ self.old.shelf) }
     {
         let Some(unique) = self.uniques.checked_add(1) else {
             return Err(AllocError);

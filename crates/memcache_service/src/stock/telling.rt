@@ -1,5 +1,9 @@
 //! What meta commands tell.
-ghost use Rattle.std.specs.Prelude.{◌≤◌, vec_capacity};
+ghost use Rattle.std.specs.Prelude.{◌≡◌, ◌≤◌, ◌++◌, [], false, OnOk, codes, decimal, length, map, take, vec_capacity, if◌then◌else◌};
+ghost use Rattle.std.specs.List.{concat};
+ghost use Rattle.memcache_model.specs.Bytes.{tokens};
+ghost use Rattle.memcache_model.specs.Meta.{code_alone, code_with, item_text, lease_text, left_text, told_alone, told_by};
+ghost use Rattle.memcache_service.specs.Told.{told_item};
 
 use super::flags::{has_flag, letter_of};
 use crate::item::StoredItem;
@@ -28,7 +32,12 @@ pub struct Told<'a> {
 
 impl<'a> Told<'a> {
     /// What is told of an item that has this unique.
-    pub fn new(key: &'a [u8], item: &'a StoredItem, unique: u64, moment: u64) -> Told<'a> {
+    pub fn new(key: &'a [u8], item: &'a StoredItem, unique: u64, moment: u64) -> Told<'a>
+        ensures item { told_item result
+            ≡ record item.now { unique = unique; stale = false; leased = false } }
+        ensures key { result.key.now ≡ key.now }
+        ensures moment { result.moment ≡ moment }
+    {
         Told {
             key,
             bytes: item.bytes.as_slice(),
@@ -46,19 +55,25 @@ impl<'a> Told<'a> {
         flags: &[u8],
         lease: &Lease,
     ) -> Result<(), AllocError>
-        ensures { vec_capacity output.old ≤ vec_capacity output.new }
+        ensures ok { OnOk result (output.new.items ≡ output.old.items
+            ++ item_text self.now.moment self.now.key.now (told_item self.now) (tokens flags.now)
+            (lease_text lease.now.held lease.now.stale lease.now.wins)) }
+        ensures begun { take (length output.old.items) output.new.items ≡ output.old.items }
+        ensures capacity { vec_capacity output.old ≤ vec_capacity output.new }
     {
         let shows = has_flag(b'v', flags);
         self.say_begin(output, shows)?;
         self.say_words(output, flags)?;
         lease.say(output)?;
-        say(output, b"\r\n")?;
         self.say_bytes(output, shows)
     }
 
     /// Writes how the reply of `mg` and `ma` begins.
     fn say_begin(&self, output: &mut Vec<u8>, shows: bool) -> Result<(), AllocError>
-        ensures { vec_capacity output.old ≤ vec_capacity output.new }
+        ensures ok { OnOk result (output.new.items ≡ output.old.items
+            ++ (if shows then codes "VA " ++ decimal (length self.now.bytes.now) else codes "HD")) }
+        ensures begun { take (length output.old.items) output.new.items ≡ output.old.items }
+        ensures capacity { vec_capacity output.old ≤ vec_capacity output.new }
     {
         if shows {
             say(output, b"VA ")?;
@@ -70,7 +85,10 @@ impl<'a> Told<'a> {
 
     /// Writes the bytes, if they are shown.
     fn say_bytes(&self, output: &mut Vec<u8>, shows: bool) -> Result<(), AllocError>
-        ensures { vec_capacity output.old ≤ vec_capacity output.new }
+        ensures ok { OnOk result (output.new.items ≡ output.old.items
+            ++ (if shows then self.now.bytes.now ++ codes "\r\n" else [])) }
+        ensures begun { take (length output.old.items) output.new.items ≡ output.old.items }
+        ensures capacity { vec_capacity output.old ≤ vec_capacity output.new }
     {
         if shows {
             say(output, self.bytes)?;
@@ -82,7 +100,11 @@ impl<'a> Told<'a> {
 
     /// Writes that the item is stored.
     pub fn say_stored(&self, output: &mut Vec<u8>, flags: &[u8]) -> Result<(), AllocError>
-        ensures { vec_capacity output.old ≤ vec_capacity output.new }
+        ensures ok { OnOk result (output.new.items ≡ output.old.items
+            ++ code_with self.now.moment (codes "HD") self.now.key.now (told_item self.now)
+            (tokens flags.now)) }
+        ensures begun { take (length output.old.items) output.new.items ≡ output.old.items }
+        ensures capacity { vec_capacity output.old ≤ vec_capacity output.new }
     {
         say(output, b"HD")?;
         self.say_words(output, flags)?;
@@ -91,7 +113,11 @@ impl<'a> Told<'a> {
 
     /// Writes what the words of a request have told.
     fn say_words(&self, output: &mut Vec<u8>, flags: &[u8]) -> Result<(), AllocError>
-        ensures { vec_capacity output.old ≤ vec_capacity output.new }
+        ensures ok { OnOk result (output.new.items ≡ output.old.items
+            ++ concat (map (told_by self.now.moment self.now.key.now (told_item self.now))
+            (tokens flags.now))) }
+        ensures begun { take (length output.old.items) output.new.items ≡ output.old.items }
+        ensures capacity { vec_capacity output.old ≤ vec_capacity output.new }
     {
         let mut rest = flags;
         while let Some((word, more)) = next_token(rest) {
@@ -103,7 +129,10 @@ impl<'a> Told<'a> {
 
     /// Writes what a word has told.
     fn say_word(&self, output: &mut Vec<u8>, word: &[u8]) -> Result<(), AllocError>
-        ensures { vec_capacity output.old ≤ vec_capacity output.new }
+        ensures ok { OnOk result (output.new.items ≡ output.old.items
+            ++ told_by self.now.moment self.now.key.now (told_item self.now) word.now) }
+        ensures begun { take (length output.old.items) output.new.items ≡ output.old.items }
+        ensures capacity { vec_capacity output.old ≤ vec_capacity output.new }
     {
         match letter_of(word) {
             b'k' => say_with(output, b" k", self.key),
@@ -118,7 +147,10 @@ impl<'a> Told<'a> {
 
     /// Writes the seconds that are left.
     fn say_left(&self, output: &mut Vec<u8>) -> Result<(), AllocError>
-        ensures { vec_capacity output.old ≤ vec_capacity output.new }
+        ensures ok { OnOk result (output.new.items ≡ output.old.items
+            ++ (codes " t" ++ left_text self.now.moment self.now.deadline)) }
+        ensures begun { take (length output.old.items) output.new.items ≡ output.old.items }
+        ensures capacity { vec_capacity output.old ≤ vec_capacity output.new }
     {
         match self.deadline {
             Some(deadline) => {
@@ -130,26 +162,36 @@ impl<'a> Told<'a> {
 }
 
 impl Lease {
-    /// Writes who holds it.
+    /// Writes who holds it, and the end of the line.
     fn say(&self, output: &mut Vec<u8>) -> Result<(), AllocError>
-        ensures { vec_capacity output.old ≤ vec_capacity output.new }
+        ensures ok { OnOk result (output.new.items ≡ output.old.items
+            ++ (lease_text self.now.held self.now.stale self.now.wins ++ codes "\r\n")) }
+        ensures begun { take (length output.old.items) output.new.items ≡ output.old.items }
+        ensures capacity { vec_capacity output.old ≤ vec_capacity output.new }
     {
         say_if(output, self.held, b" Z")?;
         say_if(output, self.stale, b" X")?;
-        say_if(output, self.wins, b" W")
+        say_if(output, self.wins, b" W")?;
+        say(output, b"\r\n")
     }
 }
 
 /// Writes a text, if it is to be written.
 fn say_if(output: &mut Vec<u8>, is_said: bool, text: &[u8]) -> Result<(), AllocError>
-    ensures { vec_capacity output.old ≤ vec_capacity output.new }
+    ensures ok { OnOk result (output.new.items ≡ output.old.items
+        ++ (if is_said then text.now else [])) }
+    ensures begun { take (length output.old.items) output.new.items ≡ output.old.items }
+    ensures capacity { vec_capacity output.old ≤ vec_capacity output.new }
 {
     if is_said { say(output, text) } else { Ok(()) }
 }
 
 /// Writes a text and another.
 fn say_with(output: &mut Vec<u8>, first: &[u8], second: &[u8]) -> Result<(), AllocError>
-    ensures { vec_capacity output.old ≤ vec_capacity output.new }
+    ensures ok { OnOk result (output.new.items ≡ output.old.items
+        ++ (first.now ++ second.now)) }
+    ensures begun { take (length output.old.items) output.new.items ≡ output.old.items }
+    ensures capacity { vec_capacity output.old ≤ vec_capacity output.new }
 {
     say(output, first)?;
     say(output, second)
@@ -157,7 +199,10 @@ fn say_with(output: &mut Vec<u8>, first: &[u8], second: &[u8]) -> Result<(), All
 
 /// Writes a text and a number.
 fn say_count(output: &mut Vec<u8>, text: &[u8], number: u64) -> Result<(), AllocError>
-    ensures { vec_capacity output.old ≤ vec_capacity output.new }
+    ensures ok { OnOk result (output.new.items ≡ output.old.items
+        ++ (text.now ++ decimal number)) }
+    ensures begun { take (length output.old.items) output.new.items ≡ output.old.items }
+    ensures capacity { vec_capacity output.old ≤ vec_capacity output.new }
 {
     say(output, text)?;
     say_number(output, number)
@@ -170,7 +215,10 @@ pub fn say_alone(
     key: &[u8],
     flags: &[u8],
 ) -> Result<(), AllocError>
-    ensures { vec_capacity output.old ≤ vec_capacity output.new }
+    ensures ok { OnOk result (output.new.items ≡ output.old.items
+        ++ code_alone code.now key.now (tokens flags.now)) }
+    ensures begun { take (length output.old.items) output.new.items ≡ output.old.items }
+    ensures capacity { vec_capacity output.old ≤ vec_capacity output.new }
 {
     say(output, code)?;
     say_alone_words(output, key, flags)?;
@@ -179,7 +227,10 @@ pub fn say_alone(
 
 /// Writes what the words of a request have told of no item.
 fn say_alone_words(output: &mut Vec<u8>, key: &[u8], flags: &[u8]) -> Result<(), AllocError>
-    ensures { vec_capacity output.old ≤ vec_capacity output.new }
+    ensures ok { OnOk result (output.new.items ≡ output.old.items
+        ++ concat (map (told_alone key.now) (tokens flags.now))) }
+    ensures begun { take (length output.old.items) output.new.items ≡ output.old.items }
+    ensures capacity { vec_capacity output.old ≤ vec_capacity output.new }
 {
     let mut rest = flags;
     while let Some((word, more)) = next_token(rest) {
@@ -191,7 +242,10 @@ fn say_alone_words(output: &mut Vec<u8>, key: &[u8], flags: &[u8]) -> Result<(),
 
 /// Writes what a word has told of no item.
 fn say_alone_word(output: &mut Vec<u8>, key: &[u8], word: &[u8]) -> Result<(), AllocError>
-    ensures { vec_capacity output.old ≤ vec_capacity output.new }
+    ensures ok { OnOk result (output.new.items ≡ output.old.items
+        ++ told_alone key.now word.now) }
+    ensures begun { take (length output.old.items) output.new.items ≡ output.old.items }
+    ensures capacity { vec_capacity output.old ≤ vec_capacity output.new }
 {
     match letter_of(word) {
         b'k' => say_with(output, b" k", key),

@@ -1,4 +1,4 @@
-use Rattle.std.proofs.Common.{ℕ, ◌≤◌, ◌-◌, ◌∙◌, take, drop, refl, arith}
+use Rattle.std.proofs.Common.{◌≤◌, ◌∙◌, drop, refl, arith}
 use Rattle.memcache_lines.specs.Said.{asks}
 use Rattle.memcache_model.proofs.Fronts.{takes}
 use Rattle.memcache_model.specs.Commands.{Request}

@@ -1,7 +1,7 @@
 use Rattle.std.proofs.Common.{rules, ◌≡◌, []}
 use Rattle.memcache_model.specs.Bytes.{tokens}
 use Rattle.memcache_service.specs.Lines.{reply_text}
-use Rattle.memcache_service.proofs.Touching.{Reached, reached_all, reached_more}
+use Rattle.memcache_service.proofs.Touching.{reached_all, reached_more}
 use Rattle.memcache_service.proofs.stock.Stock.touch_all.Goals as goal
 
 pub loop-key-preserved : goal.loop-key-preserved

@@ -1,0 +1,11 @@
+use Rattle.std.proofs.Common.{arith, ◌<◌, ◌≤◌, ap, refl}
+use Rattle.std.specs.Cmp.Lexicographic.{nat_list_eq_equiv}
+use Rattle.memcache_cache.proofs.Calls.{clear_becomes, item_ways}
+use Rattle.memcache_cache.proofs.lent.LentShelfShelf.clear.Goals as goal
+
+pub returns-in-Some-clause-clears : goal.returns-in-Some-clause-clears
+returns-in-Some-clause-clears g c =
+    let old = c.args.self.now.cache in
+    let early : old.moment ≤ 9223372036854775807 = omega arith in
+    let rises : old.step < c.in-Some.step = omega (arith, c.in-Some.ensures, ap (λ at. at.step) c.at-now.ensures) in
+    clear_becomes (item_ways g.S.BuildHasher g.S.Hasher.Hasher) nat_list_eq_equiv (λ a b. refl) c.args.moment c.at-now.result.now c.in-Some.step old c.invalidate_all.new.self c.keeps.ensures (ap (λ at. at.now) c.at-now.ensures) early rises c.invalidate_all.ensures

@@ -1,0 +1,18 @@
+use Rattle.std.proofs.Common.{ap, refl, sym, ◌∙◌}
+use Rattle.std.specs.Cmp.Lexicographic.{nat_list_eq_equiv}
+use Rattle.memcache_cache.proofs.Calls.{item_ways, notice_shows, one_less}
+use Rattle.memcache_cache.specs.Showing.{shelved_by}
+use Rattle.memcache_cache.proofs.lent.LentShelfShelf.count_removals.Goals as goal
+
+pub loop-notice-preserved : goal.loop-notice-preserved
+loop-notice-preserved g c =
+    let ways = item_ways g.S.BuildHasher g.S.Hasher.Hasher in
+    ap (λ cache. shelved_by ways cache) c.next_notice.ensures.taken ∙ notice_shows ways nat_list_eq_equiv (λ a b. refl) c.loop-notice.self.cache ∙ c.loop-notice.invariant
+
+pub loop-notice-smaller : goal.loop-notice-smaller
+loop-notice-smaller g c = rw c.in-Some.ensures.taken (one_less c.loop-notice.self.cache.parts c.in-Some.notice (sym c.in-Some.ensures.notice))
+
+pub returns : goal.returns
+returns g c =
+    let ways = item_ways g.S.BuildHasher g.S.Hasher.Hasher in
+    ap (λ cache. shelved_by ways cache) c.next_notice.ensures.taken ∙ notice_shows ways nat_list_eq_equiv (λ a b. refl) c.loop-notice.self.cache ∙ c.loop-notice.invariant

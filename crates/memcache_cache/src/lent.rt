@@ -1,0 +1,198 @@
+//! Items in a lent cache.
+ghost use Rattle.std.specs.Prelude.{◌≡◌, ◌*◌, ◌<◌, ◌≤◌, ◌^◌, Ok, IfOk, is_some, option_map};
+ghost use Rattle.memcache_cache.specs.Showing.{shelved_by};
+ghost use Rattle.memcache_model.specs.Items.{unexpired};
+ghost use Rattle.memcache_service.specs.Shelves.{IsMoment, ShowsNothing};
+ghost use Rattle.front_parts.specs.Places.Calls.{hash_in};
+
+use crate::rules::ItemRules;
+use audit_model::Key;
+use memcache_service::{Counters, Shelf, StoredItem, Tally};
+use moka::{
+    At, EvictionPolicy, HasWays, Instant, LentState, Notice, RemovalCause, Settings, Shared, Single,
+};
+use std::alloc::{AllocError, Global};
+use std::hash::BuildHasher;
+
+/// A lent cache of one part.
+type Cache<S> = LentState<Key, StoredItem, S, ItemRules, Single>;
+
+/// Items by key in a lent cache of one part. Moments are in milliseconds of Unix time, below 2^43.
+///
+/// An item is live until its own deadline. The cache's expiry, which has a coarser grain, takes it out.
+#[derive(Drop)]
+pub struct LentShelf<S: BuildHasher + Drop> {
+    alloc: Global,
+    cache: Cache<S>,
+}
+
+impl<S: BuildHasher + Drop> LentShelf<S> {
+    /// An empty one of at most this many bytes, at a moment. If untrusted clients choose the keys, use a hasher that they cannot predict.
+    pub fn new(
+        alloc: Global,
+        capacity: u64,
+        policy: EvictionPolicy,
+        hasher: S,
+        moment: u64,
+    ) -> Result<LentShelf<S>, AllocError>
+        requires { moment < 2 ^ 43 }
+        ensures in_time { IfOk result (λ made. IsMoment
+            (shelved_by ⟦<ItemRules as HasWays<Key, StoredItem, S>>⟧.ways made.cache) moment) }
+        ensures empty { IfOk result (λ made. ShowsNothing
+            (shelved_by ⟦<ItemRules as HasWays<Key, StoredItem, S>>⟧.ways made.cache)) }
+    {
+        let settings = Settings {
+            capacity: Some(capacity),
+            live: None,
+            idle: None,
+            policy,
+            tells: true,
+            takes_predicates: false,
+            made: nanos(moment),
+        };
+        let cache = LentState::with_parts(alloc, None, 0, 0, settings, hasher, ItemRules)?;
+        Ok(LentShelf { alloc, cache })
+    }
+
+    /// A moment, at the step of the last call.
+    fn at(&self, moment: u64) -> At
+        requires { moment < 2 ^ 43 }
+        ensures { result ≡ record { now = moment * 1000000; step = self.now.cache.step } }
+    {
+        let At { step, .. } = self.cache.last_call();
+        At {
+            now: instant(moment),
+            step,
+        }
+    }
+
+    /// The key that an item is kept under: the one that is held already, or a copy.
+    fn kept_key(&self, key: &Key, hash: u64) -> Result<Shared<Key>, AllocError>
+        requires { hash ≡ hash_in ⟦<ItemRules as HasWays<Key, StoredItem, S>>⟧.ways
+            self.now.cache key.now }
+        ensures { IfOk result (λ kept. kept ≡ key.now) }
+    {
+        match self.cache.held_key(key, hash)? {
+            Some(held) => Ok(held),
+            None => Shared::new(self.alloc, key.clone()?),
+        }
+    }
+}
+
+/// A moment in nanoseconds.
+fn nanos(moment: u64) -> u64
+    requires { moment < 2 ^ 43 }
+    ensures { result ≡ moment * 1000000 }
+{
+    moment * 1_000_000
+}
+
+/// A moment, as the cache has it.
+fn instant(moment: u64) -> Instant
+    requires { moment < 2 ^ 43 }
+    ensures { result ≡ moment * 1000000 }
+{
+    Instant::from_nanos(nanos(moment))
+}
+
+/// The item, unless it has expired.
+fn unexpired(found: Option<&StoredItem>, moment: u64) -> Option<&StoredItem>
+    ensures { option_map (λ item. item.now) result
+        ≡ unexpired moment (option_map (λ item. item.now) found.entry) }
+{
+    match found {
+        Some(item) => {
+            if item.has_expired(moment) {
+                None
+            } else {
+                Some(item)
+            }
+        }
+        None => None,
+    }
+}
+
+/// Counts an item that left by itself.
+fn count_removal(counters: &mut Counters, notice: &Notice<Shared<Key>, StoredItem>) {
+    match notice.cause {
+        RemovalCause::Size => counters.up(Tally::Evictions),
+        RemovalCause::Expired => counters.up(Tally::Expired),
+        _ => {}
+    }
+}
+
+impl<S: BuildHasher + Drop> Shelf for LentShelf<S> {
+    ghost use Rattle.memcache_cache.specs.Showing.{shelved_by};
+
+    ghost view = { λ s. shelved_by ⟦<ItemRules as HasWays<Key, StoredItem, S>>⟧.ways s.cache };
+
+    fn pass(&self) {}
+
+    fn peek(&self, key: &Key, moment: u64) -> Option<&StoredItem> {
+        unexpired(self.cache.peek(key, instant(moment)), moment)
+    }
+
+    fn note_use(&mut self, key: &Key, moment: u64) -> bool {
+        self.cache.keeps();
+        let mut nothing = ();
+        let looked = self.cache.look_up(
+            key,
+            instant(moment),
+            &mut nothing,
+            |found: Option<&StoredItem>, _: &mut ()| -> Result<bool, AllocError>
+                ensures { result ≡ Ok (is_some
+                    (unexpired moment (option_map (λ item. item.now) found.entry))) }
+            { Ok(unexpired(found, moment).is_some()) },
+        );
+        match looked {
+            Ok(is_found) => is_found,
+            Err(AllocError) => false,
+        }
+    }
+
+    fn put(&mut self, key: &Key, item: StoredItem, moment: u64) -> Result<(), AllocError> {
+        self.cache.keeps();
+        let hash = self.cache.hash(key);
+        let at = self.at(moment);
+        let kept = self.kept_key(key, hash)?;
+        match self.cache.insert_with_hash(kept, hash, item, at) {
+            Ok(()) => Ok(()),
+            Err(_) => Err(AllocError),
+        }
+    }
+
+    fn remove(&mut self, key: &Key, moment: u64) -> Result<(), AllocError> {
+        self.cache.keeps();
+        let at = self.at(moment);
+        match self.cache.invalidate(key, at) {
+            Ok(()) => Ok(()),
+            Err(_) => Err(AllocError),
+        }
+    }
+
+    fn clear(&mut self, moment: u64) -> Result<(), AllocError> {
+        self.cache.keeps();
+        let At { now, step } = self.at(moment);
+        match step.checked_add(1) {
+            Some(step) => {
+                self.cache.invalidate_all(At { now, step });
+                Ok(())
+            }
+            None => Err(AllocError),
+        }
+    }
+
+    fn count_removals(&mut self, counters: &mut Counters) {
+        while let Some(notice) = self.cache.next_notice() {
+            count_removal(counters, &notice);
+        }
+    }
+
+    fn item_count(&self) -> u64 {
+        self.cache.entry_count()
+    }
+
+    fn weight(&self) -> u64 {
+        self.cache.weighted_size()
+    }
+}

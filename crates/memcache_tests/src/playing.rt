@@ -1,0 +1,140 @@
+//! Plays requests to a service, cut in pieces.
+ghost use Rattle.std.specs.Prelude.{◌<◌};
+
+use memcache_cache::LentShelf;
+use memcache_service::{Conn, Service, Setup};
+use moka::{EvictionPolicy, StdHasher};
+use std::alloc::{AllocError, Global};
+
+/// At so many milliseconds, a connection sends this and is told that.
+pub type Row = (u64, &'static [u8], &'static [u8]);
+
+/// A service over a lent cache.
+type Served = Service<LentShelf<StdHasher>>;
+
+/// The moment of the first row: Unix time in milliseconds.
+const START: u64 = 1_700_000_000_000;
+
+/// 64 MiB, and data blocks of at most 1 MiB.
+pub const LARGE: Setup = Setup {
+    capacity: 1 << 26,
+    item_size: 1 << 20,
+};
+
+/// A service at the moment of the first row.
+fn service(alloc: Global, setup: Setup) -> Result<Served, AllocError> {
+    let shelf = LentShelf::new(
+        alloc,
+        setup.capacity,
+        EvictionPolicy::Lru,
+        StdHasher::new(),
+        START,
+    )?;
+    Service::new(alloc, shelf, setup, START)
+}
+
+/// Feeds a connection bytes in pieces of at most this many, and moves what it is told behind what is there.
+fn feed(
+    service: &mut Served,
+    conn: Conn,
+    bytes: &[u8],
+    cut: usize,
+    moment: u64,
+    told: &mut Vec<u8>,
+) -> Result<(), AllocError>
+    requires { 0 < cut }
+{
+    let mut output = Vec::new(*told.allocator());
+    for piece in bytes.chunks(cut) {
+        service.feed(conn, piece, moment);
+        service.take_output(conn, &mut output);
+        told.extend_from_slice(output.as_slice())?;
+    }
+    Ok(())
+}
+
+/// Whether each row is told what it says, in pieces of at most this many bytes.
+fn play(alloc: Global, setup: Setup, rows: &[Row], cut: usize) -> Result<bool, AllocError>
+    requires { 0 < cut }
+{
+    let mut service = service(alloc, setup)?;
+    let conn = service.open()?;
+    for (after, sent, wanted) in rows {
+        let mut told = Vec::new(alloc);
+        let moment = START.saturating_add(*after);
+        feed(&mut service, conn, *sent, cut, moment, &mut told)?;
+        if told.as_slice() != *wanted {
+            return Ok(false);
+        }
+    }
+    Ok(true)
+}
+
+/// Whether each row is told what it says, however its bytes are cut.
+fn play_cut(alloc: Global, setup: Setup, rows: &[Row]) -> bool {
+    matches!(play(alloc, setup, rows, 1 << 20), Ok(true))
+        && matches!(play(alloc, setup, rows, 1), Ok(true))
+        && matches!(play(alloc, setup, rows, 7), Ok(true))
+}
+
+/// The same. If a request was refused for memory, all is played once more.
+pub fn all_right(alloc: Global, setup: Setup, rows: &[Row]) -> bool {
+    play_cut(alloc, setup, rows) || play_cut(alloc, setup, rows)
+}
+
+/// What a new connection is told.
+fn ask(service: &mut Served, sent: &[u8], told: &mut Vec<u8>) -> Result<(), AllocError> {
+    let conn = service.open()?;
+    service.feed(conn, sent, START);
+    service.take_output(conn, told);
+    service.close(conn);
+    Ok(())
+}
+
+/// Whether a connection was told that there is no memory, or ended without a reply.
+fn is_refused(told: &[u8]) -> bool {
+    told.is_empty() || told.starts_with(b"SERVER_ERROR out of memory")
+}
+
+/// Tells values, flags and uniques of the keys of the rows.
+const PROBE: &[u8] = b"gets a b c n\r\n";
+
+/// Asks a row's request, and once more if it is refused for memory, which has to have changed nothing.
+fn ask_again(
+    alloc: Global,
+    service: &mut Served,
+    sent: &[u8],
+    wanted: &[u8],
+) -> Result<bool, AllocError> {
+    let mut before = Vec::new(alloc);
+    let mut told = Vec::new(alloc);
+    let mut after = Vec::new(alloc);
+    ask(service, PROBE, &mut before)?;
+    ask(service, sent, &mut told)?;
+    if told.as_slice() == wanted {
+        return Ok(true);
+    }
+    ask(service, PROBE, &mut after)?;
+    let is_as_before = is_refused(told.as_slice()) && before.as_slice() == after.as_slice();
+    ask(service, sent, &mut told)?;
+    Ok(is_as_before && told.as_slice() == wanted)
+}
+
+/// Whether each row, of one request, is told what it says, if not the first time, then the second.
+fn play_again(alloc: Global, rows: &[Row]) -> Result<bool, AllocError> {
+    let mut service = service(alloc, LARGE)?;
+    for (_, sent, wanted) in rows {
+        if !ask_again(alloc, &mut service, *sent, *wanted)? {
+            return Ok(false);
+        }
+    }
+    Ok(true)
+}
+
+/// The same. If the test itself had no memory, all is played once more.
+pub fn all_right_again(alloc: Global, rows: &[Row]) -> bool {
+    match play_again(alloc, rows) {
+        Ok(is_right) => is_right,
+        Err(AllocError) => matches!(play_again(alloc, rows), Ok(true)),
+    }
+}
