@@ -146,12 +146,13 @@ def bodies_of(crate):
     return sorted(found.items())
 
 
-# What a check says where several functions have the name that it was given.
+# What a check says where no function has the name that it was given, and where several have.
+NONE = re.compile(r"has no function `(\S+)`: help: write the name")
 SEVERAL = re.compile(r"several functions are named `\w+`: help: write one of (.*)")
 FUNCTION = re.compile(r"^( *)(?:pub(?:\([a-z]+\))? )?(?:const )?fn (\w+)", re.M)
 
 
-IMPL = re.compile(r"^impl\b(.*)$", re.M)
+IMPL = re.compile(r"^impl\b([^{;]*)\{", re.M)
 
 
 class Function:
@@ -168,28 +169,48 @@ class Function:
         word = (owner or trait).strip().split(" ")[0].rpartition("::")[2]
         self.owner, self.is_of_trait = word, bool(owner)
 
-    def module(self):
-        """The words of its module's path."""
-        words = re.sub(r"^src/|(/?\b(mod|lib|main))?\.rt$", "", self.path).split("/")
+    @staticmethod
+    def module_of(path):
+        """The words of the path of a file's module."""
+        words = re.sub(r"^src/|(/?\b(mod|lib|main))?\.rt$", "", path).split("/")
         return [it for it in words if it]
+
+    def module(self):
+        return self.module_of(self.path)
 
     def named(self, crate):
         """Its name with its path, if that can be told."""
-        return None if self.is_of_trait else "::".join([crate, *self.module(), *([self.owner] if self.owner else []), self.name])
+        if self.is_of_trait:
+            return None
+        words = home_of(crate, self.owner) if self.owner else None
+        return "::".join([crate, *(words or self.module()), *([self.owner] if self.owner else []), self.name])
 
     def is_called(self, path):
-        """Whether a path that a check tells is its."""
+        """Whether a path that a check tells is its. A method has the path of its type, which may stand in another module."""
         words = path.split("::")
-        between = words[1 + len(self.module()):-1]
-        if words[1:1 + len(self.module())] != self.module() or words[-1] != self.name or len(between) != bool(self.owner):
-            return False
+        if not self.owner:
+            return words[1:-1] == self.module() and words[-1] == self.name
         # (the name of the trait may stand behind that of the type, and what the type is of)
-        return not self.owner or between[0] == self.owner or between[0].startswith(self.owner if self.is_of_trait else f"{self.owner}+")
+        is_its = len(words) > 2 and (words[-2] == self.owner or words[-2].startswith(self.owner if self.is_of_trait else f"{self.owner}+"))
+        return is_its and words[-1] == self.name and (not self.is_of_trait or words[1:-2] == self.module())
 
     def is_answered_in(self, path):
         """Whether a file of proofs, by its path in the crate's folder, is of it."""
         words = path.split("/")[1:-1]
         return self.is_called("::".join(["", *words]))
+
+
+@functools.cache
+def home_of(crate, owner):
+    """The module of a crate's type, as words, if it is found."""
+    top = os.path.join(ROOT, "crates", crate)
+    for folder, _, files in os.walk(os.path.join(top, "src")):
+        for name in files:
+            path = os.path.join(folder, name)
+            with open(path, encoding="utf-8") as file:
+                if re.search(rf"^(?:pub(?:\([a-z]+\))? )?(?:struct|enum) {owner}\b", file.read(), re.M):
+                    return Function.module_of(os.path.relpath(path, top))
+    return None
 
 
 def function_at(text, at, path=""):
@@ -460,10 +481,16 @@ class Lane:
         """Checks these functions, or the whole crate if there are none."""
         names = {}
         for it in functions:
-            names[it.name if self.count(crate, it.name) == 1 else it.named(crate) or it.name] = it
-        for _ in range(1 + len(names)):
+            is_alone = self.count(crate, it.name) == 1 and not self.is_module(crate, it.name)
+            names[it.name if is_alone else it.named(crate) or it.name] = it
+        for _ in range(1 + 2 * len(names)):
             status, said = self.check(folder, names)
-            several = SEVERAL.search(said)
+            none, several = NONE.search(said), SEVERAL.search(said)
+            if none and none[1] in names and none[1] != names[none[1]].name:
+                # (the path of a method tells what its type is of, where that is not any)
+                it = names.pop(none[1])
+                names[it.name] = it
+                continue
             if not several:
                 break
             # (of functions that share a name, those that were meant)
@@ -475,6 +502,11 @@ class Lane:
             if short in names or not names:
                 break
         return status, said
+
+    @functools.cache
+    def is_module(self, crate, name):
+        """Whether a crate has a module of that name, which `--only` would take for it."""
+        return any(f"{name}.rt" in files for _, _, files in os.walk(os.path.join(ROOT, "crates", crate, "src")))
 
     @functools.cache
     def count(self, crate, name):
