@@ -28,10 +28,10 @@ same "docs/PROTOCOL.md's example and crates/cached/stdout" \
     "$(sed -n 's/^< //p' <<<"$example")" "$(cat crates/cached/stdout)"
 
 # The sample configuration is the one in README: what follows its `cat`, up to the next command.
-same "README.md's configuration and docs/cached.toml" \
-    "$(awk '/^\$ cat docs\/cached.toml$/ { open = 1; next } open && /^\$ / { exit } open' README.md)" "$(cat docs/cached.toml)"
+same "README.md's configuration and docs/bivrangd.toml" \
+    "$(awk '/^\$ cat docs\/bivrangd.toml$/ { open = 1; next } open && /^\$ / { exit } open' README.md)" "$(cat docs/bivrangd.toml)"
 
-# So is that of its man page, but for the comment.
+# That of cached's man page is its sample, but for the comment.
 same "docs/man/cached.toml.5's example and docs/cached.toml" \
     "$(sed -n '/^\.Bd -literal/,/^\.Ed/p' docs/man/cached.toml.5 | grep -v '^\.')" "$(grep -v '^#' docs/cached.toml)"
 
@@ -50,7 +50,7 @@ same "docs/cached.toml and crates/cached_check/data/cached.toml" "$(cat docs/cac
 # The pictures and the tables of figures are those that the file of figures gives.
 PYTHONDONTWRITEBYTECODE=1 python3 benches/plots.py check
 
-# The pages of promises, the table of crates and the examples in Rattle are those that the sources give.
+# The pages of promises and of crates, and the examples in Rattle, are those that the sources give.
 python3 -B tools/proved.py --check
 
 # The documents' links lead somewhere.

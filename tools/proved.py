@@ -1,10 +1,9 @@
 #!/usr/bin/env python3
-"""Makes docs/promises from the sources: for each public call, the names of its clauses and what the sources say of it; and the wrong bodies.
-Makes the table of crates in docs/ARCHITECTURE.md from the first lines of the crates' roots, the examples of docs/FROM_MOKA.md from the
-regions between `// example: NAME` and `// end` of the modules that crates/sync_tests proves and runs, and that of README.md from
-crates/cache_uses/src/uses/example.rt.
+"""Makes docs/promises from the sources: for each public call, the names of its clauses and what the sources say of it; the wrong bodies;
+and the crates, by the first lines of their roots. Makes the examples of docs/FROM_MOKA.md from the regions between `// example: NAME` and
+`// end` of the modules that crates/sync_tests proves and runs, and that of README.md from crates/cache_uses/src/uses/example.rt.
 
-    python3 tools/proved.py            writes the pages, one a house, that of the wrong bodies, an index, the table, the examples
+    python3 tools/proved.py            writes the pages, one a house, those of the wrong bodies and the crates, an index, the examples
     python3 tools/proved.py --check    says whether they are up to date; tools/compare_examples.sh runs it
 
 A call's sentence is the first of its doc comment, and a clause's the comment right above it. Neither is proved: the clause is. A call
@@ -18,14 +17,13 @@ import api_docs
 
 ROOT = pathlib.Path(__file__).resolve().parent.parent
 FOLDER = ROOT / "docs/promises"
-ARCHITECTURE = ROOT / "docs/ARCHITECTURE.md"
 FROM_MOKA = ROOT / "docs/FROM_MOKA.md"
 README = ROOT / "README.md"
 USES = "crates/sync_tests/src/uses"
 # A clause without a name is shown by what it states, up to so many letters.
 SHORT = 100
 # Crates with calls that somebody calls from outside: the public ones, and those behind the programs.
-CRATES = [*api_docs.PUBLIC, "cached_server", "cached_config", "transcript_program", "audit_text", "memcache_lines", "memcache_model"]
+CRATES = [*api_docs.PUBLIC, "cached_server", "cached_config", "transcript_program", "audit_text", "memcache_lines", "memcache_model", "memcache_service", "memcache_cache"]
 MADE = "<!-- Made by tools/proved.py from the sources. Change the doc comments and the comments at clauses there. -->"
 
 
@@ -150,19 +148,24 @@ def page(house, about, items):
     return spaced(parts) + "\n", count
 
 
-def with_crates(text):
-    """ARCHITECTURE.md with its table of crates, house by house."""
-    rows = ["| Crate | Contents |", "|-|-|"]
-    for house, about, crates in houses():
+def crates_page():
+    """The page of the crates, house by house."""
+    rows = []
+    for house, about, names in houses():
         rows.append(f"| **{house}** | *{about}* |")
-        for crate in crates:
+        for crate in names:
             source = next(file for file in (ROOT / f"crates/{crate}/src/{name}.rt" for name in ("lib", "main")) if file.exists())
             docs = [line[3:].removeprefix(" ") for line in source.read_text(encoding="utf-8").split("\n") if line.startswith("//!")]
-            name = f"[`{crate}`](../crates/{crate}/README.md)" if (source.parent.parent / "README.md").exists() else f"`{crate}`"
+            name = f"[`{crate}`](../../crates/{crate}/README.md)" if (source.parent.parent / "README.md").exists() else f"`{crate}`"
             told = " ".join(docs[: docs.index("")] if "" in docs else docs)
             rows.append(f"| {name}{', public' if crate in api_docs.PUBLIC else ''} | {told} |")
-    table = "\n".join(["<!-- crates: made by tools/proved.py -->", "", *rows, "", "<!-- end of crates -->"])
-    return re.sub(r"(?s)<!-- crates: .*?<!-- end of crates -->", lambda _: table, text)
+    return spaced([
+        ["# Crates"],
+        ["<!-- Made by tools/proved.py from the first lines of the crates' roots. -->"],
+        ["By house, lowest first. [crates.txt](../../crates.txt) lists what each depends on; [ARCHITECTURE.md](../ARCHITECTURE.md) says how the"
+         " houses stand on each other."],
+        ["| Crate | Contents |", "|-|-|", *rows],
+    ]) + "\n"
 
 
 def with_examples(text):
@@ -210,6 +213,7 @@ def pages():
             made[FOLDER / f"{house}.md"], count = page(house, about, own)
             rows.append(f"| [{house}]({house}.md) | {about} | {' | '.join(map(str, count))} |")
     made[FOLDER / "wrong_bodies.md"] = wrong_bodies()
+    made[FOLDER / "crates.md"] = crates_page()
     made[FOLDER / "README.md"] = spaced([
         ["# Promises, call by call"],
         [MADE],
@@ -221,7 +225,6 @@ def pages():
          " clauses beside the trait's. [PROVED.md](../PROVED.md) says what clauses mean together, and what is open."],
         ["| House | About | Calls with clauses | Clauses | Calls without |", "|-|-|-|-|-|", *rows],
     ]) + "\n"
-    made[ARCHITECTURE] = with_crates(ARCHITECTURE.read_text(encoding="utf-8"))
     made[FROM_MOKA] = with_examples(FROM_MOKA.read_text(encoding="utf-8"))
     made[README] = with_service(README.read_text(encoding="utf-8"))
     return made
@@ -229,7 +232,7 @@ def pages():
 
 def main():
     made = pages()
-    there = {file: file.read_text(encoding="utf-8") for file in [*FOLDER.glob("*.md"), ARCHITECTURE, FROM_MOKA, README]}
+    there = {file: file.read_text(encoding="utf-8") for file in [*FOLDER.glob("*.md"), FROM_MOKA, README]}
     old = sorted(str(file.relative_to(ROOT)) for file in {*made, *there} if made.get(file) != there.get(file))
     if sys.argv[1:] == ["--check"]:
         if old:
