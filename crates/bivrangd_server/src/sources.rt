@@ -3,7 +3,7 @@
 use crate::heralds::Departures;
 use crate::holdings::{Holding, Place};
 use cache_loop::Counts;
-use cached_config::{HostedNamespace, Hosting};
+use cached_config::{HostedNamespace, Hosting, Protocol};
 use cached_server::Machine;
 use std::alloc::{AllocError, Global};
 use std::sync::atomic::{AtomicU64, Ordering};
@@ -15,6 +15,7 @@ pub struct Source {
     pub name: String,
     pub port: u16,
     place: Place,
+    protocol: Protocol,
     /// How many connections are open.
     pub open: Arc<AtomicU64>,
     pub departures: Arc<Mutex<Departures>>,
@@ -43,6 +44,7 @@ impl Source {
             name: String::from_utf8_lossy(alloc, space.name.as_slice())?,
             port: space.port,
             place: Place::of(alloc, space, hosting)?,
+            protocol: hosting.protocol,
             open: Arc::new(alloc, AtomicU64::new(0))?,
             departures: Arc::new(alloc, Mutex::new(Departures::new()))?,
             counts: Vec::new(alloc),
@@ -70,7 +72,7 @@ impl Source {
     /// Reads the numbers.
     pub fn read<R: Machine>(&self, rt: &R) -> Reading {
         Reading {
-            holding: self.place.ask(rt),
+            holding: self.place.ask(rt, self.protocol),
             open: self.open.load(Ordering::SeqCst),
             departures: *self.departures.lock(rt),
             counts: self.counts(rt),

@@ -35,7 +35,7 @@ pub enum Next {
 
 /// What a connection's socket reported and was not read.
 #[derive(Clone, Copy, Debug, PartialEq, Eq, Drop)]
-enum Report {
+pub enum Report {
     /// Nothing.
     Nothing,
     /// There may be bytes to read.
@@ -46,7 +46,7 @@ enum Report {
 
 impl Report {
     /// This, and what was reported after it.
-    fn with(self, is_readable: bool, is_ending: bool) -> Report
+    pub fn with(self, is_readable: bool, is_ending: bool) -> Report
         ensures { result ≡ report_with self is_readable is_ending }
     {
         if is_ending {
@@ -63,7 +63,7 @@ impl Report {
 
     /// What is left of this after a read that took some bytes. One that did not fill its room has taken all that there was; but the end that
     /// came with the last bytes is not reported again.
-    fn after_read(self, is_full: bool) -> Report
+    pub fn after_read(self, is_full: bool) -> Report
         ensures { result ≡ report_after self is_full }
     {
         match self {
@@ -304,9 +304,7 @@ impl Link {
             (HasToldLate K.reads tools.new.clock)) }
         ensures report { self.new.report ≡ self.old.report }
     {
-        let mut bytes = mem::replace(&mut tools.bytes, Vec::new(tools.alloc));
-        bytes.clear();
-        let mut gathered = Watched::new(bytes);
+        let mut gathered = Watched::new(tools.room.take_bytes());
         let Link { session, .. } = self;
         let Tools { clock, loader, .. } = tools;
         let attended = attend(host, place, session, &mut gathered, clock, loader);
@@ -355,7 +353,7 @@ impl Link {
         if self.report == Report::Nothing {
             return Ok(());
         }
-        let Ok(inbox) = tools.take_inbox() else {
+        let Ok(inbox) = tools.room.take_inbox() else {
             return Err(RunError::OutOfMemory);
         };
         self.session.inbox = inbox;
@@ -399,10 +397,12 @@ impl Link {
     {
         let alloc = tools.alloc;
         let bytes = mem::replace(&mut self.backlog, Backlog::new(Vec::new(alloc)));
-        tools.give_bytes(bytes.into_bytes());
+        tools.room.give_bytes(bytes.into_bytes());
         if self.session.inbox.is_empty() && !self.session.inbox.is_filled_by(1) {
             if let Ok(small) = Inbox::small(alloc) {
-                tools.give_inbox(mem::replace(&mut self.session.inbox, small));
+                tools
+                    .room
+                    .give_inbox(mem::replace(&mut self.session.inbox, small));
             }
         }
     }

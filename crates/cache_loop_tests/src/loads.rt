@@ -6,8 +6,7 @@ ghost use Rattle.cache_shared.specs.Events.{StandsAfter};
 use crate::clients::free_port;
 use crate::scenes::{Players, Step};
 use audit_model::{Config, EvictionPolicy, Instant, Outcome, Seq, Weight};
-use cache_link::Tools;
-use cache_loop::{Counting, Counts, Crew, Doorway, LOADED, Rules, STOP, serve_all};
+use cache_loop::{Counts, Crew, Doorway, LOADED, LineSteward, Rules, STOP, serve_all};
 use cache_run::{Clock, Loader};
 use cache_serve::{Sitting, Untold};
 use cache_shared::{Seating, Shareable, SharedService};
@@ -115,7 +114,6 @@ fn make_workshop<R: Machine>(
             doorway: Doorway::Tcp(TcpListener::from_std(listener.try_clone().ok()?)),
             crew: Crew {
                 alloc,
-                namespace: 0,
                 rules: RULES,
                 open: Arc::try_clone(&open).ok()?,
                 wakers: Arc::try_clone(&wakers).ok()?,
@@ -145,23 +143,11 @@ fn serve<L: Seating, C: Shareable, R: Machine>(
         crew,
         loader,
     } = gear;
-    let counting = Counting {
-        inner: loader,
-        asked: 0,
-    };
-    let mut tools = Tools::new(alloc, Still, counting);
     let mut untold = Untold;
     let mut seat = shared.seat(rt).ok()?;
     let mut sitting = Sitting::new(rt, alloc, shared, &mut untold, false).ok()?;
-    let ended = serve_all(
-        rt,
-        &mut sitting,
-        &mut seat,
-        &mut tools,
-        &mut poll,
-        doorway,
-        &crew,
-    );
+    let mut steward = LineSteward::new(alloc, 0, &mut sitting, &mut seat, Still, loader);
+    let ended = serve_all(rt, &mut steward, &mut poll, doorway, &crew);
     Some(ended.is_ok())
 }
 

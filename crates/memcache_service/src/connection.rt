@@ -3,6 +3,7 @@ ghost use Rattle.std.specs.Prelude.{◌≡◌, ◌≤◌, ◌-◌, ◌++◌, tru
 ghost use Rattle.memcache_lines.specs.Said.{asks};
 ghost use Rattle.memcache_service.specs.Serving.{AreServed, IsServed};
 ghost use Rattle.memcache_service.specs.Shelves.{IsMoment};
+ghost use Rattle.memcache_service.specs.Talking.{AreTaken, IsUnused};
 
 use crate::shelf::Shelf;
 use crate::stock::Stock;
@@ -30,7 +31,9 @@ pub struct Connection {
 
 impl Connection {
     /// A new one, which takes no memory.
-    pub fn new(alloc: Global) -> Connection {
+    pub fn new(alloc: Global) -> Connection
+        ensures { IsUnused result }
+    {
         Connection {
             alloc,
             input: Vec::new(alloc),
@@ -58,7 +61,10 @@ impl Connection {
     }
 
     /// Moves the replies out, in exchange for an empty buffer.
-    pub fn take_output(&mut self, into: &mut Vec<u8>) {
+    pub fn take_output(&mut self, into: &mut Vec<u8>)
+        ensures taken { into.new.items ≡ self.old.output.items }
+        ensures left { AreTaken self.old self.new }
+    {
         into.clear();
         mem::swap(&mut self.output, into);
     }
@@ -214,6 +220,9 @@ fn drop_front(bytes: &mut Vec<u8>, count: usize)
     requires { count ≤ vec_len bytes.old }
     ensures { bytes.new.items ≡ drop count bytes.old.items }
 {
+    if count == 0 {
+        return;
+    }
     let len = bytes.len();
     bytes.as_mut_slice().copy_within(count..len, 0);
     bytes.truncate(len - count);

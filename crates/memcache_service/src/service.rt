@@ -1,11 +1,12 @@
 //! A service: a stock of items, and the connections that use it.
 ghost use Rattle.slab.specs.Slab.{get};
-ghost use Rattle.std.specs.Prelude.{◌≡◌, ◌≤◌, ◌<◌, ◌^◌, None, false, true};
+ghost use Rattle.std.specs.Prelude.{◌≡◌, ◌≢◌, ◌≤◌, ◌<◌, ◌^◌, [], None, IfOk, false, true};
 ghost use Rattle.memcache_service.specs.Serving.{HasFed};
+ghost use Rattle.memcache_service.specs.Talking.{HasOpened, HasTaken};
 ghost use Rattle.memcache_service.specs.Shelves.{IsMoment};
 
 use crate::connection::Connection;
-use crate::counters::Tally;
+use crate::counters::{Counters, Tally};
 use crate::shelf::Shelf;
 use crate::stock::{Setup, Stock};
 use slab::Slab;
@@ -41,7 +42,10 @@ impl<T: Shelf> Service<T> {
     }
 
     /// Opens a connection, and returns its number, which no other open connection has. Returns an error if there is no memory for it.
-    pub fn open(&mut self) -> Result<Conn, AllocError> {
+    pub fn open(&mut self) -> Result<Conn, AllocError>
+        ensures opens { IfOk result (λ conn.
+            HasOpened conn self.old.connections self.new.connections) }
+    {
         let alloc = self.stock.alloc;
         let conn = self.connections.insert(Connection::new(alloc))?;
         self.stock.connections = self.connections.len() as u64;
@@ -87,8 +91,20 @@ impl<T: Shelf> Service<T> {
         }
     }
 
+    /// What was counted.
+    pub fn counters(&self) -> &Counters {
+        &self.stock.counters
+    }
+
     /// Moves the replies of a connection out, in exchange for what `into` has as memory.
-    pub fn take_output(&mut self, conn: Conn, into: &mut Vec<u8>) {
+    pub fn take_output(&mut self, conn: Conn, into: &mut Vec<u8>)
+        ensures takes { get self.old.connections conn ≢ None → HasTaken conn into.new.items
+            self.old.connections self.new.connections self.old.stock self.new.stock }
+        ensures absent { get self.old.connections conn ≡ None
+            → (into.new.items ≡ []) × (self.new.connections ≡ self.old.connections)
+            × (self.new.stock ≡ self.old.stock) }
+        ensures same { self.new.moment ≡ self.old.moment }
+    {
         into.clear();
         if let Some(connection) = self.connections.get_mut(conn) {
             connection.take_output(into);

@@ -1,0 +1,38 @@
+-- What is done with one connection of a service, beside feeding it.
+use Rattle.slab.specs.Slab.{Slab, Updates, get}
+use Rattle.std.specs.Prelude.{◌≡◌, ℕ, List, [], Option, Some, None, false}
+use Rattle.memcache_service.specs.declared.connection.Connection.{Connection}
+use Rattle.memcache_service.specs.declared.counters.Counters.{Counters}
+use Rattle.memcache_service.specs.declared.stock.Stock.{Stock}
+
+-- nothing was fed to it, and it was told nothing
+pub record IsUnused (connection : Connection) : Type 0 where
+  pub input : connection.input.items ≡ []
+  pub skip : connection.skip ≡ 0
+  pub output : connection.output.items ≡ []
+  pub opened : connection.is_closed ≡ false
+
+-- its replies were taken, and nothing else of it changed
+pub record AreTaken (before after : Connection) : Type 0 where
+  pub output : after.output.items ≡ []
+  pub same : after ≡ record before { output = after.output }
+
+-- a connection was opened, and the others stay as they were
+pub record HasOpened (conn : ℕ) (old new : Slab Connection) : Type 0 where
+  pub connection : Connection
+  pub unused : IsUnused connection
+  pub absent : get old conn ≡ None
+  pub opened : Updates old new conn (Some connection)
+
+-- the replies of a connection were taken: all that it was told and that was not taken before. The other connections stay as they were, and
+-- so does the stock, in which they were counted
+pub record HasTaken {T : Type 0} (conn : ℕ) (told : List ℕ) (old new : Slab Connection)
+    (stock then : Stock T) : Type 0 where
+  pub before : Connection
+  pub after : Connection
+  pub counted : Counters
+  pub was : get old conn ≡ Some before
+  pub whole : told ≡ before.output.items
+  pub left : AreTaken before after
+  pub is : Updates old new conn (Some after)
+  pub same : then ≡ record stock { counters = counted }
