@@ -1,5 +1,6 @@
 //! The connections of a namespace, of which little stays once they have closed.
 mod connections;
 mod residents;
+mod words;
 
 pub use connections::Connections;
