@@ -29,7 +29,7 @@ BOUND = 4.0
 
 def spent_by(cache, threads, calls):
     """The processor seconds, seconds and sleeps of one run."""
-    words = [str(PROGRAM), "sync", cache, str(threads), str(SIZE), str(DRAWN), str(calls)]
+    words = [str(PROGRAM), "sync", cache, "mixed", str(threads), str(SIZE), str(DRAWN), str(calls)]
     progress.show(" ".join(words[1:4]))
     began = time.perf_counter()
     process = subprocess.Popen(words, stdout=subprocess.DEVNULL)

@@ -36,10 +36,42 @@ impl Which {
     }
 }
 
+/// How it is asked.
+#[derive(Clone, Copy, Debug, PartialEq, Eq)]
+enum Asking {
+    /// By nine look-ups of ten calls, and a write.
+    Mixed,
+    /// By look-ups.
+    Gets,
+    /// By look-ups that make what is not there.
+    Fetches,
+}
+
+impl Asking {
+    fn from_word(word: &str) -> Option<Asking> {
+        match word {
+            "mixed" => Some(Asking::Mixed),
+            "gets" => Some(Asking::Gets),
+            "fetches" => Some(Asking::Fetches),
+            _ => None,
+        }
+    }
+
+    /// Makes one call. Whether a value was found.
+    fn call<C: SharedNumbers, H: Wait>(self, rt: &H, cache: &C, turn: usize, key: u64) -> bool {
+        match self {
+            Asking::Mixed => mix(rt, cache, turn, key),
+            Asking::Gets => cache.get(rt, key),
+            Asking::Fetches => cache.fetch(rt, key),
+        }
+    }
+}
+
 /// What is to be done, with which cache.
 #[derive(Clone, Copy)]
 pub struct Order {
     which: Which,
+    asking: Asking,
     threads: usize,
     size: NonZeroUsize,
     drawn: usize,
@@ -47,14 +79,16 @@ pub struct Order {
 }
 
 impl Order {
-    /// The order of its words behind the first: the cache, how many threads, how many keys there
-    /// are and values are held, how many keys are drawn, and how many calls each thread makes.
+    /// The order of its words behind the first: the cache, how it is asked, how many threads, how many
+    /// keys there are and values are held, how many keys are drawn, and how many calls each thread
+    /// makes.
     pub fn from_words<A: Allocator>(words: &[String<A>]) -> Option<Order> {
-        let [cache, threads, size, drawn, calls] = words else {
+        let [cache, asking, threads, size, drawn, calls] = words else {
             return None;
         };
         Some(Order {
             which: Which::from_word(cache.as_str())?,
+            asking: Asking::from_word(asking.as_str())?,
             threads: number_of(threads.as_str())?,
             size: NonZeroUsize::new(number_of(size.as_str())?)?,
             drawn: number_of(drawn.as_str())?,
@@ -76,10 +110,14 @@ impl SharedNumbers for Nothing {
         let _rt = rt;
         key == value
     }
+
+    fn fetch<H: Wait>(&self, rt: &H, key: u64) -> bool {
+        self.get(rt, key)
+    }
 }
 
 /// One call: nine of ten are look-ups. Whether a value was found.
-fn call<C: SharedNumbers, H: Wait>(rt: &H, cache: &C, turn: usize, key: u64) -> bool {
+fn mix<C: SharedNumbers, H: Wait>(rt: &H, cache: &C, turn: usize, key: u64) -> bool {
     if turn % 10 == 9 {
         let _is_written = cache.put(rt, key, key);
         false
@@ -92,6 +130,7 @@ fn call<C: SharedNumbers, H: Wait>(rt: &H, cache: &C, turn: usize, key: u64) -> 
 fn make_calls<C: SharedNumbers, H: Wait>(
     rt: &H,
     cache: &C,
+    asking: Asking,
     keys: &[u64],
     from: usize,
     calls: usize,
@@ -101,7 +140,7 @@ fn make_calls<C: SharedNumbers, H: Wait>(
     let mut found = 0u64;
     for turn in 0..calls {
         let key = keys[turn.wrapping_add(from) % keys.len()];
-        found = found.wrapping_add(call(rt, cache, turn, key) as u64);
+        found = found.wrapping_add(asking.call(rt, cache, turn, key) as u64);
     }
     found
 }
@@ -124,6 +163,7 @@ fn work_with<C: SharedNumbers + Sync, R: Threads + Wait + Sync>(
     requires { 0 < length keys.now }
 {
     let calls = order.calls;
+    let asking = order.asking;
     fill(rt, cache, order.size.get());
     let found = thread::map_indices(
         rt,
@@ -131,7 +171,7 @@ fn work_with<C: SharedNumbers + Sync, R: Threads + Wait + Sync>(
         order.threads,
         &|number: usize| -> u64
             requires { 0 < length keys.now }
-        { make_calls(rt, cache, keys, number.wrapping_mul(7919), calls) },
+        { make_calls(rt, cache, asking, keys, number.wrapping_mul(7919), calls) },
     );
     match found {
         Ok(found) => Some(found.iter().fold(0u64, |sum, one| sum.wrapping_add(*one))),
