@@ -12,7 +12,7 @@ use Rattle.engine_reference.specs.Times.{tick_of}
 use Rattle.engine_reference.proofs.SoundSteps.{steps-sound, counts_are_exact}
 use Rattle.engine_cells.specs.Stretches.{Stretch}
 use Rattle.engine_runs.specs.Stretches.{EndsRun}
-use Rattle.engine_runs.proofs.Constant.{Constant, constant_of, steps-constant}
+use Rattle.engine_reference.proofs.RestKept.{steady_of, steps-steady}
 
 -- what an answer says, where it is known which it is
 pub ok-then : {T E X : Type 0} (r : Result T E) → (is_err r ≡ false → X) → OnOk r X
@@ -46,17 +46,17 @@ module _ {K V P S R : Type 0} (answers : Answers K V P R) (now : ℕ) where
   -- the end of a run from where a stretch led, with what is said of the sketch's table, is a run
   pub run-later : (old mid new : State K V P S R) → Stretch answers now old mid → EndsRun answers now mid new → new.table_refused ≡ (lacks_table (all_applied old) && (new.sketch.words == 0)) → RunsToEnd answers now old new
   run-later old mid new h k table =
-      let same : constant_of mid ≡ constant_of old = steps-constant answers now old h.stages mid h.steps in
+      let same : steady_of mid ≡ steady_of old = steps-steady answers now old h.stages mid h.steps in
       record {
         runs = record { stages = h.stages ++ k.runs.stages; last = k.runs.last; steps = joined h.stages k.runs.stages old mid k.runs.last h.steps k.runs.steps; applied = k.runs.applied; refused = k.runs.refused; after = k.runs.after };
         done = k.done;
         swept = λ sent.
-            let swept = k.swept (ap (λ (c : Constant). c.unsent) same ∙ sent) in
+            let swept = k.swept (ap (λ c. c.0.unsent) same ∙ sent) in
             record {
               live = swept.live;
               clear = swept.clear;
               idle = swept.idle;
-              own = λ later. swept.own (ap (λ (c : Constant). nat_lt (tick_of c.settings c.ran) (tick_of c.settings now)) same ∙ later);
+              own = λ later. swept.own (ap (λ c. nat_lt (tick_of c.0.settings c.1) (tick_of c.0.settings now)) same ∙ later);
             };
         table = table;
       }

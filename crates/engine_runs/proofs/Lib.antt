@@ -4,7 +4,6 @@ pub mod Displaced
 pub mod Stretching
 pub mod Fronting
 pub mod SweepingStretching
-pub mod Constant
 pub mod Joining
 pub mod Covering
 pub mod Making
