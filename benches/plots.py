@@ -184,6 +184,21 @@ def draw_calls(kept, measured):
     return picture.made(f"one thread, keys by Zipf's law, key and value of 8 bytes; measured {measured}")
 
 
+def tall(panels, title, heading, series):
+    """A picture with room for so many panels below one another."""
+    picture = Picture(980, 100 + 262 * panels, title)
+    picture.text(24, 34, heading, 19, weight="bold")
+    picture.keys(24, 62, series)
+    return picture
+
+
+def below(picture, place, about, most, *unit):
+    """The panel at a place of a tall picture, with what it is about above it."""
+    top = 112 + 262 * place
+    picture.text(24, top - 18, about, 14, weight="bold")
+    return Panel(picture, 62, top, 894, 186, most, *unit)
+
+
 SHARED_NAMES = {"moka": "Cache", "shards": "ShardedCache", "caffeine": "Caffeine", "lru": "LruCache", "pieces": "LruCache in 16 pieces"}
 WORK_NAMES = {"mix": "nine look-ups and a write, all keys held", "load": "look-ups of twice as many keys as are held, and a write after each miss"}
 
@@ -196,13 +211,9 @@ def draw_threads(kept, measured):
         values = {shown: row.get(f"{name} millions") for name, shown in SHARED_NAMES.items()}
         panels.setdefault(f"{WORK_NAMES[work]}; {int(size):,} values", []).append((f"{count} thread{'s' * (count != '1')}", values))
     series = [shown for shown in SHARED_NAMES.values() if any(values[shown] is not None for rows in panels.values() for _, values in rows)]
-    picture = Picture(980, 100 + 262 * len(panels), "Throughput by threads")
-    picture.text(24, 34, "Million calls a second by threads", 19, weight="bold")
-    picture.keys(24, 62, series)
+    picture = tall(len(panels), "Throughput by threads", "Million calls a second by threads", series)
     for place, (about, rows) in enumerate(panels.items()):
-        top = 112 + 262 * place
-        picture.text(24, top - 18, about, 14, weight="bold")
-        panel = Panel(picture, 62, top, 894, 186, most_of([value for _, values in rows for value in values.values() if value]))
+        panel = below(picture, place, about, most_of([value for _, values in rows for value in values.values() if value]))
         panel.axis(5)
         panel.groups(rows, series, lambda value: f"{value:.1f}")
     return picture.made(f"keys by Zipf's law, key and value of 8 bytes; measured {measured}")
@@ -212,13 +223,9 @@ def draw_shards(kept, measured):
     """Hit ratios by number of shards, a panel a policy."""
     counts = sorted({name.split()[1] for row in kept.values() for name in row}, key=int)
     policies = {"tinylfu": "TinyLFU", "lru": "LRU"}
-    picture = Picture(980, 100 + 262 * len(policies), "Hit ratios by number of shards")
-    picture.text(24, 34, "Hit ratios by number of shards, 5,000 values", 19, weight="bold")
-    picture.keys(24, 62, counts)
+    picture = tall(len(policies), "Hit ratios by number of shards", "Hit ratios by number of shards, 5,000 values", counts)
     for place, (policy, shown) in enumerate(policies.items()):
-        top = 112 + 262 * place
-        picture.text(24, top - 18, shown, 14, weight="bold")
-        panel = Panel(picture, 62, top, 894, 186, 100, " %")
+        panel = below(picture, place, shown, 100, " %")
         panel.axis(4)
         panel.groups([(name, {count: row.get(f"{policy} {count}") for count in counts}) for name, row in kept.items()], counts, lambda value: f"{value:.0f}")
     return picture.made(f"200,000 requests a trace; measured {measured}")
