@@ -66,8 +66,8 @@ pub fn led_obeys()
     ensures { LedObeys }
 {}
 
-/// `first_break`, the first record whose front is not good, is the first that does not follow from the situation before it, or with
-/// which a key gets a second part.
+/// `first_break` is the first record that breaks a rule: up to it and with it the transcript is not faultless (`is_good`). It is the first
+/// record that does not follow from the situation before it, or with which a key gets a second part.
 pub fn breaks_agree()
     ensures { BreaksAgree }
 {}
@@ -82,8 +82,8 @@ pub fn good_is_faultless()
     ensures { GoodIsFaultless }
 {}
 
-/// `first_break` is none exactly if a transcript obeys and none of its events is refused, and otherwise ends the shortest front of which
-/// that is not so.
+/// `first_break` is none exactly if a transcript obeys and none of its events is refused. Otherwise it is the last record of the shortest
+/// front (prefix) of which that is not so.
 pub fn first_break_is_first()
     ensures { FirstBreakIsFirst }
 {}
@@ -127,8 +127,9 @@ pub fn belongs_step_by_step()
     ensures { BelongsStepByStep }
 {}
 
-/// Records that belong to inputs from situation to situation belong to one more input, with no record of it, or with one that is the
-/// input's event and follows; and two lists of inputs may be concatenated.
+/// How records that belong to a list of inputs are added to. If one more input comes, they still belong to the inputs without a record of
+/// it, or with one more record, whose event is the input and which follows from the last situation. Two lists of inputs, with records that
+/// lead from one situation to the next, may be concatenated.
 pub fn belongs_on()
     ensures { BelongsOn }
 {}

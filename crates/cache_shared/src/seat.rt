@@ -10,7 +10,8 @@ use std::alloc::{AllocError, Global};
 use std::marker::Brand;
 use std::sync::ledger::{Ledger, Share};
 
-/// The ledger of a shared service's seats: one part per seat.
+/// The ledger of a shared service's seats, in which each seat has one share, so that `SharedService::finish` can require
+/// all of them.
 pub trait Seating: Ledger {
     /// All its parts.
     ghost all: { ℕ };

@@ -28,7 +28,7 @@ impl LentReplies<'_> {
         done
     }
 
-    /// Returns a copy of the replies, with their line ends.
+    /// Returns a copy of the replies, with their line ends. Returns an error if there is no memory for it.
     pub fn to_vec(&self, alloc: Global) -> Result<Vec<u8>, AllocError>
         ensures { IfOk result (λ text. text.items ≡ lent_replies self.now) }
     {

@@ -62,7 +62,7 @@ fn list_at(entry: &Record, at: usize) -> &[Note]
     }
 }
 
-/// Returns a copy of a note.
+/// Returns a copy of a note. Returns an error if there is no memory for its key and value.
 pub fn copy_note(alloc: Global, note: &Note) -> Result<Note, AllocError>
     ensures { IfOk result (λ copy. copy ≡ note.now) }
 {

@@ -15,12 +15,12 @@ pub struct Listed {
 /// A namespace that is served.
 #[derive(Drop)]
 pub struct HostedNamespace {
-    /// Its name: 1 to 32 of `a` to `z`, `0` to `9`, `-` and `_`.
+    /// The namespace's name: 1 to 32 of `a` to `z`, `0` to `9`, `-` and `_`.
     pub name: Bytes,
-    /// Its port on 127.0.0.1, from 1 on.
+    /// The namespace's port on 127.0.0.1, 1 to 65535.
     pub port: u16,
     pub config: Config,
-    /// What its loads find; a key that is not listed is not found.
+    /// What loads in the namespace find; a key that is not listed is not found.
     pub loads: Vec<Listed>,
 }
 
@@ -54,7 +54,7 @@ pub enum Notices {
 /// A fault of a configuration file, or a warning.
 #[derive(Debug, Drop)]
 pub struct ConfigFault {
-    /// Its line, from 1 on.
+    /// The number of the line at fault, from 1 on.
     pub line: usize,
     /// What is wrong there, in words.
     pub what: String,
@@ -63,18 +63,18 @@ pub struct ConfigFault {
 /// What there is to say about a configuration file, in the order of its lines.
 #[derive(Debug, Drop)]
 pub struct ConfigReport {
-    /// Why it is not taken; nothing if it is.
+    /// Why the file is not accepted; empty if it is.
     pub faults: Vec<ConfigFault>,
-    /// What it may say, and probably should not.
+    /// What the file may say, and probably should not.
     pub warnings: Vec<ConfigFault>,
 }
 
-/// Why a file is not taken.
+/// Why a configuration file is not accepted.
 #[derive(Debug, Drop)]
 pub enum ConfigError {
-    /// It is no such file: the first of its faults, by line.
+    /// The file has faults: the first of them, by line.
     Bad(ConfigFault),
-    /// There was no memory.
+    /// There was not enough memory to read the file.
     OutOfMemory,
 }
 

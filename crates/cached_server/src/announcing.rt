@@ -31,7 +31,7 @@ pub struct Outlet {
 }
 
 impl Outlet {
-    /// Creates an outlet in which nothing waits.
+    /// Creates an outlet in which nothing waits. Returns an error if there is no memory for the lines that may wait.
     pub fn new(alloc: Global) -> Result<Arc<Outlet>, AllocError> {
         let outlet = Outlet {
             outbox: Mutex::new(Outbox::new(alloc)?),
@@ -139,7 +139,7 @@ impl<R: time::Clock + Wait + Copy + Send + 'static> Devices for Site<R> {
     }
 }
 
-/// The writer of what namespaces report, and where the number of lost notices is written.
+/// The writer of the lines that namespaces report (`lines`), and of the number of lost notices (`alarms`).
 #[derive(Drop)]
 pub struct Scribe<W: Write + Drop, E: Write + Drop> {
     lines: Lines<W>,
@@ -150,7 +150,8 @@ pub struct Scribe<W: Write + Drop, E: Write + Drop> {
 }
 
 impl<W: Write + Drop, E: Write + Drop> Scribe<W, E> {
-    /// One that writes lines, and on another writer how many notices were lost.
+    /// Creates a writer of reported lines to `lines`, and of the number of lost notices to `alarms`. Returns an error if there is no memory
+    /// for a mebibyte of lines.
     pub fn new(alloc: Global, lines: Lines<W>, alarms: E) -> Result<Scribe<W, E>, AllocError> {
         Ok(Scribe {
             lines,

@@ -23,17 +23,17 @@ pub enum Cause {
     File(Unread),
     /// The first fault of the file.
     Line(ConfigFault),
-    /// This port cannot be listened at.
+    /// The port that cannot be listened at, and what the system says.
     Port(u16, io::Error),
-    /// This cannot be had of the machine.
+    /// What cannot be had of the machine, such as its clock, and what the system says.
     Machine(&'static str, io::Error),
     /// What this line says, with its line end.
     Said(String),
 }
 
 impl Cause {
-    /// The line that says it, for the configuration file at a path; empty if there is nothing to say. `check` is the command that lists all
-    /// that is wrong with the file at the path behind it.
+    /// Returns the line that says the cause, with its line end, for the configuration file at `path`; empty if there is nothing to say.
+    /// `check` is the command that lists all faults of the file whose path follows it. Returns an error if there is no memory for the line.
     pub fn line(&self, alloc: Global, path: &str, check: &str) -> Result<String, AllocError> {
         match self {
             Cause::Unsaid => Ok(String::new(alloc)),

@@ -22,7 +22,7 @@ pub struct Lines<W: Write + Drop> {
 }
 
 impl<W: Write + Drop> Lines<W> {
-    /// The lines of a writer, with room for one.
+    /// Creates a writer of whole lines, with room for 16,384 bytes. Returns an error if there is no memory for them.
     pub fn new(alloc: Global, writer: W) -> Result<Lines<W>, AllocError>
         ensures { IfOk result (λ lines. (device lines.writer ≡ writer) × (lines.is_cut ≡ false)) }
     {
@@ -33,7 +33,7 @@ impl<W: Write + Drop> Lines<W> {
         })
     }
 
-    /// Writes a text of whole lines. This allocates nothing.
+    /// Writes a text of whole lines. This allocates nothing. Returns `Write` if the writer fails, and in each later call.
     pub fn send(&mut self, text: &[u8]) -> Result<(), RunError>
         ensures ok { OnOk result (Appends (W.contents (device self.old.writer))
             (W.contents (device self.new.writer)) text.now) }
@@ -44,7 +44,7 @@ impl<W: Write + Drop> Lines<W> {
         self.send_joined(&[text])
     }
 
-    /// Writes that a namespace of that name is served at a port, in one piece. This allocates nothing.
+    /// Writes the line `listening NAME 127.0.0.1:PORT` in one piece. This allocates nothing, and fails as `send` does.
     pub fn show(&mut self, name: &[u8], port: u16) -> Result<(), RunError>
         ensures ok { OnOk result (Appends (W.contents (device self.old.writer))
             (W.contents (device self.new.writer)) (listening_line name.now port)) }
@@ -57,7 +57,7 @@ impl<W: Write + Drop> Lines<W> {
         self.send_joined(&[b"listening ", name, b" 127.0.0.1:", port, b"\n"])
     }
 
-    /// Writes how many notices were lost, in one piece. This allocates nothing.
+    /// Writes the line `cached: N notices lost` in one piece. This allocates nothing, and fails as `send` does.
     pub fn show_lost(&mut self, lost: u64) -> Result<(), RunError>
         ensures ok { OnOk result (Appends (W.contents (device self.old.writer))
             (W.contents (device self.new.writer)) (lost_line lost)) }

@@ -61,7 +61,7 @@ fn read_all(stream: &mut TcpStream, replies: &mut Vec<u8>) {
     }
 }
 
-/// One that sends a text, and reads nothing.
+/// A client that sends a text, and reads nothing.
 pub fn send_only<R: Machine>(rt: &R, port: u16, text: &[u8]) -> Option<TcpStream> {
     match connect(rt, port) {
         Some(mut stream) => {
@@ -89,7 +89,7 @@ fn is_replied<R: Clock>(
     replies.as_slice() == wanted
 }
 
-/// One that sends a text, and another one later if there is one. Answers whether it reads these replies.
+/// A client that sends a text, and another one later if there is one. Answers whether it reads these replies.
 pub fn talks<R: Machine>(
     rt: &R,
     alloc: Global,
@@ -132,7 +132,7 @@ fn is_replied_in_turn(stream: &mut TcpStream, text: &[u8], replies: &mut Vec<u8>
     true
 }
 
-/// One that sends each line once it has read the reply to the one before. Answers whether it reads these replies.
+/// A client that sends each line once it has read the reply to the one before. Answers whether it reads these replies.
 pub fn talks_in_turn<R: Machine>(
     rt: &R,
     alloc: Global,

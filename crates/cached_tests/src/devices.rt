@@ -43,9 +43,9 @@ impl Read for Pieces<'_> {
 /// How much a writer takes.
 #[derive(Clone, Copy)]
 pub struct Limits {
-    /// So many bytes in all.
+    /// How many bytes in all.
     pub room: usize,
-    /// So many bytes a call.
+    /// How many bytes a call.
     pub most: usize,
     /// The call of `write` or `flush` at which it fails, or 0.
     pub fails_at: u64,

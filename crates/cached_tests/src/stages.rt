@@ -15,19 +15,19 @@ const AMPLE: usize = 1_000_000;
 /// Which clients there are.
 #[derive(Clone, Copy, Drop)]
 pub enum Cast {
-    /// One on the first port.
+    /// A client on the first port.
     One,
-    /// One on the first port that sends each line once it has read the reply to the one before.
+    /// A client on the first port that sends each line once it has read the reply to the one before.
     InTurn,
-    /// One on the first port that sends its first text, and its second one 1.2 seconds later.
+    /// A client on the first port that sends its first text, and its second one 1.2 seconds later.
     Pausing,
-    /// One on each port, one after the other.
+    /// A client on each port, one after the other.
     Each,
-    /// Bad ones on the first port, then a good one.
+    /// Bad clients on the first port, then a good one.
     Bad,
-    /// None.
+    /// No client.
     Nobody,
-    /// None, and the second port is taken.
+    /// No client, and the second port is taken.
     Shut,
 }
 
@@ -41,11 +41,11 @@ pub struct Row<'a> {
     pub replies: (&'a [u8], &'a [u8]),
     /// A text for each namespace, in which `#` is its port, and others behind them.
     pub shown: &'a [&'a str],
-    /// What is told behind those.
+    /// What the server writes behind those lines.
     pub told: &'a str,
-    /// What it says of notices that were lost.
+    /// What the server says of notices that were lost.
     pub alarm: &'a str,
-    /// Whether the server's writer has room for just that.
+    /// Whether the server's writer has room for just these lines.
     pub is_cut: bool,
     pub ended: Result<(), Fault>,
 }
@@ -64,7 +64,7 @@ fn each_talks<R: Machine>(rt: &R, alloc: Global, ports: (u16, u16), row: &Row<'_
         && talks(rt, alloc, ports.1, row.texts.1, b"", row.replies.1)
 }
 
-/// One whose line never ends. It is replied nothing.
+/// A client whose line never ends, and which gets no reply.
 fn endless_talks<R: Machine>(rt: &R, alloc: Global, port: u16) -> bool {
     match vec![in alloc; b'x'; 8193] {
         Ok(line) => talks(rt, alloc, port, &line, b"", b""),
@@ -72,14 +72,14 @@ fn endless_talks<R: Machine>(rt: &R, alloc: Global, port: u16) -> bool {
     }
 }
 
-/// One that sends garbage, and then one whose line never ends.
+/// A client that sends garbage, and then one whose line never ends.
 fn bad_ones_talk<R: Machine>(rt: &R, alloc: Global, port: u16, wanted: &[u8]) -> bool {
     talks(rt, alloc, port, b"\x00\xff\xfe\nGET\nQUIT\n", b"", wanted)
         && endless_talks(rt, alloc, port)
 }
 
-/// One that sends nothing, one that closes half-way, one that sends garbage, one whose line never ends, one that does not read its replies,
-/// and then a good one, while the first and the fifth are still there. The first replies are what the third reads.
+/// A client that sends nothing, one that closes half-way, one that sends garbage, one whose line never ends, one that does not read its
+/// replies, and then a good one, while the first and the fifth are still there. The first replies are what the third reads.
 fn all_talk<R: Machine>(rt: &R, alloc: Global, port: u16, row: &Row<'_>) -> bool {
     let _silent = connect(rt, port);
     drop(send_only(rt, port, b"SET half - 1"));

@@ -59,7 +59,7 @@ fn first_feed(bytes: &[u8]) -> Option<usize>
     memchr(b'\n', &bytes[..end])
 }
 
-/// So many bytes without the end of a line.
+/// What stands at the front of this many bytes that have no end of a line.
 fn unended<'a>(count: usize) -> Arrived<'a>
     ensures { comes result ≡ unended count }
 {

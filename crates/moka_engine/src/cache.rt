@@ -112,7 +112,8 @@ impl<K: Eq + Hash, V, S: BuildHasher, R: Rules<K, V>> BaseCache<K, V, S, R> {
         self.tables.next_notice()
     }
 
-    /// Makes room for one more write, which `do_insert_with_hash` or `insert_and_send_with_hash` uses.
+    /// Makes room for one more write, which `do_insert_with_hash` or `insert_and_send_with_hash` uses. Returns `OutOfMemory`, or `UsedUp` if
+    /// the tickets are used up; then nothing has changed.
     pub fn reserve_write(&mut self) -> Result<(), Refusal>
         ensures ok { OnOk result (self.new ≡ with_room self.old) }
         ensures err { OnErr result (self.new ≡ self.old) }
@@ -134,7 +135,8 @@ impl<K: Eq + Hash, V, S: BuildHasher, R: Rules<K, V>> BaseCache<K, V, S, R> {
         look_up(&self.tables, key, hash, now.as_nanos()).is_some()
     }
 
-    /// Returns a clone of the visible value of a key. This does not count as a use of it.
+    /// Returns a clone of the visible value of a key, or `None`. This does not count as a use of it. Returns an error if there is no memory
+    /// for the clone.
     pub fn get_with_hash_without_recording<Q: Names<K>>(
         &self,
         key: &Q,

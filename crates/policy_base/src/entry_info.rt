@@ -103,14 +103,14 @@ impl<K> EntryInfo<K> {
         self.is_admitted = value;
     }
 
-    /// Returns the number of the entry's last write.
+    /// Returns the number of the entry's last write, counted from 1.
     pub fn entry_gen(&self) -> u64
         ensures { result ≡ self.now.entry_gen }
     {
         self.entry_gen
     }
 
-    /// Counts a write, and returns its number.
+    /// Counts a write, and returns its number. Returns `UsedUp` after 2^64 - 1 writes; then nothing has changed.
     pub fn incr_entry_gen(&mut self) -> Result<u64, UsedUp>
         ensures counted { IfOk result
             (λ v. (v ≡ self.old.entry_gen + 1) × (self.new ≡ record self.old { entry_gen = v })) }
@@ -124,7 +124,7 @@ impl<K> EntryInfo<K> {
         Ok(self.entry_gen)
     }
 
-    /// Returns the number of the last write that the policy applied.
+    /// Returns the number of the last write that the policy applied, or 0 if it applied none.
     pub fn policy_gen(&self) -> u64
         ensures { result ≡ self.now.policy_gen }
     {

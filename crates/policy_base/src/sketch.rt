@@ -212,8 +212,8 @@ impl FrequencySketch {
         }
     }
 
-    /// Creates a table for this many hashes, unless there is one as large: as many words as the next power of two, at most
-    /// 2^24. The counts start again at 0.
+    /// Creates a table for this many hashes, unless there is one as large. It has as many words as the next power of two, at most 2^24,
+    /// and each count in it is 0. Returns an error if there is no memory for it; then nothing has changed.
     pub fn ensure_capacity(&mut self, capacity: u32) -> Result<(), AllocError>
         ensures grown { OnOk result ((words : ℕ) × IsNextPowerOfTwo (min capacity (2 ^ 24)) words
             × (self.new ≡ grown self.old words capacity)) }

@@ -22,8 +22,10 @@ pub struct Stale;
 /// Why a push was refused, with the element.
 #[derive(Debug, Drop, Error)]
 pub enum PushError<T> {
+    /// There was not enough memory for a node.
     #[error("out of memory")]
     OutOfMemory(T),
+    /// The queue has had 2^64 - 1 nodes.
     #[error("used up")]
     UsedUp(T),
 }
@@ -31,8 +33,10 @@ pub enum PushError<T> {
 /// Why a reservation was refused.
 #[derive(Clone, Copy, Debug, PartialEq, Eq, Drop, Error)]
 pub enum ReserveError {
+    /// There was not enough memory for the nodes.
     #[error("out of memory")]
     OutOfMemory,
+    /// With these pushes the queue would have had more than 2^64 - 1 nodes.
     #[error("used up")]
     UsedUp,
 }
@@ -155,7 +159,7 @@ impl<T: Drop> Deque<T> {
         None
     }
 
-    /// Reserves room for `n` pushes, which then allocate nothing.
+    /// Reserves room for `n` pushes, which then allocate nothing and are not refused.
     pub fn reserve(&mut self, n: usize) -> Result<(), ReserveError>
         ensures room { OnOk result (n ≤ self.new.room) }
         ensures had_room { n ≤ self.old.room → IsOk result }
@@ -202,7 +206,7 @@ impl<T: Drop> Deque<T> {
         })
     }
 
-    /// Removes a node and returns its element.
+    /// Removes a node and returns its element. Returns `Stale` if the queue does not have the node; then nothing has changed.
     pub fn unlink(&mut self, id: NodeId) -> Result<T, Stale>
         ensures value { MatchResult result
             (λ x. option_map (λ n. n.element) (find id self.old.nodes) ≡ Some x)
@@ -226,7 +230,7 @@ impl<T: Drop> Deque<T> {
         Ok(element)
     }
 
-    /// Removes a node and drops its element.
+    /// Removes a node and drops its element. Returns `Stale` if the queue does not have the node; then nothing has changed.
     pub fn unlink_and_drop(&mut self, id: NodeId) -> Result<(), Stale>
         ensures found { IsOk result ↔ IsSome (find id self.old.nodes) }
         ensures leaves { OnOk result (Leaves self.old self.new id) }
@@ -238,7 +242,7 @@ impl<T: Drop> Deque<T> {
         }
     }
 
-    /// Moves a node to the back. It keeps its name.
+    /// Moves a node, which keeps its name, to the back. Returns `Stale` if the queue does not have the node; then nothing has changed.
     pub fn move_to_back(&mut self, id: NodeId) -> Result<(), Stale>
         ensures found { IsOk result ↔ IsSome (find id self.old.nodes) }
         ensures moves { OnOk result (MovesToBack self.old self.new id) }

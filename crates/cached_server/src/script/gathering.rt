@@ -7,7 +7,8 @@ ghost use Rattle.cached_server.specs.Script.Gathering.{Gathers};
 use cache_run::{RunError, Watched, send};
 use std::io::Write;
 
-/// Appends a text to what was gathered. If there is no room for it, both are written. This allocates nothing.
+/// Appends a text to what was gathered. If there is no room for it, both are written. This allocates nothing. Returns `Write` if the writer
+/// fails.
 pub fn put<W: Write>(
     gathered: &mut Vec<u8>,
     text: &[u8],
@@ -27,7 +28,7 @@ pub fn put<W: Write>(
     send(text, writer)
 }
 
-/// Writes what was gathered.
+/// Writes what was gathered, and leaves nothing gathered. Returns `Write` if the writer fails.
 pub fn write_out<W: Write>(gathered: &mut Vec<u8>, writer: &mut Watched<W>) -> Result<(), RunError>
     ensures ok { OnOk result (Gathers (W.contents (device writer.old)) gathered.old.items []
         (W.contents (device writer.new)) gathered.new.items) }

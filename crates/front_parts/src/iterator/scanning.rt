@@ -4,7 +4,8 @@ ghost use Rattle.std.specs.Prelude.{◌≡◌, ◌≤◌, ℕ, List, Option, IfO
 use policy_base::Instant;
 use std::alloc::AllocError;
 
-/// Keys in segments, and the values that are visible under them. Reading does not count as a use of a value.
+/// What an iterator reads of a cache: its keys, segment by segment, and the value that is visible under each. Reading does not count as a
+/// use of a value.
 pub trait ScanningGet<K, V> {
     /// How many segments there are.
     ghost segments: { Self → ℕ };
@@ -22,12 +23,13 @@ pub trait ScanningGet<K, V> {
     fn num_cht_segments(&self) -> usize
         ensures { result ≡ segments self.now };
 
-    /// Returns a clone of the value of a key that is visible at a moment.
+    /// Returns a clone of the value of a key that is visible at a moment, or `None`. Returns an error if there is no memory for the clone.
     fn scanning_get(&self, key: &K, now: Instant) -> Result<Option<V>, AllocError>
         requires { can_scan self.now }
         ensures { IfOk result (λ found. found ≡ value_of self.now now key.now) };
 
-    /// Returns clones of the keys of a segment, or `None` if there is no such segment.
+    /// Returns clones of the keys of a segment, counted from 0, or `None` if there is no such segment. Returns an error if there is no memory
+    /// for them.
     fn keys(&self, segment: usize) -> Result<Option<Vec<K>>, AllocError>
         requires { can_scan self.now }
         ensures { IfOk result (λ keys. MatchOption keys (segments self.now ≤ segment)

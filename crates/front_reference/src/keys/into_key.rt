@@ -10,7 +10,7 @@ pub trait IntoKey<K: PartialEq>: Names<K> + Drop {
     /// What is required before it becomes the key.
     ghost can_become: { Self → Type 0 };
 
-    /// Converts the name to the key that it names.
+    /// Converts the name to the key that it names. Returns an error if there is no memory for the key.
     fn into_key(self) -> Result<K, AllocError>
         requires { can_become self }
         ensures { IfOk result (λ key. key ≡ Self.named_key self) };

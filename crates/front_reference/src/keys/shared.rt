@@ -29,7 +29,7 @@ impl<T> Model for Shared<T> {
 }
 
 impl<T: Drop> Shared<T> {
-    /// Moves a value to where it can be shared.
+    /// Moves a value behind an `Arc`, where it can be shared. Returns an error, and drops the value, if there is no memory for that.
     pub fn new(alloc: Global, value: T) -> Result<Self, AllocError>
         ensures { IfOk result (λ made. made ≡ value) }
     {

@@ -25,7 +25,8 @@ impl<K: Eq + Hash, V, S: BuildHasher, R: Rules<K, V>, C> LentState<K, V, S, R, C
         }
     }
 
-    /// Returns the settings of the cache: the maximum capacity, the number of parts, and the times, each at most the last moment.
+    /// Returns the settings of the cache: the maximum capacity, the number of parts, and the time to live and to idle, each at most 2^64 - 2
+    /// nanoseconds.
     /// ```
     /// let capacity = cache.policy().max_capacity();
     /// ```

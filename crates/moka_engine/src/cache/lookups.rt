@@ -30,7 +30,7 @@ impl<K: Eq + Hash, V, S: BuildHasher, R: Rules<K, V>> BaseCache<K, V, S, R> {
     }
 
     /// Returns a clone of the visible value of a key, which counts as a use of it. Maintenance runs if it is due, after the value is looked
-    /// up.
+    /// up. Returns an error if there is no memory for the clone; then nothing has changed.
     pub fn get_with_hash<Q: Names<K>>(
         &mut self,
         key: &Q,

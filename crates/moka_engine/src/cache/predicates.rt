@@ -12,7 +12,8 @@ use rand_core::Rng;
 use std::hash::{BuildHasher, Hash};
 
 impl<K: Eq + Hash, V, S: BuildHasher, R: Rules<K, V>> BaseCache<K, V, S, R> {
-    /// Registers a predicate under an identifier that is drawn, and returns the identifier. It covers what was written at earlier steps.
+    /// Registers a predicate, which covers what was written at earlier steps, under an identifier that is drawn, and returns the
+    /// identifier. A refused call draws nothing, except for `IdsInUse`: then a thousand identifiers were drawn, each of them registered.
     pub fn invalidate_entries_if<G: Rng>(
         &mut self,
         predicate: R::Predicate,
@@ -65,7 +66,7 @@ impl<K: Eq + Hash, V, S: BuildHasher, R: Rules<K, V>> BaseCache<K, V, S, R> {
         reserve(&mut self.tables)
     }
 
-    /// Draws an identifier under which no predicate is registered.
+    /// Draws an identifier under which no predicate is registered. Returns `IdsInUse` if each of a thousand that were drawn is registered.
     pub fn draw_predicate_id<G: Rng>(&self, generator: &mut G) -> Result<u128, Refusal>
         ensures drawn { IfOk result (λ id. Draws (G.stream generator.old) (G.stream generator.new)
             (is_registered self.now.predicates) id) }

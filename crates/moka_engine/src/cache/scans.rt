@@ -44,7 +44,8 @@ impl<K: Eq + Hash, V, S: BuildHasher, R: Rules<K, V>> BaseCache<K, V, S, R> {
         self.tables.count_visible(now.as_nanos())
     }
 
-    /// Returns a clone of the visible value of a key. This does not count as a use of it.
+    /// Returns a clone of the visible value of a key, or `None`. This does not count as a use of it. Returns an error if there is no memory
+    /// for the clone.
     pub fn scanning_get(&self, key: &K, now: Instant) -> Result<Option<V>, AllocError>
     where
         V: Clone,
@@ -67,7 +68,8 @@ impl<K: Eq + Hash, V, S: BuildHasher, R: Rules<K, V>> BaseCache<K, V, S, R> {
         }
     }
 
-    /// Returns a clone of the value that is held under a key, whether it is visible or not. This does not count as a use of it.
+    /// Returns a clone of the value that is held under a key, whether it is visible or not. This does not count as a use of it. Returns an
+    /// error if there is no memory for the clone.
     pub fn held_value_with_hash<Q: Names<K>>(
         &self,
         key: &Q,
@@ -83,7 +85,8 @@ impl<K: Eq + Hash, V, S: BuildHasher, R: Rules<K, V>> BaseCache<K, V, S, R> {
         clone_value(held(&self.tables, key, hash))
     }
 
-    /// Returns a clone of the key that is stored for a key, whether its value is visible or not.
+    /// Returns a clone of the stored key that equals a key, whether its value is visible or not. Returns an error if there is no memory for
+    /// the clone.
     pub fn get_key_with_hash<Q: Names<K>>(
         &self,
         key: &Q,

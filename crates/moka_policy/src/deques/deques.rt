@@ -131,7 +131,7 @@ impl<K> Deques<K> {
         self.select_mut(region).reset_cursor();
     }
 
-    /// Reserves room for `n` pushes on each queue, which then allocate nothing.
+    /// Reserves room for `n` pushes on each queue, which then allocate nothing and are not refused.
     pub fn reserve(&mut self, n: usize) -> Result<(), ReserveError>
         ensures room { OnOk result (HaveRoom n self.new) }
         ensures had_room { HaveRoom n self.old → IsOk result }
@@ -195,7 +195,8 @@ impl<K> Deques<K> {
         }
     }
 
-    /// Moves an entry to the back of its region. An entry without a node stays as it is.
+    /// Moves an entry to the back of its region. An entry without a node stays as it is. Returns `Stale` if no queue has the entry's node;
+    /// then nothing has changed.
     pub fn move_to_back_ao(&mut self, entry: usize, entries: &Slab<Slot<K>>) -> Result<(), Stale>
         ensures found { IsOk result ↔ HasAccessNode (access_node entries.now entry) self.old }
         ensures moves { OnOk result
@@ -223,7 +224,8 @@ impl<K> Deques<K> {
         }
     }
 
-    /// Moves an entry to the back in order of writes. An entry without a node there stays as it is.
+    /// Moves an entry to the back in order of writes. An entry without a node there stays as it is. Returns `Stale` if the queue does not
+    /// have the entry's node; then nothing has changed.
     pub fn move_to_back_wo(&mut self, entry: usize, entries: &Slab<Slot<K>>) -> Result<(), Stale>
         ensures found { IsOk result ↔ HasNode (write_node entries.now entry) self.old.write_order }
         ensures moves { OnOk result (Changes CacheRegion.Other
@@ -233,7 +235,8 @@ impl<K> Deques<K> {
         move_node(&mut self.write_order, write_node(entries, entry))
     }
 
-    /// Moves an entry to the back of this queue, by its node in order of use. An entry without one stays as it is.
+    /// Moves an entry to the back of this queue, by its node in order of use. An entry without such a node stays as it is. Returns `Stale`
+    /// if the queue does not have the node; then nothing has changed.
     pub fn move_to_back_ao_in_deque(
         queue: &mut Deque<KeyHashDate>,
         entry: usize,
@@ -247,7 +250,8 @@ impl<K> Deques<K> {
         move_node(queue, access_node(entries, entry))
     }
 
-    /// Moves an entry to the back of this queue, by its node in order of writes. An entry without one stays as it is.
+    /// Moves an entry to the back of this queue, by its node in order of writes. An entry without such a node stays as it is. Returns
+    /// `Stale` if the queue does not have the node; then nothing has changed.
     pub fn move_to_back_wo_in_deque(
         queue: &mut Deque<KeyHashDate>,
         entry: usize,
@@ -260,7 +264,8 @@ impl<K> Deques<K> {
         move_node(queue, write_node(entries, entry))
     }
 
-    /// Removes an entry from its region, and the name of the node from the entry. An entry without a node stays as it is.
+    /// Removes an entry from its region, and the name of the node from the entry. An entry without a node stays as it is. Returns `Stale`
+    /// if no queue has the node; then nothing has changed.
     pub fn unlink_ao(&mut self, entry: usize, entries: &mut Slab<Slot<K>>) -> Result<(), Stale>
         ensures found { IsOk result ↔ HasAccessNode (access_node entries.old entry) self.old }
         ensures leaves { OnOk result
@@ -281,8 +286,8 @@ impl<K> Deques<K> {
         }
     }
 
-    /// Removes an entry from this queue by its node in order of writes, and the name of that node from the entry. An entry
-    /// without one stays as it is.
+    /// Removes an entry from this queue by its node in order of writes, and the name of that node from the entry. An entry without such a
+    /// node stays as it is. Returns `Stale` if the queue does not have the node; then nothing has changed.
     pub fn unlink_wo(
         queue: &mut Deque<KeyHashDate>,
         entry: usize,
@@ -307,8 +312,8 @@ impl<K> Deques<K> {
         }
     }
 
-    /// Removes an entry from this queue by its node in order of use, and the name of that node from the entry. An entry
-    /// without one stays as it is.
+    /// Removes an entry from this queue by its node in order of use, and the name of that node from the entry. An entry without such a node
+    /// stays as it is. Returns `Stale` if the queue does not have the node; then nothing has changed.
     pub fn unlink_ao_from_deque(
         queue: &mut Deque<KeyHashDate>,
         entry: usize,

@@ -28,8 +28,10 @@ pub enum ReschedulingResult {
 /// Why a timer, or room for timers, was refused.
 #[derive(Clone, Copy, Debug, PartialEq, Eq, Drop, Error)]
 pub enum ScheduleError {
+    /// There was not enough memory for a timer.
     #[error("out of memory")]
     OutOfMemory,
+    /// The wheel would have had more than 2^64 - 1 timers.
     #[error("used up")]
     UsedUp,
 }
@@ -128,7 +130,7 @@ impl<K> TimerWheel<K> {
         self.origin
     }
 
-    /// Reserves room for `n` more timers, which then allocate nothing.
+    /// Reserves room for `n` more timers, which then allocate nothing and are not refused.
     pub fn reserve(&mut self, n: usize) -> Result<(), ScheduleError>
         ensures room { OnOk result (n ≤ self.new.room) }
         ensures had_room { n ≤ self.old.room → IsOk result }
@@ -197,7 +199,8 @@ impl<K> TimerWheel<K> {
         id
     }
 
-    /// Moves a timer to its entry's present time, or removes it if the entry has none. It keeps its name.
+    /// Moves a timer, which keeps its name, to its entry's present time, or removes it if the entry has none. Returns `StaleTimer` if the
+    /// wheel does not have the timer; then nothing has changed.
     pub fn reschedule(
         &mut self,
         id: NodeId,
@@ -225,7 +228,8 @@ impl<K> TimerWheel<K> {
         }
     }
 
-    /// Moves a timer to another time. It keeps its name, and nothing is allocated.
+    /// Moves a timer, which keeps its name, to another time. This allocates nothing. Returns `StaleTimer` if the wheel does not have the
+    /// timer; then nothing has changed.
     pub fn replace(&mut self, id: NodeId, due: Due) -> Result<(), StaleTimer>
         ensures replaces { OnOk result (Replaces self.old.timers self.new.timers id due) }
         ensures keeps { OnOk result (Keeps self.old self.new) }
@@ -241,7 +245,7 @@ impl<K> TimerWheel<K> {
         }
     }
 
-    /// Removes a timer.
+    /// Removes a timer, and returns it. Returns `StaleTimer` if the wheel does not have the timer; then nothing has changed.
     pub fn deschedule(&mut self, id: NodeId) -> Result<TimerNode, StaleTimer>
         requires { self.old.is_enabled ≡ true }
         ensures leaves { IfOk result (TimerLeaves self.old.timers self.new.timers id) }

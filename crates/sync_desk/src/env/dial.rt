@@ -25,7 +25,7 @@ impl Dial {
         }
     }
 
-    /// Sets the moment, in nanoseconds, at most the last moment.
+    /// Sets the moment, in nanoseconds. 2^64 - 1 counts as 2^64 - 2, the last moment that there is.
     pub fn set(&self, nanos: u64) {
         self.nanos.store(nanos, Ordering::SeqCst);
     }
