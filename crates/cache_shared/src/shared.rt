@@ -179,7 +179,8 @@ impl<L: Seating, C: Shareable> SharedService<L, C> {
             (λ turn. Owes L.configs C.spaces C.untaken conn wants_loads turn.owed) }
         ensures back { IfErr result (λ refusal. refusal.input ≡ input) }
         ensures unchanged { OnErr result ((seat.new.count ≡ seat.old.count)
-            × SameReceipts seat.old.receipts.items seat.new.receipts.items) }
+            × SameReceipts seat.old.receipts.items seat.new.receipts.items
+            × (notes.new ≡ notes.old)) }
         ensures taken { IfOk result (λ turn. HappenedAtSomeMoment L.configs C.spaces
             (λ old new. TakesTurn C.spaces C.untaken C.untold old new conn input turn
             notes.old.items notes.new.items)) }
