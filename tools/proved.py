@@ -9,6 +9,7 @@ and the crates, by the first lines of their roots. Makes the examples of docs/FR
 A call's sentence is the first of its doc comment, and a clause's the comment right above it. Neither is proved: the clause is. A call
 without clauses is listed as such.
 """
+import json
 import pathlib
 import re
 import sys
@@ -187,20 +188,53 @@ def with_service(text):
     return re.sub(r"(?s)(<!-- example: service -->\n```rust\n).*?```", lambda found: f"{found[1]}{code.strip(chr(10))}\n```", text)
 
 
+def stand_for(edits, refused):
+    """The rows of the wrong programs, each with the bodies that stand for it, or the tests that catch it."""
+    there = {f"{crate}/{name}" for crate, names in edits.items() for name in names}
+    rows, program = [], ""
+    for line in (ROOT / "tools/wrong_bodies/programs.txt").read_text(encoding="utf-8").splitlines():
+        words = line.split()
+        if not words or line.startswith("#"):
+            continue
+        if not line.startswith(" "):
+            program = line
+            rows.append([program, [], []])
+        elif words[0] == "test":
+            rows[-1][2] += words[1:]
+        else:
+            rows[-1][1] += words
+    for _, bodies, _ in rows:
+        if unknown := [it for it in bodies if it not in there]:
+            sys.exit(f"tools/wrong_bodies/programs.txt names bodies that are not there: {', '.join(unknown)}")
+    by = [", ".join(f"`{it}` ({refused.get(it, 'not tried')})" for it in bodies) + ("; " if bodies and tests else "")
+           + (f"the test {' or '.join(f'`{it}`' for it in tests)}" if tests else "") for _, bodies, tests in rows]
+    return [f"| {program} | {how} |" for (program, _, _), how in zip(rows, by)]
+
+
 def wrong_bodies():
-    """The page of the edits that the prover has to refuse."""
+    """The page of the edits that the prover has to refuse, with how each was refused when `tools/wrong_bodies.py` last tried it."""
     edits = {}
     for file in [*ROOT.glob("tools/wrong_bodies/*/*.edit"), *ROOT.glob("crates/*/must-fail/*.edit")]:
         crate = file.parent.name if file.parent.name != "must-fail" else file.parent.parent.name
         edits.setdefault(crate, []).append(file.stem)
-    rows = [f"| `{crate}` | {', '.join(f'`{name}`' for name in sorted(names))} |" for crate, names in sorted(edits.items())]
+    refused = {name: row["word"] for name, row in json.loads((ROOT / "tools/wrong_bodies/results.json").read_text(encoding="utf-8")).items()}
+    ways = {True: {}, False: {}}
+    for crate, names in edits.items():
+        for name in sorted(names):
+            word = refused.get(f"{crate}/{name}", "not tried")
+            ways[word == "clause"].setdefault(crate, []).append(f"`{name}`" + (f" ({word})" if word != "clause" else ""))
+    rows = [f"| `{crate}` | {', '.join(ways[True].get(crate, []))} | {', '.join(ways[False].get(crate, []))} |" for crate in sorted(edits)]
     count = sum(map(len, edits.values()))
     return spaced([
         ["# Wrong bodies"],
         [MADE.replace(" Change the doc comments and the comments at clauses there.", "")],
-        [f"The {count} edits that the prover has to refuse, by the crate whose contracts do: `tools/wrong_bodies/CRATE/NAME.edit`, or"
-         " `crates/CRATE/must-fail/NAME.edit`, which the gate tries. [PROVED.md](../PROVED.md#wrong-bodies) says which wrong programs they stand for."],
-        ["| Crate | Edits |", "|-|-|", *rows],
+        [f"The {count} edits that the prover has to refuse: `tools/wrong_bodies/CRATE/NAME.edit`, or `crates/CRATE/must-fail/NAME.edit`, which"
+         " the gate tries. [PROVED.md](../PROVED.md#wrong-bodies) says what *clause*, *premise*, *answer* and *form* mean."],
+        ["## Wrong programs"],
+        ["| A wrong program | Refused |", "|-|-|", *stand_for(edits, refused)],
+        ["## By crate"],
+        ["Beside each edit in the last column stands one of the column before it, of this crate or of one above."],
+        ["| Crate | Refused by a clause | Refused otherwise |", "|-|-|-|", *rows],
     ]) + "\n"
 
 

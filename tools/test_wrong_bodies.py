@@ -151,6 +151,17 @@ class Helpers(unittest.TestCase):
         self.assertFalse(self.adds("file: src/a.rt\nold: pub fn a(x: u64)\nnew: pub fn a(y: u64)\n"))
         self.assertFalse(self.adds("file: src/a.rt\nold: a();\nnew: b();\n"))
 
+    def test_what_a_body_stands_beside(self):
+        with tempfile.TemporaryDirectory() as room:
+            body = pathlib.Path(room, "a.edit")
+            body.write_text("beside: b\nbeside: other/c\nfile: src/a.rt\nold: a();\nnew: b();\n", encoding="utf-8")
+            self.assertEqual(wrong_bodies.beside("crate", body), ["crate/b", "other/c"])
+            self.assertEqual(wrong_bodies.pairs_of(body), [("src/a.rt", "a();", "b();")])
+
+    def test_comments(self):
+        self.assertEqual(wrong_bodies.COMMENT[".rt"].sub(b"", b"/// A.\nfn a() {\n    // B.\n    b(\"// c\");\n}\n"), b"fn a() {\n    b(\"// c\");\n}\n")
+        self.assertEqual(wrong_bodies.COMMENT[".antt"].sub(b"", b"-- A.\na : B\n  -- C\n  c - d -- e\n"), b"a : B\n  c - d -- e\n")
+
 
 if __name__ == "__main__":
     unittest.main()

@@ -5,6 +5,10 @@
 It tries the bodies in tools/wrong_bodies/CRATE, and those in crates/CRATE/must-fail, which the gate tries too. Both
 have the same form: a line `file: PATH`, then pairs of lines `old: TEXT` and `new: TEXT`; TEXT occurs once in the file.
 
+A body that is refused otherwise than by a clause shows little by itself, since a right body may be refused so too. Another one stands
+beside it: the same fault in one case alone, before which the function returns early, so that proofs written by hand still fit. Its file
+has a line `beside: NAME` (or `beside: CRATE/NAME`) for each body that it stands beside.
+
 They are tried in a copy of the tree, over the libraries that the crates below have in their out/. Those that change only functions,
 each another one, are tried in one check of these functions (`rt check --only`), since a contract is all that one function knows of
 another; what such a check does not decide is tried alone. A body that changes more is tried by a check of its whole crate, over what
@@ -14,19 +18,20 @@ tried, with the seconds that it took, or its share of a check:
   clause    refused: a clause of the edited function, or what its type promises, is left open. Only this says by itself that the
             contract rules the body out
   premise   refused: what the body calls, or computes, has a premise that does not hold there
-  answer    refused: a proof written by hand no longer fits, as after a harmless change too. It was tried again without that
-            proof, and then a goal is left open too, which the row names
+  answer    refused: a proof written by hand no longer fits, as after a harmless change too. If no body stands beside it, it was
+            tried again without that proof, and then a goal is left open too, which the row names
   form      refused: a proof names something that the body removed, or the body adds a function without an `ensures`, of which
             a proof knows nothing
   PASSED    the crate is proved with it, or would be without a proof written by hand: the contract is too weak
   BAD       it cannot be applied, or the check ended without a verdict, or not within an hour
 
 Results are kept in tools/wrong_bodies/results.json, which belongs to the repository. A body whose row was made over the same text of its
-crate is not tried again, so a run after a change tries the bodies of the crates that changed, and an interrupted run continues where it
+crate, comments apart, is not tried again, so a run after a change tries the bodies of the crates that changed, and an interrupted run continues where it
 stopped. `--below` keeps only rows that were made over the same text of the crates below too, and with the same kit; the table counts
 the others. `--anew` tries all again, `--list` tries none and lists those that would be tried. BAD is not kept.
 
-At the end there is a table by crate, and a last line with the sums. The status is 0 if each body was tried, and is refused.
+At the end there is a table by crate, those refused otherwise than by a clause beside which no body stands that is, and a last line with
+the sums. The status is 0 if each body was tried, and is refused.
 """
 
 import argparse
@@ -76,9 +81,13 @@ def kit():
     return subprocess.run(["rt", "version"], capture_output=True, check=True).stdout
 
 
+# A line that is a comment, of which the prover knows nothing.
+COMMENT = {".rt": re.compile(rb"^ *//.*\n", re.M), ".antt": re.compile(rb"^ *--.*\n", re.M)}
+
+
 @functools.cache
 def checksum_of_text(crate):
-    """A checksum of the text of a crate."""
+    """A checksum of the text of a crate, without lines that are comments."""
     it = hashlib.sha256()
     for part in ("src", "specs", "proofs"):
         for folder, folders, files in os.walk(os.path.join(ROOT, "crates", crate, part)):
@@ -87,6 +96,8 @@ def checksum_of_text(crate):
                 path = os.path.join(folder, name)
                 with open(path, "rb") as file:
                     text = file.read()
+                comment = COMMENT.get(os.path.splitext(name)[1])
+                text = comment.sub(b"", text) if comment else text
                 it.update(f"{os.path.relpath(path, ROOT)} {len(text)} ".encode() + text)
     return it.hexdigest()
 
@@ -105,7 +116,8 @@ def checksum_below(crate):
 def checksums_of(crate, body):
     """That of a body and the text of its crate, and that of all else."""
     with open(body, "rb") as file:
-        return hashlib.sha256(checksum_of_text(crate).encode() + file.read()).hexdigest()[:16], checksum_below(crate)[:16]
+        said = b"".join(line for line in file if not line.startswith(b"beside: "))
+    return hashlib.sha256(checksum_of_text(crate).encode() + said).hexdigest()[:16], checksum_below(crate)[:16]
 
 
 class Kept:
@@ -245,6 +257,19 @@ def pairs_of(body):
     return found
 
 
+def beside(crate, body):
+    """The bodies that a body stands beside, as CRATE/NAME."""
+    with open(body, encoding="utf-8") as file:
+        names = [line.removeprefix("beside: ").strip() for line in file if line.startswith("beside: ")]
+    return [name if "/" in name else f"{crate}/{name}" for name in names]
+
+
+@functools.cache
+def stood_beside():
+    """The bodies beside which others stand."""
+    return {it for crate, bodies in chosen([]) for _, body in bodies for it in beside(crate, body)}
+
+
 def edited(body, folder, texts=None):
     """What a body changes: the texts of the files, by their path in the crate's folder, and the functions, or None where it changes more
     than functions. `texts` are those that other bodies changed before. A ValueError says why it can't be applied."""
@@ -380,7 +405,7 @@ class Lane:
         self.give(crate)
         self.copied.discard(crate)
 
-    def tried(self, crate, body):
+    def tried(self, crate, name, body):
         """Tries a body alone."""
         folder = os.path.join(self.room, "crates", crate)
         try:
@@ -391,7 +416,7 @@ class Lane:
         before = self.put(folder, texts)
         status, said = self.check_these(crate, folder, functions or ())
         word, line = verdict(status, said, texts, adds_a_helper(body))
-        if word == "answer":
+        if word == "answer" and f"{crate}/{name}" not in stood_beside():
             word, line = self.tried_without(crate, folder, functions or (), misfits(said), line)
         self.put(folder, before)
         return word, line
@@ -408,7 +433,8 @@ class Lane:
         status, said = self.check_these(crate, folder, [it for those in functions.values() for it in those])
         if status and re.search(r"^only=\d+ proved=\d+", said, re.M):
             told = self.decided(said, bodies, functions, texts)
-            aside = {name: self.answers_of(folder, said, functions[name]) for name, (word, _) in told.items() if word == "answer"}
+            alone = {name for name, (word, _) in told.items() if word == "answer" and f"{crate}/{name}" not in stood_beside()}
+            aside = {name: self.answers_of(folder, said, functions[name]) for name in alone}
             aside = {name: files for name, files in aside.items() if files}
         if aside:
             kept = {path: text for files in aside.values() for path, text in files.items()}
@@ -590,7 +616,7 @@ def work(wanted, told, lock, kept):
                         alone.append((name, body))
             for name, body in alone:
                 start = time.time()
-                word, line = lane.tried(crate, body)
+                word, line = lane.tried(crate, name, body)
                 learn(crate, name, body, word, line, time.time() - start)
             lane.leave(crate)
 
@@ -635,6 +661,12 @@ def known_of(found, kept, told, strictly):
     return left
 
 
+def untold(told):
+    """The bodies that are refused otherwise than by a clause, and beside which none stands that is."""
+    stood = {name for crate, bodies in chosen([]) for one, body in bodies if told.get((crate, one), ("",))[0] == "clause" for name in beside(crate, body)}
+    return sorted(f"{crate}/{name}" for (crate, name), (word, _, _) in told.items() if word in ("premise", "answer", "form") and f"{crate}/{name}" not in stood)
+
+
 def summed(told):
     """Sums by crate, and of all."""
     sums, seconds, other = collections.defaultdict(collections.Counter), collections.Counter(), 0
@@ -646,6 +678,8 @@ def summed(told):
     for crate, counts in sorted(sums.items()):
         print(f"{crate:20} {sum(counts.values()):>6}" + "".join(f" {counts[word]:>7}" for word in WORDS) + f" {seconds[crate]:>8.0f}")
     counts = sum(sums.values(), collections.Counter())
+    for name in untold(told):
+        print(f"beside {name} stands none that is refused by a clause")
     print(
         f"{len(told)} wrong bodies refused: {counts['clause']} by a clause, {counts['premise']} at a premise, {counts['answer']} at an answer, "
         f"{counts['form']} for their form; {counts['PASSED']} passed, {counts['BAD']} bad"
