@@ -7,6 +7,7 @@ mod link;
 mod patient;
 mod tools;
 
-pub use link::{Link, Next};
+pub use backlog::Backlog;
+pub use link::{Link, Next, Report};
 pub use patient::Patient;
-pub use tools::Tools;
+pub use tools::{Room, Tools};

@@ -35,7 +35,7 @@ pub enum Next {
 
 /// What a connection's socket reported and was not read.
 #[derive(Clone, Copy, Debug, PartialEq, Eq, Drop)]
-enum Report {
+pub enum Report {
     /// Nothing.
     Nothing,
     /// There may be bytes to read.
@@ -46,7 +46,7 @@ enum Report {
 
 impl Report {
     /// This, and what was reported after it.
-    fn with(self, is_readable: bool, is_ending: bool) -> Report
+    pub fn with(self, is_readable: bool, is_ending: bool) -> Report
         ensures { result ≡ report_with self is_readable is_ending }
     {
         if is_ending {
@@ -69,6 +69,27 @@ impl Report {
         match self {
             Report::Bytes if !is_full => Report::Nothing,
             _ => self,
+        }
+    }
+
+    /// Notes what came of a read into an inbox. Returns whether the input is at its end, or `Read` if the device broke down.
+    pub fn note_read(&mut self, filled: io::Result<usize>, inbox: &Inbox) -> Result<bool, RunError>
+        ensures ends { IfOk result (λ ends. ends ≡ true → filled ≡ Ok 0) }
+        ensures why { IfErr result (λ e. (e ≡ RunError.Read) × (is_broken_by filled ≡ true)) }
+        ensures hears { HearsOf filled self.old self.new }
+    {
+        match filled {
+            Ok(0) => Ok(true),
+            Ok(count) => {
+                *self = self.after_read(inbox.is_filled_by(count));
+                Ok(false)
+            }
+            Err(error) if !is_for_now(&error) => Err(RunError::Read),
+            Err(error) if would_wait(&error) => {
+                *self = Report::Nothing;
+                Ok(false)
+            }
+            Err(_) => Ok(false),
         }
     }
 }
@@ -304,9 +325,7 @@ impl Link {
             (HasToldLate K.reads tools.new.clock)) }
         ensures report { self.new.report ≡ self.old.report }
     {
-        let mut bytes = mem::replace(&mut tools.bytes, Vec::new(tools.alloc));
-        bytes.clear();
-        let mut gathered = Watched::new(bytes);
+        let mut gathered = Watched::new(tools.room.take_bytes());
         let Link { session, .. } = self;
         let Tools { clock, loader, .. } = tools;
         let attended = attend(host, place, session, &mut gathered, clock, loader);
@@ -355,40 +374,13 @@ impl Link {
         if self.report == Report::Nothing {
             return Ok(());
         }
-        let Ok(inbox) = tools.take_inbox() else {
+        let Ok(inbox) = tools.room.take_inbox() else {
             return Err(RunError::OutOfMemory);
         };
         self.session.inbox = inbox;
         let filled = reader.fill(&mut self.session.inbox);
-        self.take_in(filled)
-    }
-
-    /// Notes what came of a read.
-    fn take_in(&mut self, filled: io::Result<usize>) -> Result<(), RunError>
-        requires { self.old.is_over ≡ false }
-        ensures same { (self.new.session ≡ self.old.session)
-            × (self.new.backlog ≡ self.old.backlog) }
-        ensures over { self.new.is_over ≡ true → filled ≡ Ok 0 }
-        ensures why { IfErr result (λ e. (e ≡ RunError.Read) × (is_broken_by filled ≡ true)) }
-        ensures hears { HearsOf filled self.old.report self.new.report }
-    {
-        match filled {
-            Ok(0) => {
-                self.is_over = true;
-                Ok(())
-            }
-            Ok(count) => {
-                let is_full = self.session.inbox.is_filled_by(count);
-                self.report = self.report.after_read(is_full);
-                Ok(())
-            }
-            Err(error) if !is_for_now(&error) => Err(RunError::Read),
-            Err(error) if would_wait(&error) => {
-                self.report = Report::Nothing;
-                Ok(())
-            }
-            Err(_) => Ok(()),
-        }
+        self.is_over = self.report.note_read(filled, &self.session.inbox)?;
+        Ok(())
     }
 
     /// Lets others have the room that it does not use.
@@ -399,10 +391,12 @@ impl Link {
     {
         let alloc = tools.alloc;
         let bytes = mem::replace(&mut self.backlog, Backlog::new(Vec::new(alloc)));
-        tools.give_bytes(bytes.into_bytes());
+        tools.room.give_bytes(bytes.into_bytes());
         if self.session.inbox.is_empty() && !self.session.inbox.is_filled_by(1) {
             if let Ok(small) = Inbox::small(alloc) {
-                tools.give_inbox(mem::replace(&mut self.session.inbox, small));
+                tools
+                    .room
+                    .give_inbox(mem::replace(&mut self.session.inbox, small));
             }
         }
     }

@@ -54,20 +54,33 @@ returns-in_default-clause-fetched g c = record {
   over = λ done. absurd (no-both _ done c.requires);
 }
 
-pub returns-clause-fetched : goal.returns-clause-fetched
-returns-clause-fetched g c =
-    let same = c.take_in.ensures.same in
+pub returns-in_err-self-clause-fetched : goal.returns-in_err-self-clause-fetched
+returns-in_err-self-clause-fetched g c =
     let none : c.args.self.now.session.inbox ≡ [] = search rules in
     record {
-      conn = ap (λ z. z.conn) same.0;
-      taken = ap (λ z. z.taken.items) same.0;
-      footing = ap (λ z. z.footing) same.0;
-      backlog = same.1;
+      conn = refl;
+      taken = refl;
+      footing = refl;
+      backlog = refl;
       piece = c.fill-filled.new.inbox;
-      whole = ap (λ z. z.inbox) same.0 ∙ ap (λ z. z ++ c.fill-filled.new.inbox) (sym none);
+      whole = ap (λ z. z ++ c.fill-filled.new.inbox) (sym none);
+      bytes = obtains-consumes _ _ _ c.fill-filled.result c.fill-filled.ensures.bytes;
+      over = λ done. absurd (no-both _ done c.requires);
+    }
+
+pub returns-clause-fetched : goal.returns-clause-fetched
+returns-clause-fetched g c =
+    let none : c.args.self.now.session.inbox ≡ [] = search rules in
+    record {
+      conn = refl;
+      taken = refl;
+      footing = refl;
+      backlog = refl;
+      piece = c.fill-filled.new.inbox;
+      whole = ap (λ z. z ++ c.fill-filled.new.inbox) (sym none);
       bytes = obtains-consumes _ _ _ c.fill-filled.result c.fill-filled.ensures.bytes;
       over = λ done.
-          let end = obtains-end _ _ _ c.fill-filled.result c.fill-filled.ensures.bytes (c.take_in.ensures.over done) in (ap (λ z. z.inbox) same.0 ∙ end.0, inl end.1);
+          let end = obtains-end _ _ _ c.fill-filled.result c.fill-filled.ensures.bytes (c.in_ok-self.ensures.ends done) in (end.0, inl end.1);
     }
 
 pub returns-then-not-is_fed-clause-hears : goal.returns-then-not-is_fed-clause-hears
@@ -82,5 +95,8 @@ returns-then-eq-clause-hears g c = hears-same _ _ _ _ _ refl
 pub returns-in_default-clause-hears : goal.returns-in_default-clause-hears
 returns-in_default-clause-hears g c = hears-same _ _ _ _ _ refl
 
+pub returns-in_err-self-clause-hears : goal.returns-in_err-self-clause-hears
+returns-in_err-self-clause-hears g c = hears-read _ _ _ _ _ c.fill-filled.result c.fill-filled.new.inbox c.note_read.ensures.hears c.fill-filled.ensures.waits c.fill-filled.ensures.bytes
+
 pub returns-clause-hears : goal.returns-clause-hears
-returns-clause-hears g c = hears-read _ _ _ _ _ c.fill-filled.result c.fill-filled.new.inbox c.take_in.ensures.hears c.fill-filled.ensures.waits c.fill-filled.ensures.bytes
+returns-clause-hears g c = hears-read _ _ _ _ _ c.fill-filled.result c.fill-filled.new.inbox c.note_read.ensures.hears c.fill-filled.ensures.waits c.fill-filled.ensures.bytes
