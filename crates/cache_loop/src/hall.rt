@@ -1,14 +1,12 @@
 //! The connections of a loop.
-ghost use Rattle.std.specs.Prelude.{◌≡◌, false};
-ghost use Rattle.audit_model.specs.declared.input.Conn.{Conn};
 
-use crate::counting::Counting;
 use crate::counts::{Counts, Stopwatch};
 use crate::doorway::{Doorway, Stream};
 use crate::looping::{Crew, LISTENER, LOADED, STOP};
 use crate::served::Served;
-use cache_link::{Link, Next, Tools};
-use cache_run::{Clock, Host, Loader, RunError};
+use crate::steward::Steward;
+use cache_link::Next;
+use cache_run::RunError;
 use mio::event::Event;
 use mio::{Events, Registry, Token};
 use slab::Slab;
@@ -20,9 +18,6 @@ use std::{mem, time};
 
 /// After an accept that failed for lack of something, the next one comes after so many milliseconds.
 const PAUSE: u64 = 10;
-
-/// What is written to a connection for which there is no place.
-const TOO_MANY: &[u8] = b"ERR connections\n";
 
 /// Whether accepting goes on.
 #[derive(Clone, Copy, PartialEq, Eq, Drop)]
@@ -37,8 +32,8 @@ enum Door {
 
 /// The connections of a loop, and those among them that have something to do.
 #[derive(Drop)]
-pub struct Hall {
-    served: Slab<Served>,
+pub struct Hall<S: Steward> {
+    served: Slab<Served<S::Link>>,
     // those whose sockets reported something
     queue: Vec<usize>,
     // those that have more to do since their last turn: they come after the others
@@ -63,9 +58,9 @@ pub struct Round<'a, R> {
     pub crew: &'a Crew,
 }
 
-impl Hall {
+impl<S: Steward> Hall<S> {
     /// Nobody is connected.
-    pub fn new(alloc: Global, doorway: Doorway) -> Hall {
+    pub fn new(alloc: Global, doorway: Doorway) -> Hall<S> {
         Hall {
             served: Slab::new(alloc),
             queue: Vec::new(alloc),
@@ -81,7 +76,8 @@ impl Hall {
     }
 
     /// What was counted.
-    pub fn counts(&self) -> Counts {
+    pub fn counts(&mut self, steward: &S) -> Counts {
+        steward.tally(&mut self.counts);
         self.counts
     }
 
@@ -102,24 +98,24 @@ impl Hall {
     }
 
     /// Notes what the sockets reported.
-    pub fn note_all(&mut self, events: &Events) {
+    pub fn note_all(&mut self, steward: &mut S, events: &Events) {
         for event in events {
-            self.note(event);
+            self.note(steward, event);
         }
     }
 
     /// Notes what a socket reported.
-    fn note(&mut self, event: &Event) {
+    fn note(&mut self, steward: &mut S, event: &Event) {
         let token = event.token();
         if token == LISTENER {
             self.door = Door::Open;
         } else if token == STOP {
-            self.stop();
+            self.stop(steward);
         } else if token == LOADED {
             self.is_loaded = true;
         } else if let Some(served) = self.served.get_mut(token.0) {
             let is_ending = event.is_read_closed() || event.is_error();
-            served.link.wake(event.is_readable(), is_ending);
+            steward.wake(&mut served.link, event.is_readable(), is_ending);
             served.quiet = 0;
             self.enqueue(token.0);
         }
@@ -137,13 +133,13 @@ impl Hall {
     }
 
     /// Accepts nobody and reads nothing any more.
-    fn stop(&mut self) {
+    fn stop(&mut self, steward: &mut S) {
         self.stops = self.stops.saturating_add(1);
         self.doorway = None;
         self.door = Door::Idle;
         for key in 0..self.served.capacity() {
             if let Some(served) = self.served.get_mut(key) {
-                served.link.stop();
+                steward.stop(&mut served.link);
                 self.enqueue(key);
             }
         }
@@ -164,18 +160,13 @@ impl Hall {
     }
 
     /// Accepts connections, until nobody waits or many were accepted.
-    pub fn accept_all<H: Host, R>(
-        &mut self,
-        host: &mut H,
-        place: &mut H::Place,
-        round: &Round<'_, R>,
-    ) {
+    pub fn accept_all<R>(&mut self, steward: &mut S, round: &Round<'_, R>) {
         for _accept in 0..round.crew.rules.accepts {
             if self.door == Door::Idle {
                 return;
             }
             if let Some(stream) = self.accept() {
-                let _ = self.admit(host, place, round, stream);
+                let _ = self.admit(steward, round, stream);
             }
         }
     }
@@ -217,23 +208,17 @@ impl Hall {
     }
 
     /// Begins to serve a connection. `None`, and it is closed, if there is no place for it, or what it needs is not available.
-    fn admit<H: Host, R>(
-        &mut self,
-        host: &mut H,
-        place: &mut H::Place,
-        round: &Round<'_, R>,
-        stream: Stream,
-    ) -> Option<()> {
+    fn admit<R>(&mut self, steward: &mut S, round: &Round<'_, R>, stream: Stream) -> Option<()> {
         let crew = round.crew;
         if crew.open.fetch_add(1, Ordering::SeqCst) >= crew.rules.connections {
             crew.open.fetch_sub(1, Ordering::SeqCst);
             self.counts.refused = self.counts.refused.saturating_add(1);
             let mut stream = stream;
-            stream.tell(TOO_MANY);
+            stream.tell(steward.refusal());
             stream.wind_up();
             return None;
         }
-        let admitted = self.seat(host, place, round, stream);
+        let admitted = self.seat(steward, round, stream);
         if admitted.is_none() {
             crew.open.fetch_sub(1, Ordering::SeqCst);
         }
@@ -241,13 +226,7 @@ impl Hall {
     }
 
     /// Makes room for a connection, and opens it.
-    fn seat<H: Host, R>(
-        &mut self,
-        host: &mut H,
-        place: &mut H::Place,
-        round: &Round<'_, R>,
-        stream: Stream,
-    ) -> Option<()> {
+    fn seat<R>(&mut self, steward: &mut S, round: &Round<'_, R>, stream: Stream) -> Option<()> {
         let room = self.served.len().saturating_add(1);
         self.served.reserve(1).ok()?;
         self.queue.reserve(room).ok()?;
@@ -256,32 +235,25 @@ impl Hall {
         let mut stream = stream;
         let key = self.served.vacant_key();
         stream.register(round.registry, Token(key)).ok()?;
-        let link = Link::open(host, place, round.crew.alloc, round.crew.namespace).ok()?;
+        let link = steward.open()?;
         let _ = self.served.insert(Served::new(stream, link));
         Some(())
     }
 
     /// Gives each queued connection a turn, and then each that has more to do since its last one.
-    pub fn take_turns<H: Host, K: Clock, D: Loader, R: time::Clock>(
-        &mut self,
-        host: &mut H,
-        place: &mut H::Place,
-        tools: &mut Tools<K, Counting<D>>,
-        round: &Round<'_, R>,
-    )
-        requires shared { H.LENT ≡ false }
-        requires known { (conn : Conn) → (place : H.Place) → H.knows conn place }
+    pub fn take_turns<R: time::Clock>(&mut self, steward: &mut S, round: &Round<'_, R>)
+        requires { S.rests_on }
     {
         let _since_the_wake = self.watch.lap(round.rt);
         for index in 0..self.queue.len() {
             if let Some(key) = self.queue.get(index).copied() {
-                self.take_turn(host, place, tools, round, key);
+                self.take_turn(steward, round, key);
             }
         }
         self.queue.clear();
         for index in 0..self.again.len() {
             if let Some(key) = self.again.get(index).copied() {
-                self.take_turn(host, place, tools, round, key);
+                self.take_turn(steward, round, key);
             }
         }
         self.again.clear();
@@ -289,30 +261,21 @@ impl Hall {
     }
 
     /// Gives a connection a turn.
-    fn take_turn<H: Host, K: Clock, D: Loader, R: time::Clock>(
-        &mut self,
-        host: &mut H,
-        place: &mut H::Place,
-        tools: &mut Tools<K, Counting<D>>,
-        round: &Round<'_, R>,
-        key: usize,
-    )
-        requires shared { H.LENT ≡ false }
-        requires known { (conn : Conn) → (place : H.Place) → H.knows conn place }
+    fn take_turn<R: time::Clock>(&mut self, steward: &mut S, round: &Round<'_, R>, key: usize)
+        requires { S.rests_on }
     {
         let Hall { served, counts, .. } = self;
         let Some(served) = served.get_mut(key) else {
             return;
         };
-        match served.turn(host, place, tools, counts) {
-            Ok(Next::Over) => self.end(host, place, tools, round.crew, key, Ok(())),
+        match served.turn(steward, counts) {
+            Ok(Next::Over) => self.end(steward, round.crew, key, Ok(())),
             Ok(next) => self.note_next(round.registry, key, next),
-            Err(error) => self.end(host, place, tools, round.crew, key, Err(error)),
+            Err(error) => self.end(steward, round.crew, key, Err(error)),
         }
-        self.counts.loads = self
-            .counts
-            .loads
-            .saturating_add(round.crew.tell_loads(&mut tools.loader));
+        let asked = steward.take_loads();
+        round.crew.tell_loads(asked);
+        self.counts.loads = self.counts.loads.saturating_add(asked);
         let nanos = self.watch.lap(round.rt);
         self.counts.count_turn(nanos);
     }
@@ -340,42 +303,26 @@ impl Hall {
     }
 
     /// Closes a connection.
-    fn end<H: Host, K: Clock, D: Loader>(
-        &mut self,
-        host: &mut H,
-        place: &mut H::Place,
-        tools: &mut Tools<K, Counting<D>>,
-        crew: &Crew,
-        key: usize,
-        outcome: Result<(), RunError>,
-    )
-        requires shared { H.LENT ≡ false }
-        requires known { (conn : Conn) → (place : H.Place) → H.knows conn place }
+    fn end(&mut self, steward: &mut S, crew: &Crew, key: usize, outcome: Result<(), RunError>)
+        requires { S.rests_on }
     {
         let Some(mut served) = self.served.try_remove(key) else {
             return;
         };
         served.stream.wind_up();
-        let _ = served.link.close(host, place, outcome, &mut tools.loader);
+        let Served { link, .. } = served;
+        steward.close(link, outcome);
         crew.open.fetch_sub(1, Ordering::SeqCst);
     }
 
     /// Counts a second, and closes the connections whose sockets have reported nothing for so many seconds, unless they wait for a load.
-    pub fn count_second<H: Host, K: Clock, D: Loader>(
-        &mut self,
-        host: &mut H,
-        place: &mut H::Place,
-        tools: &mut Tools<K, Counting<D>>,
-        crew: &Crew,
-        idle: u64,
-    )
-        requires shared { H.LENT ≡ false }
-        requires known { (conn : Conn) → (place : H.Place) → H.knows conn place }
+    pub fn count_second(&mut self, steward: &mut S, crew: &Crew, idle: u64)
+        requires { S.rests_on }
     {
         for key in 0..self.served.capacity() {
             if self.is_too_quiet(key, idle) {
                 self.counts.idle = self.counts.idle.saturating_add(1);
-                self.end(host, place, tools, crew, key, Ok(()));
+                self.end(steward, crew, key, Ok(()));
             }
         }
     }
@@ -390,18 +337,11 @@ impl Hall {
     }
 
     /// Closes all connections.
-    pub fn end_all<H: Host, K: Clock, D: Loader>(
-        &mut self,
-        host: &mut H,
-        place: &mut H::Place,
-        tools: &mut Tools<K, Counting<D>>,
-        crew: &Crew,
-    )
-        requires shared { H.LENT ≡ false }
-        requires known { (conn : Conn) → (place : H.Place) → H.knows conn place }
+    pub fn end_all(&mut self, steward: &mut S, crew: &Crew)
+        requires { S.rests_on }
     {
         for key in 0..self.served.capacity() {
-            self.end(host, place, tools, crew, key, Ok(()));
+            self.end(steward, crew, key, Ok(()));
         }
     }
 }

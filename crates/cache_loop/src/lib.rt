@@ -5,12 +5,16 @@ mod counting;
 mod counts;
 mod doorway;
 mod hall;
+mod lines;
 mod looping;
 mod replies;
 mod served;
+mod steward;
 
 pub use counting::Counting;
 pub use counts::{Counts, TURN_BOUNDS};
 pub use doorway::{Doorway, Stream};
-pub use looping::{Crew, LOADED, Rules, STOP, serve_all};
+pub use lines::serve_all;
+pub use looping::{Crew, LOADED, Rules, STOP, serve_by};
 pub use replies::Found;
+pub use steward::Steward;

@@ -1,13 +1,9 @@
 //! The loop over the sockets of a namespace.
-ghost use Rattle.std.specs.Prelude.{◌≡◌, false};
-ghost use Rattle.audit_model.specs.declared.input.Conn.{Conn};
 
-use crate::counting::Counting;
 use crate::counts::{Counts, Stopwatch};
 use crate::doorway::Doorway;
 use crate::hall::{Hall, Round};
-use cache_link::Tools;
-use cache_run::{Clock, Host, Loader};
+use crate::steward::Steward;
 use mio::{Events, Poll, Token, Waker};
 use std::alloc::Global;
 use std::sync::atomic::AtomicU64;
@@ -36,7 +32,7 @@ const SECOND: u64 = 1_000_000_000;
 pub struct Rules {
     /// So many connections are accepted in one wake-up: 1 if other loops accept too.
     pub accepts: usize,
-    /// So many connections may be open at once. One more gets the line `ERR connections`, and is closed.
+    /// So many connections may be open at once. One more is told so (`Steward::refusal`), and closed.
     pub connections: u64,
     /// A connection from which nothing came, and to which nothing could be written, for more than so many seconds is closed.
     pub idle: Option<u64>,
@@ -46,6 +42,7 @@ pub struct Rules {
 #[derive(Drop)]
 pub struct Crew {
     pub alloc: Global,
+    /// The namespace of its service that they serve.
     pub namespace: u64,
     pub rules: Rules,
     /// How many connections of the namespace are open.
@@ -57,14 +54,11 @@ pub struct Crew {
 }
 
 impl Crew {
-    /// Tells all loops that loads were settled, if the loader was asked for some. Returns for how many.
-    pub(crate) fn tell_loads<D>(&self, loader: &mut Counting<D>) -> u64 {
-        let asked = loader.asked;
+    /// Tells all loops that loads were settled, if the loader was asked for some.
+    pub(crate) fn tell_loads(&self, asked: u64) {
         if asked > 0 {
-            loader.asked = 0;
             self.wake_all();
         }
-        asked
     }
 
     /// Wakes all loops.
@@ -104,51 +98,36 @@ impl Seconds {
 }
 
 /// Serves the connections that come in at a doorway, until it is stopped. They are closed when it returns. An error is one of waiting for events, or of memory for the first of them.
-pub fn serve_all<H, K, D, R>(
+pub fn serve_by<S: Steward, R: Wait + time::Clock>(
     rt: &R,
-    host: &mut H,
-    place: &mut H::Place,
-    tools: &mut Tools<K, Counting<D>>,
+    steward: &mut S,
     poll: &mut Poll,
     doorway: Doorway,
     crew: &Crew,
 ) -> io::Result<()>
-where
-    H: Host,
-    K: Clock,
-    D: Loader,
-    R: Wait + time::Clock,
-    requires shared { H.LENT ≡ false }
-    requires known { (conn : Conn) → (place : H.Place) → H.knows conn place }
+    requires { S.rests_on }
 {
     let mut doorway = doorway;
     doorway.register(poll.registry(), LISTENER)?;
     let mut events = Events::with_capacity(crew.alloc, EVENTS)?;
     let mut hall = Hall::new(crew.alloc, doorway);
     let waiting = (poll, &mut events);
-    let ended = turn_round(rt, host, place, tools, waiting, &mut hall, crew);
-    hall.end_all(host, place, tools, crew);
-    *crew.counts.lock(rt) = hall.counts();
+    let ended = turn_round(rt, steward, waiting, &mut hall, crew);
+    hall.end_all(steward, crew);
+    let counts = hall.counts(steward);
+    *crew.counts.lock(rt) = counts;
     ended
 }
 
 /// Waits for events and gives turns, until the loop ends.
-fn turn_round<H, K, D, R>(
+fn turn_round<S: Steward, R: Wait + time::Clock>(
     rt: &R,
-    host: &mut H,
-    place: &mut H::Place,
-    tools: &mut Tools<K, Counting<D>>,
+    steward: &mut S,
     waiting: (&mut Poll, &mut Events),
-    hall: &mut Hall,
+    hall: &mut Hall<S>,
     crew: &Crew,
 ) -> io::Result<()>
-where
-    H: Host,
-    K: Clock,
-    D: Loader,
-    R: Wait + time::Clock,
-    requires shared { H.LENT ≡ false }
-    requires known { (conn : Conn) → (place : H.Place) → H.knows conn place }
+    requires { S.rests_on }
 {
     let (poll, events) = waiting;
     let mut seconds = Seconds {
@@ -158,10 +137,10 @@ where
     let second = crew.rules.idle.map(|_| Duration::from_secs(1));
     for _wake in rt.forever() {
         poll.poll(events, shorter(hall.patience(), second))?;
-        hall.note_all(events);
+        hall.note_all(steward, events);
         let registry = poll.registry();
         let round = Round { rt, registry, crew };
-        work(host, place, tools, &round, hall, &mut seconds);
+        work(steward, &round, hall, &mut seconds);
         if hall.is_done() {
             return Ok(());
         }
@@ -170,24 +149,22 @@ where
 }
 
 /// Does what a wake-up asks for.
-fn work<H: Host, K: Clock, D: Loader, R: Wait + time::Clock>(
-    host: &mut H,
-    place: &mut H::Place,
-    tools: &mut Tools<K, Counting<D>>,
+fn work<S: Steward, R: Wait + time::Clock>(
+    steward: &mut S,
     round: &Round<'_, R>,
-    hall: &mut Hall,
+    hall: &mut Hall<S>,
     seconds: &mut Seconds,
 )
-    requires shared { H.LENT ≡ false }
-    requires known { (conn : Conn) → (place : H.Place) → H.knows conn place }
+    requires { S.rests_on }
 {
     hall.wake_waiting();
-    hall.accept_all(host, place, round);
-    hall.take_turns(host, place, tools, round);
+    hall.accept_all(steward, round);
+    hall.take_turns(steward, round);
     if let Some(idle) = round.crew.rules.idle {
         if seconds.passes(round.rt) {
-            hall.count_second(host, place, tools, round.crew, idle);
+            hall.count_second(steward, round.crew, idle);
         }
     }
-    *round.crew.counts.lock(round.rt) = hall.counts();
+    let counts = hall.counts(steward);
+    *round.crew.counts.lock(round.rt) = counts;
 }
