@@ -51,7 +51,7 @@ fn feed(
 ) -> (bool, bool) {
     let now = moment(rt);
     let mut service = shared.lock(rt);
-    let goes_on = service.feed(conn, piece, now);
+    let goes_on = service.feed(conn, piece, now).unwrap_or(false);
     let is_full = service.is_full(conn);
     service.take_output(conn, output);
     (goes_on, is_full)

@@ -5,6 +5,7 @@ use Rattle.memcache_model.specs.Answers.{answer}
 use Rattle.memcache_model.specs.Commands as model
 use Rattle.memcache_model.specs.Items.{Stock as Stocked}
 use Rattle.memcache_model.specs.Outcomes.{Outcome}
+use Rattle.memcache_service.proofs.Keeping.{stands}
 use Rattle.memcache_service.specs.Lines.{said_from}
 use Rattle.memcache_service.specs.Shelves.{IsMoment, Shelved, live_on}
 use Rattle.memcache_service.specs.Stocks.{Answers, Does, Leaves, LeavesRefused, Refuses, Serves, service_of, stock_at}
@@ -23,7 +24,7 @@ moved view moment all mid new old final left same uniques flush most = record {
 
 moved_refused : {T : Type 0} (view : T → Shelved) (moment : ℕ) (command : model.Command) (all : Stocked) (mid new old final : Stock T) → LeavesRefused view moment command all mid new → view final.shelf ≡ view new.shelf → final.uniques ≡ new.uniques → final.flush ≡ new.flush → final.most ≡ old.most → LeavesRefused view moment command all old final
 moved_refused view moment (model.gat told exptime keys) all mid new old final left same uniques flush most = (left.0, moved view moment _ mid new old final left.1 same uniques flush most)
-moved_refused view moment command all mid new old final left same uniques flush most = moved view moment all mid new old final left same uniques flush most
+moved_refused view moment command all mid new old final left same uniques flush most = stands view moment final new same uniques flush ∙ left
 
 -- a request, by the answer to its command behind a flush that was due
 pub served : {T : Type 0} (view : T → Shelved) (moment : ℕ) (request : model.Request) (all : Stocked) (old mid new final : Stock T) (before after written : List ℕ) (reply : Reply) → mid.most ≡ old.most → stock_at view moment mid ≡ all → Answers view moment request.command mid new before after reply → view final.shelf ≡ view new.shelf → final.uniques ≡ new.uniques → final.flush ≡ new.flush → final.most ≡ old.most

@@ -1,5 +1,6 @@
 mod Answering
 mod Cutting
+mod Feeding
 mod Finding
 mod Keeping
 mod Parting

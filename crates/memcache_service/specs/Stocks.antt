@@ -38,6 +38,13 @@ abbrev pub joins : List ℕ → Option Item → model.Stock → Outcome
 joins key None stock = says (codes "NOT_STORED\r\n") stock
 joins key (Some item) stock = stores (codes "STORED\r\n") key item stock
 
+-- nothing was changed but the key that was named, and what was counted
+pub record Spares {T : Type 0} (old new : Stock T) : Type 0 where
+  pub shelf : new.shelf ≡ old.shelf
+  pub uniques : new.uniques ≡ old.uniques
+  pub flush : new.flush ≡ old.flush
+  pub most : new.most ≡ old.most
+
 module _ {T : Type 0} (view : T → Shelved) where
   -- what it stands for at a moment, if no flush is due
   abbrev pub stock_at : ℕ → Stock T → model.Stock
@@ -80,13 +87,13 @@ module _ {T : Type 0} (view : T → Shelved) where
     flush = stock.flush;
   }
 
-  -- a command that is refused leaves all as it was, but that as many of the keys of a `gat` as it came to have their new deadline
+  -- a command that is refused leaves all exactly as it was, but that as many of the keys of a `gat` as it came to have their new deadline
   abbrev pub LeavesRefused : ℕ → Command → (all : model.Stock) → (old new : Stock T) → Type 0
   LeavesRefused moment (gat uniques exptime keys) all old new =
       (count : ℕ) × Leaves moment (record all {
         items = touched (deadline_of moment exptime) (take count keys) all.items;
       }) old new
-  LeavesRefused moment command all old new = Leaves moment all old new
+  LeavesRefused moment command all old new = stock_at moment new ≡ all
 
   -- there was no memory for a command
   pub record Refuses (moment : ℕ) (command : Command) (all : model.Stock) (old new : Stock T)

@@ -1,8 +1,10 @@
 //! A connection: the bytes that no request has used, and the replies that were not taken.
-ghost use Rattle.std.specs.Prelude.{◌≡◌, ◌≤◌, ◌-◌, ◌++◌, true, false, drop, length, vec_len};
+ghost use Rattle.std.specs.Prelude.{◌≡◌, ◌↔◌, ◌≤◌, ◌-◌, ◌++◌, ℕ, List, IfOk, IsOk, OnOk, OnErr, IsTrue, true, false, drop, length, vec_len};
 ghost use Rattle.memcache_lines.specs.Said.{asks};
-ghost use Rattle.memcache_service.specs.Serving.{AreServed, IsServed};
+ghost use Rattle.memcache_service.specs.Serving.{FailsToFeed, Feeds, HasLacked, HasRun, IsServed, ends_behind};
 ghost use Rattle.memcache_service.specs.Shelves.{IsMoment};
+ghost use Rattle.memcache_service.specs.Stocks.{Spares};
+ghost use Rattle.memcache_service.specs.Talking.{AreTaken, IsUnused};
 
 use crate::shelf::Shelf;
 use crate::stock::Stock;
@@ -30,7 +32,9 @@ pub struct Connection {
 
 impl Connection {
     /// A new one, which takes no memory.
-    pub fn new(alloc: Global) -> Connection {
+    pub fn new(alloc: Global) -> Connection
+        ensures { IsUnused result }
+    {
         Connection {
             alloc,
             input: Vec::new(alloc),
@@ -48,43 +52,83 @@ impl Connection {
     }
 
     /// Whether replies have to be taken before further requests run.
-    pub fn is_full(&self) -> bool {
+    pub fn is_full(&self) -> bool
+        ensures { IsTrue result ↔ 1048576 ≤ length self.now.output.items }
+    {
         self.output.len() >= MAX_OUTPUT
     }
 
     /// The replies that were not taken.
-    pub fn output(&self) -> &[u8] {
+    pub fn output(&self) -> &[u8]
+        ensures { result.now ≡ self.now.output.items }
+    {
         self.output.as_slice()
     }
 
     /// Moves the replies out, in exchange for an empty buffer.
-    pub fn take_output(&mut self, into: &mut Vec<u8>) {
+    pub fn take_output(&mut self, into: &mut Vec<u8>)
+        ensures taken { into.new.items ≡ self.old.output.items }
+        ensures left { AreTaken self.old self.new }
+    {
         into.clear();
         mem::swap(&mut self.output, into);
     }
 
     /// Takes a piece of bytes, and runs the requests that it completes. A request runs only while less than 1 MiB of replies wait; what is
     /// held back runs with a later piece, which may be empty.
-    pub fn feed<T: Shelf>(&mut self, stock: &mut Stock<T>, piece: &[u8], moment: u64)
+    ///
+    /// Returns an error if there was no memory: what ran before that has run, and the connection has ended.
+    pub fn feed<T: Shelf>(
+        &mut self,
+        stock: &mut Stock<T>,
+        piece: &[u8],
+        moment: u64,
+    ) -> Result<(), AllocError>
         requires { IsMoment (T.view stock.old.shelf) moment }
-        ensures served { self.new.is_closed ≡ false → AreServed T.view moment stock.old.most
-            stock.old (self.old.input.items ++ drop self.old.skip piece.now)
-            (self.old.skip - length piece.now) self.old.output.items stock.new
-            self.new.input.items self.new.skip self.new.output.items }
+        ensures feeds { self.old.is_closed ≡ false → OnOk result
+            (Feeds T.view moment piece.now self.old self.new stock.old stock.new) }
+        ensures lacks { OnErr result
+            (FailsToFeed T.view moment piece.now self.old self.new stock.old stock.new) }
         ensures closed { self.old.is_closed ≡ true
-            → (self.new ≡ self.old) × (stock.new ≡ stock.old) }
+            → IsOk result × (self.new ≡ self.old) × (stock.new ≡ stock.old) }
         ensures may_follow { IsMoment (T.view stock.new.shelf) moment }
     {
         if self.is_closed {
-            return;
+            return Ok(());
         }
+        match self.take_in(stock, piece, moment) {
+            Ok(()) => Ok(()),
+            Err(AllocError) => {
+                self.close();
+                Err(AllocError)
+            }
+        }
+    }
+
+    /// Takes a piece of bytes, and runs the requests that it completes, unless there is no memory for it.
+    fn take_in<T: Shelf>(
+        &mut self,
+        stock: &mut Stock<T>,
+        piece: &[u8],
+        moment: u64,
+    ) -> Result<(), AllocError>
+        requires in_time { IsMoment (T.view stock.old.shelf) moment }
+        requires going { self.old.is_closed ≡ false }
+        ensures feeds { OnOk result
+            (Feeds T.view moment piece.now self.old self.new stock.old stock.new) }
+        ensures lacks { OnErr result (HasLacked T.view moment stock.old.most stock.old
+            (self.old.input.items ++ drop self.old.skip piece.now)
+            (self.old.skip - length piece.now) self.old.output.items stock.new
+            self.new.output.items) }
+        ensures may_follow { IsMoment (T.view stock.new.shelf) moment }
+    {
         let piece = self.pass_over(piece);
         if self.input.is_empty() {
-            let used = self.run(stock, piece, moment);
-            self.keep(&piece[used..]);
+            let used = self.run(stock, piece, moment)?;
+            self.keep(&piece[used..])
         } else {
-            self.keep(piece);
-            self.run_kept(stock, moment);
+            self.input.extend_from_slice(piece)?;
+            self.run_kept(stock, moment)
         }
     }
 
@@ -98,47 +142,47 @@ impl Connection {
         &piece[count..]
     }
 
-    /// Keeps bytes for later. A connection for which there is no memory is closed.
-    fn keep(&mut self, bytes: &[u8])
-        ensures kept { self.new.is_closed ≡ false
-            → self.new.input.items ≡ self.old.input.items ++ bytes.now }
-        ensures rest { self.new.is_closed ≡ false → (self.old.is_closed ≡ false)
-            × (self.new.skip ≡ self.old.skip) × (self.new.output ≡ self.old.output) }
+    /// Keeps bytes for later, unless the connection has ended.
+    fn keep(&mut self, bytes: &[u8]) -> Result<(), AllocError>
+        ensures kept { OnOk result (self.old.is_closed ≡ false
+            → self.new.input.items ≡ self.old.input.items ++ bytes.now) }
+        ensures going { OnErr result (self.old.is_closed ≡ false) }
+        ensures rest { self.new ≡ record self.old { input = self.new.input } }
     {
         if self.is_closed {
-            return;
+            return Ok(());
         }
-        match self.input.extend_from_slice(bytes) {
-            Ok(()) => {}
-            Err(AllocError) => self.close(),
-        }
+        self.input.extend_from_slice(bytes)
     }
 
     /// Runs no further request.
     fn close(&mut self)
-        ensures { self.new.is_closed ≡ true }
+        ensures { self.new ≡ record self.old { is_closed = true; input = self.new.input } }
     {
         self.is_closed = true;
         self.input = Vec::new(self.alloc);
     }
 
     /// Runs the requests in the bytes that were kept.
-    fn run_kept<T: Shelf>(&mut self, stock: &mut Stock<T>, moment: u64)
-        requires { IsMoment (T.view stock.old.shelf) moment }
-        ensures served { self.new.is_closed ≡ false → AreServed T.view moment stock.old.most
-            stock.old self.old.input.items self.old.skip self.old.output.items stock.new
-            self.new.input.items self.new.skip self.new.output.items }
-        ensures closed { self.new.is_closed ≡ false → self.old.is_closed ≡ false }
+    fn run_kept<T: Shelf>(&mut self, stock: &mut Stock<T>, moment: u64) -> Result<(), AllocError>
+        requires in_time { IsMoment (T.view stock.old.shelf) moment }
+        requires going { self.old.is_closed ≡ false }
+        ensures ran { OnOk result ((left : List ℕ) × HasRun T.view moment stock.old.most stock.old
+            self.old.input.items self.old.skip self.old.output.items stock.new left self.new
+            × (self.new.is_closed ≡ false → self.new.input.items ≡ left)) }
+        ensures lacks { OnErr result (HasLacked T.view moment stock.old.most stock.old
+            self.old.input.items self.old.skip self.old.output.items stock.new
+            self.new.output.items) }
         ensures may_follow { IsMoment (T.view stock.new.shelf) moment }
     {
         let mut input = Vec::new(self.alloc);
         mem::swap(&mut self.input, &mut input);
-        let used = self.run(stock, input.as_slice(), moment);
-        if self.is_closed {
-            return;
+        let used = self.run(stock, input.as_slice(), moment)?;
+        if !self.is_closed {
+            drop_front(&mut input, used);
+            self.put_back(input);
         }
-        drop_front(&mut input, used);
-        self.put_back(input);
+        Ok(())
     }
 
     /// Keeps bytes whose requests ran, and gives back memory that is not needed.
@@ -154,55 +198,76 @@ impl Connection {
     }
 
     /// Runs the requests in the bytes, and returns how many bytes they took.
-    fn run<T: Shelf>(&mut self, stock: &mut Stock<T>, bytes: &[u8], moment: u64) -> usize
-        requires { IsMoment (T.view stock.old.shelf) moment }
-        ensures used { result ≤ length bytes.now }
-        ensures served { self.new.is_closed ≡ false → AreServed T.view moment stock.old.most
-            stock.old bytes.now self.old.skip self.old.output.items stock.new
-            (drop result bytes.now) self.new.skip self.new.output.items }
-        ensures kept { self.new.is_closed ≡ false
-            → (self.old.is_closed ≡ false) × (self.new.input ≡ self.old.input) }
+    fn run<T: Shelf>(
+        &mut self,
+        stock: &mut Stock<T>,
+        bytes: &[u8],
+        moment: u64,
+    ) -> Result<usize, AllocError>
+        requires in_time { IsMoment (T.view stock.old.shelf) moment }
+        requires going { self.old.is_closed ≡ false }
+        ensures used { IfOk result (λ used. used ≤ length bytes.now) }
+        ensures ran { IfOk result (λ used. HasRun T.view moment stock.old.most stock.old bytes.now
+            self.old.skip self.old.output.items stock.new (drop used bytes.now) self.new) }
+        ensures lacks { OnErr result (HasLacked T.view moment stock.old.most stock.old bytes.now
+            self.old.skip self.old.output.items stock.new self.new.output.items) }
+        ensures kept { self.new.input ≡ self.old.input }
         ensures may_follow { IsMoment (T.view stock.new.shelf) moment }
     {
         let mut start = 0;
-        while !self.is_closed && !self.is_full() && start < bytes.len() {
-            let Arrived::Request { request, used } = read_request(stock.most, &bytes[start..])
-            else {
-                break;
-            };
-            self.serve(stock, &request, moment);
-            let there = used.min(bytes.len() - start);
-            self.skip = used - there;
-            start += there;
+        while self.may_run() {
+            match read_request(stock.most, &bytes[start..]) {
+                Arrived::Part => return Ok(start),
+                Arrived::Request { request, used } => {
+                    self.serve(stock, &request, moment)?;
+                    let there = used.min(bytes.len() - start);
+                    self.skip = used - there;
+                    start += there;
+                }
+            }
         }
-        start
+        Ok(start)
+    }
+
+    /// Whether a further request runs, if one has arrived.
+    fn may_run(&self) -> bool
+        ensures going { result ≡ true → self.now.is_closed ≡ false }
+        ensures full { result ≡ false → self.now.is_closed ≡ false
+            → 1048576 ≤ length self.now.output.items }
+    {
+        !self.is_closed && !self.is_full()
     }
 
     /// Runs a request.
-    fn serve<T: Shelf>(&mut self, stock: &mut Stock<T>, request: &Request<'_>, moment: u64)
+    fn serve<T: Shelf>(
+        &mut self,
+        stock: &mut Stock<T>,
+        request: &Request<'_>,
+        moment: u64,
+    ) -> Result<(), AllocError>
         requires { IsMoment (T.view stock.old.shelf) moment }
-        ensures served { self.new.is_closed ≡ false → IsServed T.view moment (record {
+        ensures served { OnOk result (IsServed T.view moment (record {
           command = asks request.now.command;
           quiet = request.now.quiet;
-        }) stock.old stock.new self.old.output.items self.new.output.items }
-        ensures kept { self.new.is_closed ≡ false
-            → (self.old.is_closed ≡ false) × (self.new.input ≡ self.old.input) }
+        }) stock.old stock.new self.old.output.items self.new.output.items) }
+        ensures ended { OnOk result
+            (self.new.is_closed ≡ ends_behind (asks request.now.command)) }
+        ensures refused { OnErr result (Spares stock.old stock.new
+            × (self.new.output.items ≡ self.old.output.items)) }
+        ensures kept { self.new.input ≡ self.old.input }
         ensures may_follow { IsMoment (T.view stock.new.shelf) moment }
         ensures most { stock.new.most ≡ stock.old.most }
     {
-        match stock.serve(request, moment, &mut self.output) {
-            Ok(()) => {
-                if ends(&request.command) {
-                    self.close();
-                }
-            }
-            Err(AllocError) => self.close(),
-        }
+        stock.serve(request, moment, &mut self.output)?;
+        self.is_closed = ends(&request.command);
+        Ok(())
     }
 }
 
 /// Whether a connection ends behind a command.
-fn ends(command: &Command<'_>) -> bool {
+fn ends(command: &Command<'_>) -> bool
+    ensures { result ≡ ends_behind (asks command.now) }
+{
     match *command {
         Command::Quit | Command::Malformed(ProtocolError::TooLong) => true,
         _ => false,
@@ -214,6 +279,9 @@ fn drop_front(bytes: &mut Vec<u8>, count: usize)
     requires { count ≤ vec_len bytes.old }
     ensures { bytes.new.items ≡ drop count bytes.old.items }
 {
+    if count == 0 {
+        return;
+    }
     let len = bytes.len();
     bytes.as_mut_slice().copy_within(count..len, 0);
     bytes.truncate(len - count);

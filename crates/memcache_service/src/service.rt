@@ -1,11 +1,12 @@
 //! A service: a stock of items, and the connections that use it.
-ghost use Rattle.slab.specs.Slab.{get};
-ghost use Rattle.std.specs.Prelude.{◌≡◌, ◌≤◌, ◌<◌, ◌^◌, None, false, true};
-ghost use Rattle.memcache_service.specs.Serving.{HasFed};
+ghost use Rattle.slab.specs.Slab.{Updates, get};
+ghost use Rattle.std.specs.Prelude.{◌≡◌, ◌≢◌, ◌↔◌, ◌≤◌, ◌<◌, ◌^◌, ℕ, [], None, Ok, IfOk, IsTrue, MatchOption, OnErr, false, length};
+ghost use Rattle.memcache_service.specs.Serving.{FailsToFeed, HasFed, IsDoneFor};
+ghost use Rattle.memcache_service.specs.Talking.{HasOpened, HasTaken};
 ghost use Rattle.memcache_service.specs.Shelves.{IsMoment};
 
 use crate::connection::Connection;
-use crate::counters::Tally;
+use crate::counters::{Counters, Tally};
 use crate::shelf::Shelf;
 use crate::stock::{Setup, Stock};
 use slab::Slab;
@@ -31,6 +32,11 @@ impl<T: Shelf> Service<T> {
     /// Creates a service over a shelf, without connections. Returns an error if there is no memory for it.
     pub fn new(alloc: Global, shelf: T, setup: Setup, moment: u64) -> Result<Service<T>, AllocError>
         requires { IsMoment (T.view shelf) moment }
+        ensures shelf { IfOk result (λ made. made.stock.shelf ≡ shelf) }
+        ensures fresh { IfOk result (λ made. (made.stock.uniques ≡ 0) × (made.stock.flush ≡ None)
+            × (made.moment ≡ moment)) }
+        ensures most { IfOk result (λ made. made.stock.most ≡ setup.item_size) }
+        ensures none { IfOk result (λ made. (conn : ℕ) → get made.connections conn ≡ None) }
     {
         let stock = Stock::new(alloc, shelf, setup, moment)?;
         Ok(Service {
@@ -41,7 +47,10 @@ impl<T: Shelf> Service<T> {
     }
 
     /// Opens a connection, and returns its number, which no other open connection has. Returns an error if there is no memory for it.
-    pub fn open(&mut self) -> Result<Conn, AllocError> {
+    pub fn open(&mut self) -> Result<Conn, AllocError>
+        ensures opens { IfOk result (λ conn.
+            HasOpened conn self.old.connections self.new.connections) }
+    {
         let alloc = self.stock.alloc;
         let conn = self.connections.insert(Connection::new(alloc))?;
         self.stock.connections = self.connections.len() as u64;
@@ -50,20 +59,29 @@ impl<T: Shelf> Service<T> {
     }
 
     /// Closes a connection, if it is open. A later one may have its number.
-    pub fn close(&mut self, conn: Conn) {
+    pub fn close(&mut self, conn: Conn)
+        ensures closed { Updates self.old.connections self.new.connections conn None }
+        ensures same { (self.new.moment ≡ self.old.moment) × (self.new.stock
+            ≡ record self.old.stock { connections = self.new.stock.connections }) }
+    {
         let _ = self.connections.try_remove(conn);
         self.stock.connections = self.connections.len() as u64;
     }
 
-    /// Feeds a connection a piece of bytes at a moment, and runs the requests that it completes. Returns false if the connection has ended:
-    /// its replies are to be taken, and then it is to be closed.
-    pub fn feed(&mut self, conn: Conn, piece: &[u8], moment: u64) -> bool
-        ensures served { result ≡ true → HasFed T.view self.new.moment conn piece.now
-            self.old.connections self.new.connections self.old.stock self.new.stock }
-        ensures later { self.old.moment ≤ self.new.moment }
+    /// Feeds a connection a piece of bytes at a moment, and runs the requests that it completes. Returns false if the connection has ended,
+    /// behind a `quit` or a line that is too long, and an error if it has ended since there was no memory. Then its replies are to be taken,
+    /// and it is to be closed.
+    pub fn feed(&mut self, conn: Conn, piece: &[u8], moment: u64) -> Result<bool, AllocError>
+        ensures feeds { get self.old.connections conn ≢ None → IfOk result (λ goes_on.
+            IsDoneFor conn (HasFed T.view self.new.moment piece.now goes_on)
+            self.old.connections self.new.connections self.old.stock self.new.stock) }
+        ensures lacks { OnErr result
+            (IsDoneFor conn (FailsToFeed T.view self.new.moment piece.now)
+            self.old.connections self.new.connections self.old.stock self.new.stock) }
         ensures absent { get self.old.connections conn ≡ None
-            → (result ≡ false) × (self.new.connections ≡ self.old.connections)
+            → (result ≡ Ok false) × (self.new.connections ≡ self.old.connections)
             × (self.new.stock ≡ self.old.stock) }
+        ensures later { self.old.moment ≤ self.new.moment }
     {
         let now = later(self.moment, moment);
         match self.connections.get_mut(conn) {
@@ -71,24 +89,45 @@ impl<T: Shelf> Service<T> {
                 self.stock
                     .counters
                     .add(Tally::BytesRead, piece.len() as u64);
-                connection.feed(&mut self.stock, piece, now);
+                let fed = connection.feed(&mut self.stock, piece, now);
                 self.moment = now;
-                !connection.is_closed()
+                match fed {
+                    Ok(()) => Ok(!connection.is_closed()),
+                    Err(AllocError) => Err(AllocError),
+                }
             }
-            None => false,
+            None => Ok(false),
         }
     }
 
     /// Whether requests of a connection are held back until its replies are taken: then it is to be fed, if only an empty piece.
-    pub fn is_full(&self, conn: Conn) -> bool {
+    pub fn is_full(&self, conn: Conn) -> bool
+        ensures { MatchOption (get self.now.connections conn) (result ≡ false) (λ connection.
+            IsTrue result ↔ 1048576 ≤ length connection.output.items) }
+    {
         match self.connections.get(conn) {
             Some(connection) => connection.is_full(),
             None => false,
         }
     }
 
+    /// What was counted.
+    pub fn counters(&self) -> &Counters
+        ensures { result.now ≡ self.now.stock.counters }
+    {
+        &self.stock.counters
+    }
+
     /// Moves the replies of a connection out, in exchange for what `into` has as memory.
-    pub fn take_output(&mut self, conn: Conn, into: &mut Vec<u8>) {
+    pub fn take_output(&mut self, conn: Conn, into: &mut Vec<u8>)
+        ensures takes { get self.old.connections conn ≢ None
+            → IsDoneFor conn (HasTaken into.new.items) self.old.connections self.new.connections
+            self.old.stock self.new.stock }
+        ensures absent { get self.old.connections conn ≡ None
+            → (into.new.items ≡ []) × (self.new.connections ≡ self.old.connections)
+            × (self.new.stock ≡ self.old.stock) }
+        ensures same { self.new.moment ≡ self.old.moment }
+    {
         into.clear();
         if let Some(connection) = self.connections.get_mut(conn) {
             connection.take_output(into);

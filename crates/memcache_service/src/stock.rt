@@ -5,7 +5,7 @@ ghost use Rattle.memcache_model.specs.Answers.{answer};
 ghost use Rattle.memcache_model.specs.Items.{live_at, nothing};
 ghost use Rattle.memcache_service.specs.Lines.{reply_text, said_from};
 ghost use Rattle.memcache_service.specs.Shelves.{IsMoment};
-ghost use Rattle.memcache_service.specs.Stocks.{Answers, Does, Keeps, Leaves, Serves, is_short, kept, service_of, stock_at};
+ghost use Rattle.memcache_service.specs.Stocks.{Answers, Does, Leaves, Serves, Spares, is_short, kept, service_of, stock_at};
 
 use crate::counters::{Counters, Tally};
 use crate::replies::{Reply, SHORT};
@@ -92,7 +92,7 @@ impl<T: Shelf> Stock<T> {
             (live_at moment (kept T.view moment self.old))
             (record { command = asks request.now.command; quiet = request.now.quiet })
             self.old self.new output.old.items output.new.items) }
-        ensures refused { OnErr result (Keeps T.view moment self.old self.new
+        ensures refused { OnErr result (Spares self.old self.new
             × (output.new.items ≡ output.old.items)) }
         ensures may_follow { IsMoment (T.view self.new.shelf) moment }
         ensures most { self.new.most ≡ self.old.most }
@@ -111,7 +111,7 @@ impl<T: Shelf> Stock<T> {
         requires { IsMoment (T.view self.old.shelf) moment }
         ensures ok { OnOk result (stock_at T.view moment self.new
             ≡ live_at moment (kept T.view moment self.old)) }
-        ensures err { OnErr result (Keeps T.view moment self.old self.new) }
+        ensures err { OnErr result (Spares self.old self.new) }
         ensures may_follow { IsMoment (T.view self.new.shelf) moment }
         ensures most { self.new.most ≡ self.old.most }
     {
@@ -133,7 +133,7 @@ impl<T: Shelf> Stock<T> {
         ensures ok { OnOk result (Leaves T.view moment
             (record (stock_at T.view moment self.old) { items = nothing; flush = None }) self.old
             self.new) }
-        ensures err { OnErr result (Keeps T.view moment self.old self.new) }
+        ensures err { OnErr result (Spares self.old self.new) }
         ensures may_follow { IsMoment (T.view self.new.shelf) moment }
         ensures most { self.new.most ≡ self.old.most }
     {
@@ -190,7 +190,7 @@ impl<T: Shelf> Stock<T> {
         ensures ok { IfOk result (λ reply. is_short (asks command.now) ≡ true → Does T.view moment
             (answer (service_of self.old.most (reply_text reply)) moment (asks command.now)
             (stock_at T.view moment self.old)) self.old self.new (reply_text reply)) }
-        ensures err { OnErr result (Keeps T.view moment self.old self.new) }
+        ensures err { OnErr result (Spares self.old self.new) }
         ensures may_follow { IsMoment (T.view self.new.shelf) moment }
         ensures most { self.new.most ≡ self.old.most }
     {

@@ -2,6 +2,10 @@
 #![tactic(auto)]
 
 #[cfg(test)]
+mod connections;
+#[cfg(test)]
+mod links;
+#[cfg(test)]
 mod playing;
 #[cfg(test)]
 mod rows;

@@ -10,10 +10,10 @@ use std::alloc::{AllocError, Global};
 pub type Row = (u64, &'static [u8], &'static [u8]);
 
 /// A service over a lent cache.
-type Served = Service<LentShelf<StdHasher>>;
+pub type Served = Service<LentShelf<StdHasher>>;
 
 /// The moment of the first row: Unix time in milliseconds.
-const START: u64 = 1_700_000_000_000;
+pub const START: u64 = 1_700_000_000_000;
 
 /// 64 MiB, and data blocks of at most 1 MiB.
 pub const LARGE: Setup = Setup {
@@ -22,7 +22,7 @@ pub const LARGE: Setup = Setup {
 };
 
 /// A service at the moment of the first row.
-fn service(alloc: Global, setup: Setup) -> Result<Served, AllocError> {
+pub fn service(alloc: Global, setup: Setup) -> Result<Served, AllocError> {
     let shelf = LentShelf::new(
         alloc,
         setup.capacity,
@@ -46,7 +46,7 @@ fn feed(
 {
     let mut output = Vec::new(*told.allocator());
     for piece in bytes.chunks(cut) {
-        service.feed(conn, piece, moment);
+        service.feed(conn, piece, moment)?;
         service.take_output(conn, &mut output);
         told.extend_from_slice(output.as_slice())?;
     }
@@ -85,7 +85,8 @@ pub fn all_right(alloc: Global, setup: Setup, rows: &[Row]) -> bool {
 /// What a new connection is told.
 fn ask(service: &mut Served, sent: &[u8], told: &mut Vec<u8>) -> Result<(), AllocError> {
     let conn = service.open()?;
-    service.feed(conn, sent, START);
+    // One that ends for want of memory is told nothing.
+    let _ = service.feed(conn, sent, START);
     service.take_output(conn, told);
     service.close(conn);
     Ok(())

@@ -4,7 +4,7 @@ ghost use Rattle.memcache_model.specs.Answers.{counts, deletes, flushes, touches
 ghost use Rattle.memcache_model.specs.Items.{deadline_of};
 ghost use Rattle.memcache_model.specs.Outcomes.{counted};
 ghost use Rattle.memcache_service.specs.Shelves.{IsMoment};
-ghost use Rattle.memcache_service.specs.Stocks.{Does, Keeps, stock_at};
+ghost use Rattle.memcache_service.specs.Stocks.{Does, Spares, stock_at};
 ghost use Rattle.memcache_service.specs.Lines.{reply_text};
 
 use super::Stock;
@@ -23,7 +23,7 @@ impl<T: Shelf> Stock<T> {
         ensures ok { IfOk result (λ reply. Does T.view moment (deletes key.now
             ((stock_at T.view moment self.old).items key.now) (stock_at T.view moment self.old))
             self.old self.new (reply_text reply)) }
-        ensures err { OnErr result (Keeps T.view moment self.old self.new) }
+        ensures err { OnErr result (Spares self.old self.new) }
     {
         self.key.fill(key)?;
         if self.shelf.peek(&self.key, moment).is_none() {
@@ -47,7 +47,7 @@ impl<T: Shelf> Stock<T> {
         ensures ok { IfOk result (λ reply. Does T.view moment (counts direction key.now delta
             ((stock_at T.view moment self.old).items key.now) (stock_at T.view moment self.old))
             self.old self.new (reply_text reply)) }
-        ensures err { OnErr result (Keeps T.view moment self.old self.new) }
+        ensures err { OnErr result (Spares self.old self.new) }
     {
         self.key.fill(key)?;
         let Some(item) = self.shelf.peek(&self.key, moment) else {
@@ -70,7 +70,7 @@ impl<T: Shelf> Stock<T> {
         ensures ok { IfOk result (λ reply. Does T.view moment (touches_one key.now
             (deadline_of moment exptime) ((stock_at T.view moment self.old).items key.now)
             (stock_at T.view moment self.old)) self.old self.new (reply_text reply)) }
-        ensures err { OnErr result (Keeps T.view moment self.old self.new) }
+        ensures err { OnErr result (Spares self.old self.new) }
     {
         self.key.fill(key)?;
         let deadline = deadline_of(moment, exptime);
@@ -82,7 +82,7 @@ impl<T: Shelf> Stock<T> {
         requires { IsMoment (T.view self.old.shelf) moment }
         ensures ok { IfOk result (λ reply. Does T.view moment (flushes moment exptime
             (stock_at T.view moment self.old)) self.old self.new (reply_text reply)) }
-        ensures err { OnErr result (Keeps T.view moment self.old self.new) }
+        ensures err { OnErr result (Spares self.old self.new) }
     {
         self.counters.up(Tally::CmdFlush);
         match exptime {

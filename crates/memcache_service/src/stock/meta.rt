@@ -7,7 +7,7 @@ ghost use Rattle.memcache_model.specs.Meta.{code_alone, code_with, flags_fault, 
 ghost use Rattle.memcache_model.specs.Outcomes.{changes};
 ghost use Rattle.memcache_service.specs.Lines.{said_from};
 ghost use Rattle.memcache_service.specs.Shelves.{IsMoment, live_on};
-ghost use Rattle.memcache_service.specs.Stocks.{Does, Keeps, Leaves, stock_at};
+ghost use Rattle.memcache_service.specs.Stocks.{Does, Leaves, Spares, stock_at};
 ghost use Rattle.memcache_service.specs.Told.{found_item, late_by, moded, told_found};
 
 use super::Stock;
@@ -80,7 +80,7 @@ impl<T: Shelf> Stock<T> {
             (meta_answer moment kind key.now (tokens flags.now)
             ((stock_at T.view moment self.old).items key.now) (stock_at T.view moment self.old))
             self.old self.new (said_from (length output.old.items) output.new.items reply)) }
-        ensures err { OnErr result (Keeps T.view moment self.old self.new) }
+        ensures err { OnErr result (Spares self.old self.new) }
         ensures begun { take (length output.old.items) output.new.items ≡ output.old.items }
         ensures capacity { vec_capacity output.old ≤ vec_capacity output.new }
     {
@@ -107,7 +107,7 @@ impl<T: Shelf> Stock<T> {
             block.now ((stock_at T.view moment self.old).items key.now)
             (stock_at T.view moment self.old))
             self.old self.new (said_from (length output.old.items) output.new.items reply)) }
-        ensures err { OnErr result (Keeps T.view moment self.old self.new) }
+        ensures err { OnErr result (Spares self.old self.new) }
         ensures begun { take (length output.old.items) output.new.items ≡ output.old.items }
         ensures capacity { vec_capacity output.old ≤ vec_capacity output.new }
     {
@@ -123,7 +123,7 @@ impl<T: Shelf> Stock<T> {
             (tokens asked.entry.flags.now)
             ((stock_at T.view asked.entry.moment self.old).items asked.entry.key.now) (stock_at T.view asked.entry.moment self.old))
             self.old self.new (said_from (length output.old.items) output.new.items reply)) }
-        ensures err { OnErr result (Keeps T.view asked.entry.moment self.old self.new) }
+        ensures err { OnErr result (Spares self.old self.new) }
         ensures begun { take (length output.old.items) output.new.items ≡ output.old.items }
         ensures capacity { vec_capacity output.old ≤ vec_capacity output.new }
     {
@@ -150,7 +150,7 @@ impl<T: Shelf> Stock<T> {
             (live_on (T.view self.old.shelf) moment self.old.key ≡ Some found) (λ c. c ≡ found)
             → OnOk result (Leaves T.view moment (changes [] self.old.key (Some found)
             (stock_at T.view moment self.old)).stock self.old self.new) }
-        ensures err { OnErr result (Keeps T.view moment self.old self.new) }
+        ensures err { OnErr result (Spares self.old self.new) }
     {
         match changed {
             Some(item) => self.shelf.put(&self.key, item, moment),
@@ -169,7 +169,7 @@ impl<T: Shelf> Stock<T> {
             (meta_get asked.entry.moment self.old.key
             (tokens asked.entry.flags.now) None (stock_at T.view asked.entry.moment self.old))
             self.old self.new (said_from (length output.old.items) output.new.items reply)) }
-        ensures err { OnErr result (Keeps T.view asked.entry.moment self.old self.new) }
+        ensures err { OnErr result (Spares self.old self.new) }
         ensures begun { take (length output.old.items) output.new.items ≡ output.old.items }
         ensures capacity { vec_capacity output.old ≤ vec_capacity output.new }
     {
@@ -195,7 +195,7 @@ impl<T: Shelf> Stock<T> {
             (meta_get_none asked.entry.moment self.old.key (tokens asked.entry.flags.now)
             (Some exptime) (stock_at T.view asked.entry.moment self.old))
             self.old self.new (said_from (length output.old.items) output.new.items reply)) }
-        ensures err { OnErr result (Keeps T.view asked.entry.moment self.old self.new) }
+        ensures err { OnErr result (Spares self.old self.new) }
         ensures begun { take (length output.old.items) output.new.items ≡ output.old.items }
         ensures capacity { vec_capacity output.old ≤ vec_capacity output.new }
     {
@@ -228,7 +228,7 @@ impl<T: Shelf> Stock<T> {
             (tokens asked.entry.flags.now)
             ((stock_at T.view asked.entry.moment self.old).items asked.entry.key.now) (stock_at T.view asked.entry.moment self.old))
             self.old self.new (said_from (length output.old.items) output.new.items reply)) }
-        ensures err { OnErr result (Keeps T.view asked.entry.moment self.old self.new) }
+        ensures err { OnErr result (Spares self.old self.new) }
         ensures begun { take (length output.old.items) output.new.items ≡ output.old.items }
         ensures capacity { vec_capacity output.old ≤ vec_capacity output.new }
     {
@@ -268,7 +268,7 @@ impl<T: Shelf> Stock<T> {
             (tokens asked.entry.flags.now)
             ((stock_at T.view asked.entry.moment self.old).items asked.entry.key.now) (stock_at T.view asked.entry.moment self.old))
             self.old self.new (said_from (length output.old.items) output.new.items reply)) }
-        ensures err { OnErr result (Keeps T.view asked.entry.moment self.old self.new) }
+        ensures err { OnErr result (Spares self.old self.new) }
         ensures begun { take (length output.old.items) output.new.items ≡ output.old.items }
         ensures capacity { vec_capacity output.old ≤ vec_capacity output.new }
     {
@@ -301,7 +301,7 @@ impl<T: Shelf> Stock<T> {
             (meta_arithmetic asked.entry.moment self.old.key
             (tokens asked.entry.flags.now) None (stock_at T.view asked.entry.moment self.old))
             self.old self.new (said_from (length output.old.items) output.new.items reply)) }
-        ensures err { OnErr result (Keeps T.view asked.entry.moment self.old self.new) }
+        ensures err { OnErr result (Spares self.old self.new) }
         ensures begun { take (length output.old.items) output.new.items ≡ output.old.items }
         ensures capacity { vec_capacity output.old ≤ vec_capacity output.new }
     {
@@ -328,7 +328,7 @@ impl<T: Shelf> Stock<T> {
             (meta_counted asked.entry.moment self.old.key
             (tokens asked.entry.flags.now) item (stock_at T.view asked.entry.moment self.old))
             self.old self.new (said_from (length output.old.items) output.new.items reply)) }
-        ensures err { OnErr result (Keeps T.view asked.entry.moment self.old self.new) }
+        ensures err { OnErr result (Spares self.old self.new) }
         ensures begun { take (length output.old.items) output.new.items ≡ output.old.items }
         ensures capacity { vec_capacity output.old ≤ vec_capacity output.new }
     {
@@ -350,7 +350,7 @@ impl<T: Shelf> Stock<T> {
             (tokens asked.entry.flags.now) block.now
             ((stock_at T.view asked.entry.moment self.old).items asked.entry.key.now) (stock_at T.view asked.entry.moment self.old))
             self.old self.new (said_from (length output.old.items) output.new.items reply)) }
-        ensures err { OnErr result (Keeps T.view asked.entry.moment self.old self.new) }
+        ensures err { OnErr result (Spares self.old self.new) }
         ensures begun { take (length output.old.items) output.new.items ≡ output.old.items }
         ensures capacity { vec_capacity output.old ≤ vec_capacity output.new }
     {
@@ -381,7 +381,7 @@ impl<T: Shelf> Stock<T> {
             (meta_item asked.entry.moment
             (tokens asked.entry.flags.now) block.now) ((stock_at T.view asked.entry.moment self.old).items self.old.key) (stock_at T.view asked.entry.moment self.old))
             self.old self.new (said_from (length output.old.items) output.new.items reply)) }
-        ensures err { OnErr result (Keeps T.view asked.entry.moment self.old self.new) }
+        ensures err { OnErr result (Spares self.old self.new) }
         ensures begun { take (length output.old.items) output.new.items ≡ output.old.items }
         ensures capacity { vec_capacity output.old ≤ vec_capacity output.new }
     {
@@ -417,7 +417,7 @@ impl<T: Shelf> Stock<T> {
             (meta_item asked.entry.moment
             (tokens asked.entry.flags.now) block.now) ((stock_at T.view asked.entry.moment self.old).items self.old.key) (stock_at T.view asked.entry.moment self.old))
             self.old self.new (said_from (length output.old.items) output.new.items reply)) }
-        ensures err { OnErr result (Keeps T.view asked.entry.moment self.old self.new) }
+        ensures err { OnErr result (Spares self.old self.new) }
         ensures begun { take (length output.old.items) output.new.items ≡ output.old.items }
         ensures capacity { vec_capacity output.old ≤ vec_capacity output.new }
     {
@@ -442,7 +442,7 @@ impl<T: Shelf> Stock<T> {
             (meta_stored asked.entry.moment self.old.key
             (tokens asked.entry.flags.now) item (stock_at T.view asked.entry.moment self.old))
             self.old self.new (said_from (length output.old.items) output.new.items reply)) }
-        ensures err { OnErr result (Keeps T.view asked.entry.moment self.old self.new) }
+        ensures err { OnErr result (Spares self.old self.new) }
         ensures begun { take (length output.old.items) output.new.items ≡ output.old.items }
         ensures capacity { vec_capacity output.old ≤ vec_capacity output.new }
     {

@@ -5,7 +5,7 @@ ghost use Rattle.memcache_model.specs.Bytes.{tokens};
 ghost use Rattle.memcache_model.specs.Items.{deadline_of};
 ghost use Rattle.memcache_model.specs.Replies.{values_text};
 ghost use Rattle.memcache_service.specs.Shelves.{IsMoment, live_on};
-ghost use Rattle.memcache_service.specs.Stocks.{Does, Keeps, Touches, stock_at};
+ghost use Rattle.memcache_service.specs.Stocks.{Does, Keeps, Spares, Touches, stock_at};
 ghost use Rattle.memcache_service.specs.Lines.{reply_text};
 
 use super::Stock;
@@ -37,6 +37,7 @@ impl<T: Shelf> Stock<T> {
         ensures begun { take (length output.old.items) output.new.items ≡ output.old.items }
         ensures capacity { vec_capacity output.old ≤ vec_capacity output.new }
         ensures keeps { Keeps T.view moment self.old self.new }
+        ensures err { OnErr result (Spares self.old self.new) }
     {
         say_live(&self.shelf, &mut self.key, uniques, keys, moment, output)?;
         self.use_all(keys, moment);
@@ -130,7 +131,7 @@ impl<T: Shelf> Stock<T> {
         ensures ok { IfOk result (λ reply. Does T.view moment (touches_one self.old.key deadline
             ((stock_at T.view moment self.old).items self.old.key) (stock_at T.view moment self.old))
             self.old self.new (reply_text reply)) }
-        ensures err { OnErr result (Keeps T.view moment self.old self.new) }
+        ensures err { OnErr result (Spares self.old self.new) }
     {
         self.counters.up(Tally::CmdTouch);
         let Some(old) = self.shelf.peek(&self.key, moment) else {

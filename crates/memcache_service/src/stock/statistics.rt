@@ -1,7 +1,6 @@
 //! `stats`.
 ghost use Rattle.std.specs.Prelude.{◌≡◌, ◌≤◌, length, take, vec_capacity};
-ghost use Rattle.memcache_service.specs.Shelves.{IsMoment};
-ghost use Rattle.memcache_service.specs.Stocks.{Keeps};
+ghost use Rattle.memcache_service.specs.Stocks.{Spares};
 
 use super::Stock;
 use crate::counters::Counters;
@@ -18,8 +17,7 @@ impl<T: Shelf> Stock<T> {
         moment: u64,
         output: &mut Vec<u8>,
     ) -> Result<Reply, AllocError>
-        requires { IsMoment (T.view self.old.shelf) moment }
-        ensures keeps { Keeps T.view moment self.old self.new }
+        ensures spares { Spares self.old self.new }
         ensures begun { take (length output.old.items) output.new.items ≡ output.old.items }
         ensures capacity { vec_capacity output.old ≤ vec_capacity output.new }
     {

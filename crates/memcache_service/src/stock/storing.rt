@@ -4,7 +4,7 @@ ghost use Rattle.memcache_model.specs.Answers.{passes_over, store_over};
 ghost use Rattle.memcache_model.specs.Outcomes.{new_item, stores};
 ghost use Rattle.memcache_model.specs.Items.{deadline_of};
 ghost use Rattle.memcache_service.specs.Shelves.{IsMoment};
-ghost use Rattle.memcache_service.specs.Stocks.{Does, Keeps, Leaves, block_item, joins, stock_at};
+ghost use Rattle.memcache_service.specs.Stocks.{Does, Leaves, Spares, block_item, joins, stock_at};
 ghost use Rattle.memcache_service.specs.Lines.{reply_text};
 
 use super::Stock;
@@ -49,7 +49,7 @@ impl<T: Shelf> Stock<T> {
             key.now (new_item bytes.now flags (deadline_of moment exptime))
             ((stock_at T.view moment self.old).items key.now) (stock_at T.view moment self.old))
             self.old self.new (reply_text reply)) }
-        ensures err { OnErr result (Keeps T.view moment self.old self.new) }
+        ensures err { OnErr result (Spares self.old self.new) }
     {
         self.counters.up(Tally::CmdSet);
         self.key.fill(key)?;
@@ -77,7 +77,7 @@ impl<T: Shelf> Stock<T> {
             self.old.key (block_item block.entry)
             ((stock_at T.view moment self.old).items self.old.key) (stock_at T.view moment self.old))
             self.old self.new (reply_text reply)) }
-        ensures err { OnErr result (Keeps T.view moment self.old self.new) }
+        ensures err { OnErr result (Spares self.old self.new) }
     {
         match storage {
             Storage::Set => self.put_block(block, moment),
@@ -101,8 +101,7 @@ impl<T: Shelf> Stock<T> {
         ensures ok { IfOk result (λ reply. (reply ≡ Reply.Stored) × Leaves T.view moment
             (stores [] self.old.key (block_item block.entry) (stock_at T.view moment self.old)).stock
             self.old self.new) }
-        ensures err { OnErr result (Keeps T.view moment self.old self.new) }
-        ensures same { OnErr result (self.new.shelf ≡ self.old.shelf) }
+        ensures err { OnErr result (Spares self.old self.new) }
     {
         let item = block.item(self.alloc)?;
         self.put(item, moment)?;
@@ -116,8 +115,7 @@ impl<T: Shelf> Stock<T> {
         ensures ok { OnOk result (Leaves T.view moment
             (stores [] self.old.key item (stock_at T.view moment self.old)).stock self.old
             self.new) }
-        ensures err { OnErr result (Keeps T.view moment self.old self.new) }
-        ensures same { OnErr result (self.new.shelf ≡ self.old.shelf) }
+        ensures err { OnErr result (Spares self.old self.new) }
     {
         let Some(unique) = self.uniques.checked_add(1) else {
             return Err(AllocError);
@@ -135,7 +133,7 @@ impl<T: Shelf> Stock<T> {
             Storage.Append self.old.key (block_item block.entry)
             ((stock_at T.view moment self.old).items self.old.key) (stock_at T.view moment self.old))
             self.old self.new (reply_text reply)) }
-        ensures err { OnErr result (Keeps T.view moment self.old self.new) }
+        ensures err { OnErr result (Spares self.old self.new) }
     {
         match self.shelf.peek(&self.key, moment) {
             Some(old) => {
@@ -153,7 +151,7 @@ impl<T: Shelf> Stock<T> {
             Storage.Prepend self.old.key (block_item block.entry)
             ((stock_at T.view moment self.old).items self.old.key) (stock_at T.view moment self.old))
             self.old self.new (reply_text reply)) }
-        ensures err { OnErr result (Keeps T.view moment self.old self.new) }
+        ensures err { OnErr result (Spares self.old self.new) }
     {
         match self.shelf.peek(&self.key, moment) {
             Some(old) => {
@@ -169,7 +167,7 @@ impl<T: Shelf> Stock<T> {
         requires { IsMoment (T.view self.old.shelf) moment }
         ensures ok { IfOk result (λ reply. Does T.view moment (joins self.old.key item
             (stock_at T.view moment self.old)) self.old self.new (reply_text reply)) }
-        ensures err { OnErr result (Keeps T.view moment self.old self.new) }
+        ensures err { OnErr result (Spares self.old self.new) }
     {
         match item {
             Some(item) => {
@@ -187,7 +185,7 @@ impl<T: Shelf> Stock<T> {
             (Storage.Cas unique) self.old.key (block_item block.entry)
             ((stock_at T.view moment self.old).items self.old.key) (stock_at T.view moment self.old))
             self.old self.new (reply_text reply)) }
-        ensures err { OnErr result (Keeps T.view moment self.old self.new) }
+        ensures err { OnErr result (Spares self.old self.new) }
     {
         let Some(item) = self.shelf.peek(&self.key, moment) else {
             self.counters.up(Tally::CasMisses);
@@ -211,7 +209,7 @@ impl<T: Shelf> Stock<T> {
         requires { IsMoment (T.view self.old.shelf) moment }
         ensures ok { IfOk result (λ reply. Does T.view moment (passes_over storage key.now
             (stock_at T.view moment self.old)) self.old self.new (reply_text reply)) }
-        ensures err { OnErr result (Keeps T.view moment self.old self.new) }
+        ensures err { OnErr result (Spares self.old self.new) }
     {
         self.counters.up(Tally::CmdSet);
         match storage {

@@ -3,5 +3,5 @@ use Rattle.memcache_service.proofs.Cutting.{served-more}
 use Rattle.memcache_service.proofs.laws.cuts_serve_alike.Goals as goal
 
 pub returns : goal.returns
-returns g c = λ moment most first new bytes more left before after were.
-    served-more g.T.Shelf.view moment most first before bytes more new left 0 after were refl
+returns g c = λ moment most first new bytes more left before after ends were.
+    served-more g.T.Shelf.view moment most first before bytes more new left 0 after ends were refl

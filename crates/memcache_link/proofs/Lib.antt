@@ -1,0 +1,2 @@
+mod Exchanging
+mod Serving
