@@ -1,7 +1,7 @@
 //! A predicate that one segment of a shared cache refuses.
 mod numbers;
 
-use crate::caches::make_dial;
+use crate::caches::{Moments, Play, Stage, make_dial, passes};
 use crate::covering::numbers::{HasValue, Itself, Turning};
 use moka_sync::{
     Build, BuildError, Bundle, CacheBuilder, CacheError, Dial, DialEnv, NoExpiry, SegmentedCache,
@@ -62,28 +62,30 @@ fn cover<H: Wait>(rt: &H, cache: &Halves, value: u64) -> Result<(), CacheError> 
     }
 }
 
-/// Whether the segments draw different identifiers for the first predicate; the second segment can draw none but its own for the next
-/// one, which is then in neither.
-fn keeps_all_or_none<H: Wait>(rt: &H, cache: &Halves) -> bool {
-    keeps_both(rt, cache)
-        && cover(rt, cache, 9) == Ok(())
-        && cover(rt, cache, VALUE) == Err(CacheError::IdsInUse)
-        && shows_both(rt, cache)
-        && cache.next_notice(rt).is_none()
-}
+/// The segments draw different identifiers for the first predicate; the second segment can draw none but its own for the next one, which is
+/// then in neither.
+struct Drawing;
 
-/// The same of a new cache.
-fn passes_anew<H: Wait>(rt: &H, alloc: Global) -> bool {
-    match make_dial(alloc) {
-        Some(dial) => match make_halves(alloc, dial) {
-            Ok(cache) => keeps_all_or_none(rt, &cache),
-            Err(_) => false,
-        },
-        None => false,
+impl<H: Wait> Play<H> for Drawing {
+    type Cache = Halves;
+
+    fn make(&self, _rt: &H, alloc: Global, _moments: Moments) -> Result<Halves, BuildError> {
+        match make_dial(alloc) {
+            Some(dial) => make_halves(alloc, dial),
+            None => Err(BuildError::OutOfMemory),
+        }
+    }
+
+    fn plays(&self, rt: &H, _alloc: Global, stage: &Stage<Halves>) -> bool {
+        keeps_both(rt, &stage.cache)
+            && cover(rt, &stage.cache, 9) == Ok(())
+            && cover(rt, &stage.cache, VALUE) == Err(CacheError::IdsInUse)
+            && shows_both(rt, &stage.cache)
+            && stage.cache.next_notice(rt).is_none()
     }
 }
 
 #[test]
 fn a_predicate_is_in_all_segments_or_in_none(rt: HostRuntime) {
-    assert!(rt; passes_anew(&rt, rt.alloc()) || passes_anew(&rt, rt.alloc()));
+    assert!(rt; passes(&rt, rt.alloc(), &Drawing));
 }

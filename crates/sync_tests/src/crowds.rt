@@ -1,5 +1,6 @@
 //! Calls of four threads.
 use crate::caches::{Stage, each_says_yes, wait_for_readings};
+use crate::entries::{Choice, Choosing, Shown};
 use crate::forms::{Form, Staged};
 use crate::numbers::Numbers;
 use crate::rows::{gets, inserts, invalidates, runs};
@@ -31,10 +32,13 @@ fn make<T>(shared: &Stage<T>, readings: u64) -> u64 {
     }
 }
 
-/// Counts a key up 25 times.
+/// A key is counted up.
+const COUNTED_SLOWLY: &[Choosing] = &[Choosing(Choice::CountSlowly(2), Shown::Put)];
+
+/// Counts it up 25 times.
 fn counts_25<H: Wait + Copy, T: Staged>(rt: &H, cache: &T) -> bool {
     for _ in 0..25u32 {
-        if !cache.counts_up(rt, 2) {
+        if !cache.chooses_attached(rt, COUNTED_SLOWLY) {
             return false;
         }
     }

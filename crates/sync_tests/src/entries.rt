@@ -5,6 +5,7 @@ use crate::scenes::{Scene, holds};
 use moka_sync::{CacheError, CompResult, Entry, Op};
 use std::alloc::Global;
 use std::sync::{Arc, Wait};
+use std::thread;
 
 /// A call of a selector. First comes its key.
 #[derive(Clone, Copy)]
@@ -13,24 +14,26 @@ pub enum Choice {
     Insert(u64, u64),
     /// The same by a key that is lent.
     Lent(u64, u64),
-    /// `or_insert_with`: what is made.
-    With(u64, u64),
+    /// `or_insert_with`: 7 is made.
+    With(u64),
     /// `or_insert_with_if`: 7 in place of 3.
     SevenForThree(u64),
     /// `or_default`.
     Default(u64),
     /// `or_optionally_insert_with`, of a closure that makes nothing.
     Nothing(u64),
-    /// `or_try_insert_with`, of a closure that fails with this number.
-    Fault(u64, u64),
+    /// `or_try_insert_with`, of a closure that fails with 5.
+    Fault(u64),
     /// `and_upsert_with`: the value is counted up.
     CountUp(u64),
     /// `and_compute_with`: the value is removed.
     Remove(u64),
     /// `and_compute_with`: nothing is done.
     Leave(u64),
-    /// `and_try_compute_with`, of a closure that fails with this number.
-    Fail(u64, u64),
+    /// `and_compute_with`: the value is counted up, and others have their chance to come between.
+    CountSlowly(u64),
+    /// `and_try_compute_with`, of a closure that fails with 9.
+    Fail(u64),
 }
 
 /// What a call returns.
@@ -46,6 +49,8 @@ pub enum Shown {
     Nothing,
     /// The number with which a closure failed.
     Fault(u64),
+    /// One was put by a compute call.
+    Put,
     Removed,
     StillNone,
     Unchanged,
@@ -98,6 +103,7 @@ fn shown_result(answer: Result<Result<Entry<u64, u64>, Arc<u64>>, CacheError>) -
 /// The same of a compute call.
 pub fn shown_done(answer: Result<CompResult<u64, u64>, CacheError>) -> Shown {
     match answer {
+        Ok(CompResult::Inserted(_) | CompResult::ReplacedWith(_)) => Shown::Put,
         Ok(CompResult::Removed(_)) => Shown::Removed,
         Ok(CompResult::StillNone(_)) => Shown::StillNone,
         Ok(CompResult::Unchanged(_)) => Shown::Unchanged,
@@ -137,6 +143,51 @@ fn nothing() -> Option<u64> {
     None
 }
 
+fn fault() -> Result<u64, u64> {
+    Err(5)
+}
+
+fn failure(_seen: Option<Entry<u64, u64>>) -> Result<Op<u64>, u64> {
+    Err(9)
+}
+
+/// Whether a value is to be replaced.
+pub fn is_three(value: &u64) -> bool {
+    *value == 3
+}
+
+/// One more than the number of a key, or 1; after others had their chance to come between.
+pub fn count_slowly(seen: Option<Entry<u64, u64>>) -> Op<u64> {
+    for _ in 0..100u32 {
+        thread::yield_now();
+    }
+    Op::Put(count_up(seen))
+}
+
+/// A handle that chooses entries.
+pub trait Chooser {
+    /// What a call returns.
+    fn choose(&mut self, choice: Choice) -> Shown;
+}
+
+/// Whether all rows come out so.
+pub fn chooses<X: Chooser + Drop>(chooser: X, rows: &[Choosing]) -> bool {
+    let mut chooser = chooser;
+    for row in rows {
+        if chooser.choose(row.0) != row.1 {
+            return false;
+        }
+    }
+    true
+}
+
+/// A handle that others share.
+#[derive(Drop)]
+pub struct Sharing<'a, H, C> {
+    pub rt: &'a H,
+    pub cache: &'a Tested<C>,
+}
+
 fn choose_lent<H: Wait + Copy, C: Drop>(rt: &H, cache: &Tested<C>, key: u64, value: u64) -> Shown {
     match cache.entry_by_ref(rt, &key) {
         Ok(selector) => show(selector.or_insert(value)),
@@ -150,12 +201,8 @@ fn compute<H: Wait + Copy, C: Drop>(rt: &H, cache: &Tested<C>, choice: Choice) -
         Choice::CountUp(key) => show(cache.entry(rt, key).and_upsert_with(count_up)),
         Choice::Remove(key) => shown_done(cache.entry(rt, key).and_compute_with(removal)),
         Choice::Leave(key) => shown_done(cache.entry(rt, key).and_compute_with(rest)),
-        Choice::Fail(key, fault) => shown_tried(
-            cache.entry(rt, key).and_try_compute_with(|_seen: Option<Entry<u64, u64>>| -> Result<
-                Op<u64>,
-                u64,
-            > { Err(fault) }),
-        ),
+        Choice::CountSlowly(key) => shown_done(cache.entry(rt, key).and_compute_with(count_slowly)),
+        Choice::Fail(key) => shown_tried(cache.entry(rt, key).and_try_compute_with(failure)),
         _ => Shown::Other,
     }
 }
@@ -166,55 +213,44 @@ fn choose_or_none<H: Wait + Copy, C: Drop>(rt: &H, cache: &Tested<C>, choice: Ch
         Choice::Nothing(key) => {
             shown_option(cache.entry(rt, key).or_optionally_insert_with(nothing))
         }
-        Choice::Fault(key, fault) => shown_result(
-            cache
-                .entry(rt, key)
-                .or_try_insert_with(|| -> Result<u64, u64> { Err(fault) }),
-        ),
+        Choice::Fault(key) => shown_result(cache.entry(rt, key).or_try_insert_with(fault)),
         choice => compute(rt, cache, choice),
     }
 }
 
-/// What a call returns.
-fn choose<H: Wait + Copy, C: Drop>(rt: &H, cache: &Tested<C>, choice: Choice) -> Shown {
-    match choice {
-        Choice::Insert(key, value) => show(cache.entry(rt, key).or_insert(value)),
-        Choice::Lent(key, value) => choose_lent(rt, cache, key, value),
-        Choice::With(key, made) => show(cache.entry(rt, key).or_insert_with(|| made)),
-        Choice::SevenForThree(key) => show(
-            cache
-                .entry(rt, key)
-                .or_insert_with_if(seven, |value: &u64| *value == 3),
-        ),
-        Choice::Default(key) => show(cache.entry(rt, key).or_default()),
-        choice => choose_or_none(rt, cache, choice),
-    }
-}
-
-/// Whether all rows come out so.
-pub fn chooses<H: Wait + Copy, C: Drop>(rt: &H, cache: &Tested<C>, rows: &[Choosing]) -> bool {
-    for row in rows {
-        if choose(rt, cache, row.0) != row.1 {
-            return false;
+impl<'a, H: Wait + Copy, C: Drop> Chooser for Sharing<'a, H, C> {
+    fn choose(&mut self, choice: Choice) -> Shown {
+        match choice {
+            Choice::Insert(key, value) => show(self.cache.entry(self.rt, key).or_insert(value)),
+            Choice::Lent(key, value) => choose_lent(self.rt, self.cache, key, value),
+            Choice::With(key) => show(self.cache.entry(self.rt, key).or_insert_with(seven)),
+            Choice::SevenForThree(key) => {
+                show(
+                    self.cache
+                        .entry(self.rt, key)
+                        .or_insert_with_if(seven, is_three),
+                )
+            }
+            Choice::Default(key) => show(self.cache.entry(self.rt, key).or_default()),
+            choice => choose_or_none(self.rt, self.cache, choice),
         }
     }
-    true
 }
 
 const SHARED: &[Choosing] = &[
     Choosing(Choice::Insert(1, 3), Shown::Fresh(3)),
-    Choosing(Choice::With(1, 7), Shown::Seen(3)),
-    Choosing(Choice::With(2, 7), Shown::Fresh(7)),
+    Choosing(Choice::With(1), Shown::Seen(3)),
+    Choosing(Choice::With(2), Shown::Fresh(7)),
     Choosing(Choice::Default(3), Shown::Fresh(0)),
     // one that is to be replaced is made anew, and a key that is lent finds it
     Choosing(Choice::SevenForThree(1), Shown::Fresh(7)),
     Choosing(Choice::Lent(1, 6), Shown::Seen(7)),
     Choosing(Choice::Nothing(4), Shown::Nothing),
-    Choosing(Choice::Fault(4, 5), Shown::Fault(5)),
+    Choosing(Choice::Fault(4), Shown::Fault(5)),
     Choosing(Choice::Insert(4, 9), Shown::Fresh(9)),
     Choosing(Choice::CountUp(5), Shown::Fresh(1)),
     Choosing(Choice::CountUp(5), Shown::Replaced(2)),
-    Choosing(Choice::Fail(5, 9), Shown::Fault(9)),
+    Choosing(Choice::Fail(5), Shown::Fault(9)),
     Choosing(Choice::Insert(5, 4), Shown::Seen(2)),
     Choosing(Choice::Remove(5), Shown::Removed),
     Choosing(Choice::Remove(5), Shown::StillNone),

@@ -2,7 +2,7 @@
 ghost use Rattle.std.specs.Prelude.{◌==◌, ◌%◌};
 
 use crate::caches::NumbersBy;
-use crate::entries::{self, Choosing};
+use crate::entries::{self, Choosing, Sharing};
 use crate::numbers::Numbers;
 use crate::{choosing, visiting};
 use moka_sync::{
@@ -146,9 +146,6 @@ impl Covers for Sharded {
 
 /// A cache by the tests' rules, of any form.
 pub trait Staged: Numbers {
-    /// How many segments or shards it shows.
-    fn parts(&self) -> usize;
-
     /// `invalidate_entries_if`, of odd values.
     fn cover_odd<H: Wait>(&self, rt: &H) -> Result<(), CacheError>;
 
@@ -167,9 +164,6 @@ pub trait Staged: Numbers {
     /// Whether selectors of an attached handle do.
     fn chooses_attached<H: Wait + Copy>(&self, rt: &H, rows: &[Choosing]) -> bool;
 
-    /// Counts a key up by an attached handle, after others had their chance to come between. Whether that was taken.
-    fn counts_up<H: Wait + Copy>(&self, rt: &H, key: u64) -> bool;
-
     /// Whether an attached handle is printed so.
     fn is_printed<H: Wait + Copy>(&self, rt: &H, alloc: Global, text: &str) -> bool;
 
@@ -178,10 +172,6 @@ pub trait Staged: Numbers {
 }
 
 impl<C: Covers> Staged for Tested<C> {
-    fn parts(&self) -> usize {
-        self.policy().num_segments()
-    }
-
     fn cover_odd<H: Wait>(&self, rt: &H) -> Result<(), CacheError> {
         C::cover_odd(rt, self)
     }
@@ -196,15 +186,11 @@ impl<C: Covers> Staged for Tested<C> {
     }
 
     fn chooses<H: Wait + Copy>(&self, rt: &H, rows: &[Choosing]) -> bool {
-        entries::chooses(rt, self, rows)
+        entries::chooses(Sharing { rt, cache: self }, rows)
     }
 
     fn chooses_attached<H: Wait + Copy>(&self, rt: &H, rows: &[Choosing]) -> bool {
         choosing::chooses_by(rt, self, rows)
-    }
-
-    fn counts_up<H: Wait + Copy>(&self, rt: &H, key: u64) -> bool {
-        choosing::counts_up(rt, self, key)
     }
 
     fn is_printed<H: Wait + Copy>(&self, rt: &H, alloc: Global, text: &str) -> bool {

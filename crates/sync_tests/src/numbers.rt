@@ -22,6 +22,9 @@ pub trait Numbers: Drop {
 
     fn run<H: Wait>(&self, rt: &H) -> Result<(), CacheError>;
 
+    /// How many segments or shards it shows.
+    fn parts(&self) -> usize;
+
     fn count<H: Wait>(&self, rt: &H) -> u64;
 
     fn weight<H: Wait>(&self, rt: &H) -> u64;
@@ -88,6 +91,10 @@ impl<R: Rules<u64, u64> + Drop, C: Drop> Numbers for NumbersBy<R, C> {
 
     fn run<H: Wait>(&self, rt: &H) -> Result<(), CacheError> {
         self.run_pending_tasks(rt)
+    }
+
+    fn parts(&self) -> usize {
+        self.policy().num_segments()
     }
 
     fn count<H: Wait>(&self, rt: &H) -> u64 {

@@ -6,7 +6,7 @@ use crate::rows::{Deed, does_all};
 use crate::scenes::{Scene, holds_in};
 use moka_sync::{CacheError, Shared};
 use std::alloc::{AllocError, Global};
-use std::fmt::Write;
+use std::fmt::{Debug, Write};
 use std::sync::Wait;
 use std::thread;
 use std::thread::Threads;
@@ -56,10 +56,10 @@ pub fn shows_each_once<H: Wait + Copy, C: Drop>(
     }
 }
 
-/// Whether a handle is printed so.
-fn prints<H: Wait, C: Drop>(alloc: Global, attached: &Handle<H, C>, wanted: &str) -> bool {
+/// Whether something is printed so, or in another way that it may be.
+pub fn prints<A: Debug + Drop>(alloc: Global, printed: A, wanted: &str, other: &str) -> bool {
     let mut text = String::new(alloc);
-    write!(text, "{attached:?}").is_ok() && text.as_str() == wanted
+    write!(text, "{printed:?}").is_ok() && (text.as_str() == wanted || text.as_str() == other)
 }
 
 /// Whether another handle of a cache is printed so.
@@ -70,7 +70,7 @@ pub fn is_printed<H: Wait + Copy, C: Drop>(
     text: &str,
 ) -> bool {
     match cache.attached(rt) {
-        Ok(attached) => prints(alloc, &attached, text),
+        Ok(attached) => prints(alloc, attached, text, text),
         Err(_) => false,
     }
 }

@@ -1,12 +1,13 @@
 //! Whole caches: keys alone, printed text, what builders make.
 use crate::caches::{Moments, NumbersBy, Play, Stage, make_moments, passes};
+use crate::numbers::Numbers;
 use crate::scenes::{Scene, holds};
+use crate::visiting::prints;
 use moka_sync::{
     Build, BuildError, CacheBuilder, Made, PlainCache, PlainRules, Segmented, SegmentedCache,
-    ShardedCache, Shared, StdHasher, WaiterValue, shards_for,
+    Sharded, ShardedCache, Shared, StdHasher, WaiterValue, shards_for,
 };
 use std::alloc::{AllocError, Global};
-use std::fmt::Write;
 use std::sync::Wait;
 use std::thread::Threads;
 
@@ -60,21 +61,11 @@ fn keeps<H: Wait>(rt: &H, alloc: Global, names: &Names, key: char, name: &str) -
     }
 }
 
-/// Names, printed.
-fn print<H: Wait + Copy>(rt: &H, names: Names, text: &mut String) -> bool {
-    let attached = names.attach(*rt);
-    write!(text, "{attached:?}").is_ok()
-}
-
-/// Whether two names are printed as a map of their pairs.
-fn are_printed<H: Wait + Copy>(rt: &H, alloc: Global, names: Names) -> bool {
-    let mut text = String::new(alloc);
-    print(rt, names, &mut text)
-        && matches!(
-            text.as_str(),
-            "{'a': \"alice\", 'b': \"bob\"}" | "{'b': \"bob\", 'a': \"alice\"}"
-        )
-}
+/// The two ways in which two names are printed as a map of their pairs.
+const PRINTED: [&str; 2] = [
+    "{'a': \"alice\", 'b': \"bob\"}",
+    "{'b': \"bob\", 'a': \"alice\"}",
+];
 
 struct Printing;
 
@@ -89,7 +80,7 @@ impl<H: Wait + Copy> Play<H> for Printing {
         keeps(rt, alloc, &stage.cache, 'a', "alice")
             && keeps(rt, alloc, &stage.cache, 'b', "bob")
             && match stage.cache.clone() {
-                Ok(names) => are_printed(rt, alloc, names),
+                Ok(names) => prints(alloc, names.attach(*rt), PRINTED[0], PRINTED[1]),
                 Err(_) => false,
             }
     }
@@ -123,14 +114,6 @@ fn turns_have_words(rt: HostRuntime) {
     );
 }
 
-/// Whether a handle of a cache has its name.
-fn has_name(cache: &Plain, name: &str) -> bool {
-    match cache.clone() {
-        Ok(cache) => cache.name() == Some(name),
-        Err(_) => false,
-    }
-}
-
 /// 24 wanted segments are 32; the capacity is the wanted one, and the name is kept.
 struct Tracked;
 
@@ -149,7 +132,7 @@ impl<H> Play<H> for Tracked {
         let policy = stage.cache.policy();
         policy.max_capacity() == Some(400)
             && policy.num_segments() == 32
-            && has_name(&stage.cache, "tracked")
+            && stage.cache.name() == Some("tracked")
     }
 }
 
@@ -158,30 +141,36 @@ fn parts_are_rounded(rt: HostRuntime) {
     assert!(rt; holds(&rt, rt.alloc(), Scene::Rounding));
 }
 
-/// Why so many segments are refused.
-fn why_segments_are_refused(alloc: Global, segments: usize) -> Option<BuildError> {
-    SegmentedCache::<u64, u64, StdHasher, PlainRules, Moments>::new(
-        alloc,
-        1,
-        segments,
-        make_moments(alloc)?,
-    ).err()
+/// How many segments or shards a cache has, or why it was refused.
+fn parts_of<T: Numbers>(made: Result<T, BuildError>) -> Result<usize, BuildError> {
+    match made {
+        Ok(cache) => Ok(cache.parts()),
+        Err(why) => Err(why),
+    }
 }
 
-/// Why so many shards are refused.
-fn why_shards_are_refused(alloc: Global, shards: usize) -> Option<BuildError> {
-    ShardedCache::<u64, u64, StdHasher, PlainRules, Moments>::new(
-        alloc,
-        1,
-        shards,
-        make_moments(alloc)?,
-    ).err()
+/// A cache of so many segments, or why it was refused.
+fn make_segments(alloc: Global, segments: usize, moments: Moments) -> Result<Plain, BuildError> {
+    SegmentedCache::new(alloc, 1, segments, moments)
+}
+
+/// A cache of shards, by plain rules.
+type PlainShards = NumbersBy<PlainRules, Sharded>;
+
+/// A cache of so many shards, or why it was refused.
+fn make_shards(alloc: Global, shards: usize, moments: Moments) -> Result<PlainShards, BuildError> {
+    ShardedCache::new(alloc, 1, shards, moments)
 }
 
 /// Whether so many segments and shards are refused for this reason.
 fn are_refused(alloc: Global, parts: usize, why: BuildError) -> bool {
-    why_segments_are_refused(alloc, parts) == Some(why)
-        && why_shards_are_refused(alloc, parts) == Some(why)
+    match (make_moments(alloc), make_moments(alloc)) {
+        (Some(one), Some(other)) => {
+            parts_of(make_segments(alloc, parts, one)) == Err(why)
+                && parts_of(make_shards(alloc, parts, other)) == Err(why)
+        }
+        _ => false,
+    }
 }
 
 /// The same, on the second attempt if memory is refused.
@@ -217,19 +206,28 @@ fn shards_suit_cores(rt: HostRuntime) {
     assert!(rt; SUITING.iter().all(|row| shards_for(row.0, row.1) == row.2));
 }
 
-/// How many shards a cache of this capacity has on this machine.
-fn count_shards<R: Threads>(rt: &R, alloc: Global, capacity: u64) -> Option<usize> {
-    let moments = make_moments(alloc)?;
-    let cache: ShardedCache<u64, u64, StdHasher, PlainRules, Moments> = ShardedCache::for_cores(
-        rt, alloc, capacity, moments,
-    ).ok()?;
-    Some(cache.policy().num_segments())
+/// A cache of this capacity, in the shards that suit this machine.
+fn make_for_cores<R: Threads>(
+    rt: &R,
+    alloc: Global,
+    capacity: u64,
+    moments: Moments,
+) -> Result<PlainShards, BuildError> {
+    ShardedCache::for_cores(rt, alloc, capacity, moments)
 }
 
 /// Whether a small cache has one shard, and a large one 16 or more.
 fn are_shards_chosen<R: Threads>(rt: &R, alloc: Global) -> bool {
-    count_shards(rt, alloc, 150) == Some(1)
-        && count_shards(rt, alloc, 1_000_000).is_some_and(|shards| shards >= 16)
+    match (make_moments(alloc), make_moments(alloc)) {
+        (Some(one), Some(other)) => {
+            parts_of(make_for_cores(rt, alloc, 150, one)) == Ok(1)
+                && matches!(
+                    parts_of(make_for_cores(rt, alloc, 1_000_000, other)),
+                    Ok(16..)
+                )
+        }
+        _ => false,
+    }
 }
 
 #[test]

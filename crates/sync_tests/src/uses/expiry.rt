@@ -53,16 +53,6 @@ fn valid_for(seconds: u64) -> Ticket {
     }
 }
 
-/// Whether a ticket is inserted.
-fn keeps<H: Wait>(rt: &H, tickets: &Tickets<Moments>, number: u64, ticket: Ticket) -> bool {
-    tickets.insert(rt, number, ticket).is_ok()
-}
-
-/// Whether a ticket is found so.
-fn shows<H: Wait>(rt: &H, tickets: &Tickets<Moments>, number: u64, ticket: Ticket) -> bool {
-    tickets.get(rt, &number) == Ok(Some(ticket))
-}
-
 /// Of two tickets one ends first.
 struct Ending;
 
@@ -79,11 +69,12 @@ impl<H: Wait> Play<H> for Ending {
     }
 
     fn plays(&self, rt: &H, _alloc: Global, stage: &Stage<Tickets<Moments>>) -> bool {
-        let both = keeps(rt, &stage.cache, 1, valid_for(10))
-            && keeps(rt, &stage.cache, 2, valid_for(20))
-            && stage.cache.contains_key(rt, &1);
+        let tickets = &stage.cache;
+        let both = tickets.insert(rt, 1, valid_for(10)).is_ok()
+            && tickets.insert(rt, 2, valid_for(20)).is_ok()
+            && tickets.contains_key(rt, &1);
         stage.dial.set(15_000_000_000);
-        both && !stage.cache.contains_key(rt, &1) && shows(rt, &stage.cache, 2, valid_for(20))
+        both && !tickets.contains_key(rt, &1) && tickets.get(rt, &2) == Ok(Some(valid_for(20)))
     }
 }
 

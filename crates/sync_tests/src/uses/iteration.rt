@@ -1,6 +1,6 @@
 //! All that is in a cache.
 use crate::caches::{Moments, Play, Stage, passes};
-use crate::rows::inserts;
+use crate::rows::{Row, are_so};
 use moka_sync::{BuildError, Cache, CacheError, Env, PlainCache};
 use std::alloc::Global;
 use std::sync::Wait;
@@ -26,6 +26,8 @@ fn sum_from<H: Wait, E: Env + Drop>(
 }
 // end
 
+const THREE: &[Row] = &[Row::Insert(1, 10), Row::Insert(2, 20), Row::Insert(3, 30)];
+
 /// The amounts of two of three accounts are summed.
 struct Summing;
 
@@ -42,10 +44,7 @@ impl<H: Wait> Play<H> for Summing {
     }
 
     fn plays(&self, rt: &H, _alloc: Global, stage: &Stage<Amounts<Moments>>) -> bool {
-        inserts(rt, &stage.cache, 1, 10)
-            && inserts(rt, &stage.cache, 2, 20)
-            && inserts(rt, &stage.cache, 3, 30)
-            && sum_from(rt, &stage.cache, 2) == Ok(50)
+        are_so(rt, stage, THREE) && sum_from(rt, &stage.cache, 2) == Ok(50)
     }
 }
 

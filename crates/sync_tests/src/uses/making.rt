@@ -1,6 +1,6 @@
 //! Values that are made if there is none.
 use crate::caches::{Moments, Play, Stage, passes};
-use crate::rows::gets;
+use crate::rows::{Row, are_so};
 use moka_sync::{BuildError, Cache, CacheError, Env, PlainCache};
 use std::alloc::Global;
 use std::sync::Wait;
@@ -30,18 +30,14 @@ fn half<H: Wait, E: Env + Drop>(
 }
 // end
 
-/// Whether a square is made and kept.
-fn squares<H: Wait>(rt: &H, numbers: &Numbers<Moments>) -> bool {
-    square(rt, numbers, 7) == Ok(49) && gets(rt, numbers, 7, Some(49))
-}
+/// What is made is kept.
+const KEPT: &[Row] = &[
+    Row::Get(7, Some(49)),
+    Row::Get(3, None),
+    Row::Get(8, Some(4)),
+];
 
-/// Whether half of an odd number is not made, and half of an even one is made and kept.
-fn halves<H: Wait>(rt: &H, numbers: &Numbers<Moments>) -> bool {
-    half(rt, numbers, 3) == Ok(None)
-        && half(rt, numbers, 8) == Ok(Some(4))
-        && gets(rt, numbers, 8, Some(4))
-}
-
+/// A square is made, half of an odd number is not, and half of an even one is.
 struct Making;
 
 impl<H: Wait> Play<H> for Making {
@@ -57,7 +53,10 @@ impl<H: Wait> Play<H> for Making {
     }
 
     fn plays(&self, rt: &H, _alloc: Global, stage: &Stage<Numbers<Moments>>) -> bool {
-        squares(rt, &stage.cache) && halves(rt, &stage.cache)
+        square(rt, &stage.cache, 7) == Ok(49)
+            && half(rt, &stage.cache, 3) == Ok(None)
+            && half(rt, &stage.cache, 8) == Ok(Some(4))
+            && are_so(rt, stage, KEPT)
     }
 }
 

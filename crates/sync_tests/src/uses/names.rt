@@ -29,18 +29,30 @@ fn price_of<H: Wait, E: Env + Drop>(
 }
 // end
 
-/// Whether a price is found and known so.
-fn shows<H: Wait>(rt: &H, prices: &Prices<Moments>, article: &str, price: Option<u64>) -> bool {
-    price_of(rt, prices, article) == Ok(price)
-        && prices.contains_key_by_name(rt, &TextName::new(article)) == price.is_some()
+/// Articles, and the price of each, if it has one.
+type Listed = &'static [(&'static str, Option<u64>)];
+
+const SET: Listed = &[("pear", Some(3)), ("plum", Some(4)), ("peach", None)];
+
+const FORGOTTEN: Listed = &[("pear", None), ("plum", None)];
+
+/// Whether prices are found and known so.
+fn shows<H: Wait>(rt: &H, prices: &Prices<Moments>, listed: Listed) -> bool {
+    for (article, price) in listed {
+        if price_of(rt, prices, article) != Ok(*price)
+            || prices.contains_key_by_name(rt, &TextName::new(article)) != price.is_some()
+        {
+            return false;
+        }
+    }
+    true
 }
 
 /// Whether a price is removed, and another invalidated.
 fn forgets<H: Wait>(rt: &H, prices: &Prices<Moments>) -> bool {
     prices.remove_by_name(rt, &TextName::new("pear")) == Ok(Some(3))
-        && shows(rt, prices, "pear", None)
         && prices.invalidate_by_name(rt, &TextName::new("plum")) == Ok(())
-        && shows(rt, prices, "plum", None)
+        && shows(rt, prices, FORGOTTEN)
 }
 
 struct Naming;
@@ -60,9 +72,7 @@ impl<H: Wait> Play<H> for Naming {
     fn plays(&self, rt: &H, alloc: Global, stage: &Stage<Prices<Moments>>) -> bool {
         set(rt, alloc, &stage.cache, "pear", 3) == Ok(())
             && set(rt, alloc, &stage.cache, "plum", 4) == Ok(())
-            && shows(rt, &stage.cache, "pear", Some(3))
-            && shows(rt, &stage.cache, "plum", Some(4))
-            && shows(rt, &stage.cache, "peach", None)
+            && shows(rt, &stage.cache, SET)
             && forgets(rt, &stage.cache)
     }
 }

@@ -2,9 +2,10 @@
 // example: pages
 use anyhow::Result;
 use moka_sync::{
-    Build, Bundle, Cache, CacheBuilder, CacheError, Env, EvictionPolicy, MachineEnv, NoExpiry,
-    NoPredicate, StdHasher, Weigher,
+    Build, BuildError, Bundle, Cache, CacheBuilder, CacheError, Env, EvictionPolicy, MachineEnv,
+    NoExpiry, NoPredicate, StdHasher, Weigher,
 };
+use std::alloc::Global;
 use std::random::RandomSource;
 use std::sync::Wait;
 use std::thread;
@@ -33,6 +34,15 @@ impl Weigher<u64, Page> for BySize {
 /// Pages by their number.
 type Pages<E> = Cache<u64, Page, StdHasher, Bundle<NoExpiry, BySize, NoPredicate, ()>, E>;
 
+/// An empty cache of pages, at most a thousand bytes in total, which reports removals.
+fn make_pages<E: Env + Drop>(alloc: Global, env: E) -> Result<Pages<E>, BuildError> {
+    CacheBuilder::new(1_000)
+        .weigh_by(BySize)
+        .eviction_policy(EvictionPolicy::lru())
+        .report_removals()
+        .build(alloc, env)
+}
+
 /// Renders the pages that no thread has rendered.
 fn render<H: Wait, E: Env + Drop>(
     rt: &H,
@@ -53,31 +63,26 @@ fn render<H: Wait, E: Env + Drop>(
     Ok(())
 }
 
-/// What the shop needs of the runtime.
-trait Machine: AllocGlobal + Clock + Print + RandomSource + Threads + Wait + Copy + Send + Sync {}
-
-impl<R: AllocGlobal + Clock + Print + RandomSource + Threads + Wait + Copy + Send + Sync> Machine
-    for R {}
-
-/// Renders pages in two threads, and prints how many are left, and which ones are not.
-fn run<R: Machine + Drop>(rt: R) -> Result<()> {
-    let env = MachineEnv::new(rt)?;
-    let pages: Pages<_> = CacheBuilder::new(1_000)
-        .weigh_by(BySize)
-        .eviction_policy(EvictionPolicy::lru())
-        .report_removals()
-        .build(rt.alloc(), env)?;
+/// Two threads render pages at the same time.
+fn render_all<R: Threads + Wait + Sync, E: Env + Drop + Send>(
+    rt: &R,
+    pages: &Pages<E>,
+) -> Result<(), CacheError> {
     let (low, high) = thread::join(
-        &rt,
-        || render(&rt, &pages, &[1, 2]),
-        || render(&rt, &pages, &[2, 3]),
+        rt,
+        || render(rt, pages, &[1, 2]),
+        || render(rt, pages, &[2, 3]),
     );
     low?;
     high?;
-    pages.run_pending_tasks(&rt)?;
-    println!(rt; "{} pages", pages.entry_count(&rt))?;
+    pages.run_pending_tasks(rt)
+}
+
+/// Prints how many pages are left, and which ones are not.
+fn print_pages<R: Print + Wait, E: Env + Drop>(rt: &R, pages: &Pages<E>) -> Result<()> {
+    println!(rt; "{} pages", pages.entry_count(rt))?;
     for _ in rt.forever() {
-        match pages.next_notice(&rt) {
+        match pages.next_notice(rt) {
             Some(notice) => println!(rt;
                 "page {} of {} bytes left",
                 *notice.key, notice.value.bytes
@@ -86,6 +91,19 @@ fn run<R: Machine + Drop>(rt: R) -> Result<()> {
         }
     }
     unreachable!()
+}
+
+/// What the shop needs of the runtime.
+trait Machine: AllocGlobal + Clock + Print + RandomSource + Threads + Wait + Copy + Send + Sync {}
+
+impl<R: AllocGlobal + Clock + Print + RandomSource + Threads + Wait + Copy + Send + Sync> Machine
+    for R {}
+
+/// Renders pages, and prints what came of it.
+fn run<R: Machine + Drop>(rt: R) -> Result<()> {
+    let pages = make_pages(rt.alloc(), MachineEnv::new(rt)?)?;
+    render_all(&rt, &pages)?;
+    print_pages(&rt, &pages)
 }
 // end
 

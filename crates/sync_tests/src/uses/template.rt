@@ -120,21 +120,25 @@ fn document_of(author: u64, seconds: u64) -> Document {
     }
 }
 
-/// Whether a document is inserted.
-fn keeps<H: Wait>(rt: &H, documents: &Documents<Moments>, number: u64, document: Document) -> bool {
-    documents.insert(rt, number, document).is_ok()
+/// Number, author and lifetime of three documents.
+const THREE: [(u64, u64, u64); 3] = [(1, 5, 10), (2, 5, 20), (3, 6, 20)];
+
+/// Whether they are inserted.
+fn keeps_three<H: Wait>(rt: &H, documents: &Documents<Moments>) -> bool {
+    for (number, author, seconds) in THREE {
+        if documents
+            .insert(rt, number, document_of(author, seconds))
+            .is_err()
+        {
+            return false;
+        }
+    }
+    true
 }
 
-/// Whether a document is found so.
-fn shows<H: Wait>(rt: &H, documents: &Documents<Moments>, number: u64, document: Document) -> bool {
-    documents.get(rt, &number) == Ok(Some(document))
-}
-
-/// Whether three documents weigh three times a hundred.
+/// Whether they weigh three times a hundred.
 fn weighs<H: Wait>(rt: &H, documents: &Documents<Moments>) -> bool {
-    keeps(rt, documents, 1, document_of(5, 10))
-        && keeps(rt, documents, 2, document_of(5, 20))
-        && keeps(rt, documents, 3, document_of(6, 20))
+    keeps_three(rt, documents)
         && documents.run_pending_tasks(rt).is_ok()
         && documents.weighted_size(rt) == 300
 }
@@ -145,7 +149,7 @@ fn ends<H: Wait>(rt: &H, documents: &Documents<Moments>) -> bool {
         && documents.contains_key(rt, &2)
         && documents.invalidate_entries_if(rt, WrittenBy(5)).is_ok()
         && !documents.contains_key(rt, &2)
-        && shows(rt, documents, 3, document_of(6, 20))
+        && documents.get(rt, &3) == Ok(Some(document_of(6, 20)))
 }
 
 struct Following;

@@ -43,26 +43,17 @@ fn take<H: Wait + Copy, E: Env + Drop>(
 }
 // end
 
-/// Whether two are counted.
-fn are_counted<H: Wait + Copy>(rt: &H, counts: &Counts<Moments>) -> bool {
-    count(rt, counts, 7) == Ok(1) && count(rt, counts, 7) == Ok(2)
-}
-
-/// Whether a count is taken from, if there is one, and is this much then.
-fn is_taken<H: Wait + Copy>(
-    rt: &H,
-    counts: &Counts<Moments>,
-    was_there: bool,
-    left: Option<u64>,
-) -> bool {
-    take(rt, counts, 7) == Ok(was_there) && gets(rt, counts, 7, left)
-}
+/// Whether there is a count to take from, and how much it is then.
+const TAKEN: [(bool, Option<u64>); 3] = [(true, Some(1)), (true, None), (false, None)];
 
 /// Whether two are taken, and no third.
 fn are_taken<H: Wait + Copy>(rt: &H, counts: &Counts<Moments>) -> bool {
-    is_taken(rt, counts, true, Some(1))
-        && is_taken(rt, counts, true, None)
-        && is_taken(rt, counts, false, None)
+    for (was_there, left) in TAKEN {
+        if take(rt, counts, 7) != Ok(was_there) || !gets(rt, counts, 7, left) {
+            return false;
+        }
+    }
+    true
 }
 
 /// Two are counted, and can be taken.
@@ -81,7 +72,9 @@ impl<H: Wait + Copy> Play<H> for Counting {
     }
 
     fn plays(&self, rt: &H, _alloc: Global, stage: &Stage<Counts<Moments>>) -> bool {
-        are_counted(rt, &stage.cache) && are_taken(rt, &stage.cache)
+        count(rt, &stage.cache, 7) == Ok(1)
+            && count(rt, &stage.cache, 7) == Ok(2)
+            && are_taken(rt, &stage.cache)
     }
 }
 
