@@ -2,8 +2,6 @@
 #![tactic(auto)]
 
 #[cfg(test)]
-mod outcome;
-#[cfg(test)]
 mod queues;
 #[cfg(test)]
 mod records;

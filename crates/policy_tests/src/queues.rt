@@ -1,8 +1,8 @@
 //! Queues. A push whose memory is refused is tried once more, and has changed nothing; so the tests
 //! pass with any one allocation refused.
-use crate::outcome::none_wrong;
 use moka_policy::{CacheRegion, Deque, NodeId, PushError, ReserveError};
 use policy_queue::places_of;
+use rows::{Stage, Table, first_wrong};
 use std::alloc::Global;
 
 /// A queue, and the names of its nodes in the order of their pushes.
@@ -236,121 +236,118 @@ fn shows_so(deque: &mut Deque<u64>, act: Act) -> bool {
     }
 }
 
-/// Performs one after another, and returns the place of the first that failed.
-fn wrong_in(queue: &mut Queue, acts: &[Act]) -> Option<usize> {
-    for (place, act) in acts.iter().enumerate() {
-        if !changes_so(queue, *act) {
-            return Some(place);
-        }
+impl Stage<Act> for Queue {
+    fn new(alloc: Global) -> Option<Self> {
+        Some(new_queue(alloc))
     }
-    None
-}
 
-/// The same on a new queue, and returns the place of the first that failed.
-fn wrong_row(alloc: Global, acts: &[Act]) -> Option<usize> {
-    let mut queue = new_queue(alloc);
-    wrong_in(&mut queue, acts)
-}
-
-/// Plays these cases, each on a new queue, and returns the first that failed, and the place of its
-/// first failing row.
-fn first_wrong(alloc: Global, cases: &[&[Act]]) -> Option<(usize, usize)> {
-    for (number, acts) in cases.iter().enumerate() {
-        if let Some(place) = wrong_row(alloc, acts) {
-            return Some((number, place));
-        }
+    fn plays(&mut self, act: &Act) -> bool {
+        changes_so(self, *act)
     }
-    None
 }
 
-const CASES: &[&[Act]] = &[
-    // a walk goes past nodes that move
-    &[
-        Act::Push(0),
-        Act::Push(1),
-        Act::Push(2),
-        Act::Back(Some(2)),
-        Act::Next(Some(0)),
-        Act::Move(1, true),
-        Act::Next(Some(2)),
-        Act::Next(Some(1)),
-        Act::Next(None),
-        Act::Next(Some(0)),
-        Act::Back(Some(1)),
-    ],
-    // and past nodes that leave; a node that left is stale
-    &[
-        Act::Push(0),
-        Act::Push(1),
-        Act::Push(2),
-        Act::Next(Some(0)),
-        Act::Unlink(1, true),
-        Act::Next(Some(2)),
-        Act::Next(None),
-        Act::Unlink(1, false),
-        Act::Move(1, false),
-        Act::Len(2),
-    ],
-    // two pushes within a reservation
-    &[
-        Act::Reserve(2),
-        Act::PushReserved(1),
-        Act::PushReserved(2),
-        Act::Pop(Some(1)),
-        Act::Pop(Some(2)),
-        Act::Pop(None),
-    ],
-    // forty pushes
-    &[Act::PushUpTo(40), Act::PopUpTo(40), Act::Pop(None)],
-    // a thousand nodes are moved ten thousand times
-    &[
-        Act::Reserve(1000),
-        Act::PushReservedUpTo(1000),
-        Act::MoveFront(10000),
-        Act::Front(Some(0)),
-        Act::Len(1000),
-        Act::MoveUpTo(1000),
-        Act::Front(Some(0)),
-    ],
-    // nodes move, leave and come while empty places are closed up
-    &[
-        Act::Reserve(10),
-        Act::PushReservedUpTo(10),
-        Act::Moves(&[
-            1, 3, 5, 0, 6, 5, 5, 7, 7, 6, 1, 1, 1, 1, 6, 9, 3, 0, 7, 4, 8, 1, 4,
-        ]),
-        Act::Unlink(8, true),
-        Act::PushReserved(10),
-        Act::Moves(&[5, 3, 10, 10, 9, 2, 10, 2, 1]),
-        Act::Unlink(0, true),
-        Act::PushReserved(11),
-        Act::Moves(&[2, 10, 5, 9, 2, 9, 10]),
-        Act::Unlink(7, true),
-        Act::PushReserved(12),
-        Act::Moves(&[
-            3, 9, 6, 11, 1, 9, 9, 9, 2, 6, 6, 12, 4, 3, 6, 5, 12, 10, 11, 9, 2, 5, 1, 12, 9,
-        ]),
-        Act::Walk(&[4, 3, 6, 10, 11, 2, 5, 1, 12, 9]),
-    ],
-    // a move empties one place and takes another
-    &[
-        Act::Reserve(4),
-        Act::Push(0),
-        Act::Push(1),
-        Act::Push(2),
-        Act::MoveFront(1),
-        Act::FirstFrom(0, Some(1)),
-        Act::FirstFrom(2, Some(2)),
-        Act::FirstFrom(3, None),
-        Act::Place(0, Some(None)),
-        Act::Place(1, Some(Some(1))),
-        Act::Place(2, Some(Some(2))),
-        Act::Place(3, Some(Some(0))),
-        Act::Place(4, None),
-    ],
+const TABLES: &[Table<'_, Act>] = &[
+    Table {
+        name: "a walk goes past nodes that move",
+        rows: &[
+            Act::Push(0),
+            Act::Push(1),
+            Act::Push(2),
+            Act::Back(Some(2)),
+            Act::Next(Some(0)),
+            Act::Move(1, true),
+            Act::Next(Some(2)),
+            Act::Next(Some(1)),
+            Act::Next(None),
+            Act::Next(Some(0)),
+            Act::Back(Some(1)),
+        ],
+    },
+    Table {
+        name: "a walk goes past nodes that leave, and a node that left is stale",
+        rows: &[
+            Act::Push(0),
+            Act::Push(1),
+            Act::Push(2),
+            Act::Next(Some(0)),
+            Act::Unlink(1, true),
+            Act::Next(Some(2)),
+            Act::Next(None),
+            Act::Unlink(1, false),
+            Act::Move(1, false),
+            Act::Len(2),
+        ],
+    },
+    Table {
+        name: "two pushes within a reservation",
+        rows: &[
+            Act::Reserve(2),
+            Act::PushReserved(1),
+            Act::PushReserved(2),
+            Act::Pop(Some(1)),
+            Act::Pop(Some(2)),
+            Act::Pop(None),
+        ],
+    },
+    Table {
+        name: "forty pushes",
+        rows: &[Act::PushUpTo(40), Act::PopUpTo(40), Act::Pop(None)],
+    },
+    Table {
+        name: "a thousand nodes are moved ten thousand times",
+        rows: &[
+            Act::Reserve(1000),
+            Act::PushReservedUpTo(1000),
+            Act::MoveFront(10000),
+            Act::Front(Some(0)),
+            Act::Len(1000),
+            Act::MoveUpTo(1000),
+            Act::Front(Some(0)),
+        ],
+    },
+    Table {
+        name: "nodes move, leave and come while empty places are closed up",
+        rows: &[
+            Act::Reserve(10),
+            Act::PushReservedUpTo(10),
+            Act::Moves(&[
+                1, 3, 5, 0, 6, 5, 5, 7, 7, 6, 1, 1, 1, 1, 6, 9, 3, 0, 7, 4, 8, 1, 4,
+            ]),
+            Act::Unlink(8, true),
+            Act::PushReserved(10),
+            Act::Moves(&[5, 3, 10, 10, 9, 2, 10, 2, 1]),
+            Act::Unlink(0, true),
+            Act::PushReserved(11),
+            Act::Moves(&[2, 10, 5, 9, 2, 9, 10]),
+            Act::Unlink(7, true),
+            Act::PushReserved(12),
+            Act::Moves(&[
+                3, 9, 6, 11, 1, 9, 9, 9, 2, 6, 6, 12, 4, 3, 6, 5, 12, 10, 11, 9, 2, 5, 1, 12, 9,
+            ]),
+            Act::Walk(&[4, 3, 6, 10, 11, 2, 5, 1, 12, 9]),
+        ],
+    },
+    Table {
+        name: "a move empties one place and takes another",
+        rows: &[
+            Act::Reserve(4),
+            Act::Push(0),
+            Act::Push(1),
+            Act::Push(2),
+            Act::MoveFront(1),
+            Act::FirstFrom(0, Some(1)),
+            Act::FirstFrom(2, Some(2)),
+            Act::FirstFrom(3, None),
+            Act::Place(0, Some(None)),
+            Act::Place(1, Some(Some(1))),
+            Act::Place(2, Some(Some(2))),
+            Act::Place(3, Some(Some(0))),
+            Act::Place(4, None),
+        ],
+    },
 ];
 
 #[test]
 fn queues_keep_their_order(rt: HostRuntime) {
-    none_wrong(&rt, first_wrong(rt.alloc(), CASES));
+    assert_eq!(rt; first_wrong::<Queue, Act>(rt.alloc(), TABLES), None);
 }

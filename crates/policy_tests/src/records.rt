@@ -2,6 +2,7 @@
 use moka_policy::{
     CacheRegion, EntryInfo, HousekeeperConfig, Instant, KeyHash, MAX_NANOS, sketch_capacity,
 };
+use rows::{Stage, Table, first_wrong};
 use std::alloc::Global;
 use std::sync::Arc;
 use std::time::Duration;
@@ -92,38 +93,32 @@ fn comes_so(entry: &mut EntryInfo<u8>, act: Act) -> bool {
     }
 }
 
-/// Performs one after another, and returns the place of the first that failed.
-fn wrong_act(entry: &mut EntryInfo<u8>, acts: &[Act]) -> Option<usize> {
-    for (place, act) in acts.iter().enumerate() {
-        if !comes_so(entry, *act) {
-            return Some(place);
-        }
+impl Stage<Act> for EntryInfo<u8> {
+    fn new(alloc: Global) -> Option<Self> {
+        new_entry(alloc)
     }
-    None
-}
 
-/// The same with a new entry, if there is memory for one.
-fn first_wrong(alloc: Global, acts: &[Act]) -> Option<Option<usize>> {
-    match new_entry(alloc) {
-        Some(mut entry) => Some(wrong_act(&mut entry, acts)),
-        None => None,
+    fn plays(&mut self, act: &Act) -> bool {
+        comes_so(self, *act)
     }
 }
 
-const OWN_EXPIRATIONS: &[Act] = &[
-    Act::Set(Some(5000), Some(4096)),
-    Act::Set(Some(4095), Some(0)),
-    Act::Set(Some(18446744073709551614), Some(18446744073709543424)),
-    Act::Set(None, None),
-    Act::Changes(4),
-    Act::TakeAway(4092),
-    Act::Changes(0),
-];
+const TABLES: &[Table<'_, Act>] = &[Table {
+    name: "own expirations",
+    rows: &[
+        Act::Set(Some(5000), Some(4096)),
+        Act::Set(Some(4095), Some(0)),
+        Act::Set(Some(18446744073709551614), Some(18446744073709543424)),
+        Act::Set(None, None),
+        Act::Changes(4),
+        Act::TakeAway(4092),
+        Act::Changes(0),
+    ],
+}];
 
 #[test]
 fn own_expirations_are_rounded_down(rt: HostRuntime) {
-    let wrong = first_wrong(rt.alloc(), OWN_EXPIRATIONS);
-    assert_eq!(rt; wrong, Some(None));
+    assert_eq!(rt; first_wrong::<EntryInfo<u8>, Act>(rt.alloc(), TABLES), None);
 }
 
 fn names() -> [&'static str; 4] {

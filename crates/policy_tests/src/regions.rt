@@ -1,9 +1,9 @@
 //! The queues of a cache's entries. What is refused for memory is tried once more, and has changed
 //! nothing; so the tests pass with any one allocation refused.
-use crate::outcome::none_wrong;
 use moka_policy::{
     CacheRegion, Deques, EntryInfo, Instant, KeyHash, KeyHashDate, NodeId, PushError, Slot, Stale,
 };
+use rows::{Stage, Table, first_wrong};
 use slab::Slab;
 use std::alloc::Global;
 use std::sync::Arc;
@@ -242,119 +242,116 @@ fn shows_so(cache: &mut Cache, act: Act) -> bool {
     }
 }
 
-/// Performs one after another, and returns the place of the first that failed.
-fn wrong_in(cache: &mut Cache, acts: &[Act]) -> Option<usize> {
-    for (place, act) in acts.iter().enumerate() {
-        if !changes_so(cache, *act) {
-            return Some(place);
-        }
+impl Stage<Act> for Cache {
+    fn new(alloc: Global) -> Option<Self> {
+        Some(new_cache(alloc))
     }
-    None
-}
 
-/// The same on new queues, and returns the place of the first that failed.
-fn wrong_row(alloc: Global, acts: &[Act]) -> Option<usize> {
-    let mut cache = new_cache(alloc);
-    wrong_in(&mut cache, acts)
-}
-
-/// Plays these cases, each on new queues, and returns the first that failed, and the place of its
-/// first failing row.
-fn first_wrong(alloc: Global, cases: &[&[Act]]) -> Option<(usize, usize)> {
-    for (number, acts) in cases.iter().enumerate() {
-        if let Some(place) = wrong_row(alloc, acts) {
-            return Some((number, place));
-        }
+    fn plays(&mut self, act: &Act) -> bool {
+        changes_so(self, *act)
     }
-    None
 }
 
-const CASES: &[&[Act]] = &[
-    // entries in order of use
-    &[
-        Act::Add(0),
-        Act::Add(1),
-        Act::Add(2),
-        Act::Use(0, Ok(())),
-        Act::Front(PROBATION, Some(1)),
-        Act::Back(PROBATION, Some(0)),
-        Act::Front(WRITTEN, Some(0)),
-        Act::Len(CacheRegion::Window, 0),
-        Act::Front(CacheRegion::Window, None),
-    ],
-    // entries in order of writes
-    &[
-        Act::Add(0),
-        Act::Add(1),
-        Act::Add(2),
-        Act::Write(1, Ok(())),
-        Act::Next(WRITTEN, Some(0)),
-        Act::Next(WRITTEN, Some(2)),
-        Act::Next(WRITTEN, Some(1)),
-        Act::Next(WRITTEN, None),
-        Act::Next(WRITTEN, Some(0)),
-        Act::ResetCursor,
-        Act::Next(WRITTEN, Some(0)),
-    ],
-    // an entry that left one order stays in the other
-    &[
-        Act::Add(0),
-        Act::Add(1),
-        Act::Add(2),
-        Act::UnlinkUsed(1, Ok(())),
-        Act::UnlinkUsed(1, Ok(())),
-        Act::Len(PROBATION, 2),
-        Act::Len(WRITTEN, 3),
-        Act::Use(1, Ok(())),
-        Act::Back(PROBATION, Some(2)),
-    ],
-    // nodes of another queue are stale
-    &[
-        Act::Add(0),
-        Act::Add(1),
-        Act::UnlinkWrittenAsUsed(0, Some(Err(Stale))),
-        Act::Len(WRITTEN, 2),
-    ],
-    // a popped node is stale
-    &[
-        Act::Add(0),
-        Act::Add(1),
-        Act::Pop(PROBATION, Some(0)),
-        Act::Use(0, Err(Stale)),
-        Act::UnlinkUsed(0, Err(Stale)),
-        Act::Front(PROBATION, Some(1)),
-    ],
-    // calls on one queue
-    &[
-        Act::Add(0),
-        Act::Add(1),
-        Act::UseInDeque(0, Ok(())),
-        Act::Front(PROBATION, Some(1)),
-        Act::WriteInDeque(0, Ok(())),
-        Act::Front(WRITTEN, Some(1)),
-        Act::UnlinkUsedInDeque(1, Ok(())),
-        Act::Front(PROBATION, Some(0)),
-        Act::UnlinkWrittenInDeque(1, Ok(())),
-        Act::UnlinkWrittenNode(0, Some(Ok(()))),
-        Act::Len(WRITTEN, 0),
-    ],
-    // entries within a reservation
-    &[
-        Act::Reserve(9),
-        Act::AddWritten(0),
-        Act::AddWritten(1),
-        Act::AddWritten(2),
-        Act::AddWritten(3),
-        Act::AddWritten(4),
-        Act::AddWritten(5),
-        Act::AddWritten(6),
-        Act::AddWritten(7),
-        Act::AddWritten(8),
-        Act::Len(WRITTEN, 9),
-    ],
+const TABLES: &[Table<'_, Act>] = &[
+    Table {
+        name: "entries in order of use",
+        rows: &[
+            Act::Add(0),
+            Act::Add(1),
+            Act::Add(2),
+            Act::Use(0, Ok(())),
+            Act::Front(PROBATION, Some(1)),
+            Act::Back(PROBATION, Some(0)),
+            Act::Front(WRITTEN, Some(0)),
+            Act::Len(CacheRegion::Window, 0),
+            Act::Front(CacheRegion::Window, None),
+        ],
+    },
+    Table {
+        name: "entries in order of writes",
+        rows: &[
+            Act::Add(0),
+            Act::Add(1),
+            Act::Add(2),
+            Act::Write(1, Ok(())),
+            Act::Next(WRITTEN, Some(0)),
+            Act::Next(WRITTEN, Some(2)),
+            Act::Next(WRITTEN, Some(1)),
+            Act::Next(WRITTEN, None),
+            Act::Next(WRITTEN, Some(0)),
+            Act::ResetCursor,
+            Act::Next(WRITTEN, Some(0)),
+        ],
+    },
+    Table {
+        name: "an entry that left one order stays in the other",
+        rows: &[
+            Act::Add(0),
+            Act::Add(1),
+            Act::Add(2),
+            Act::UnlinkUsed(1, Ok(())),
+            Act::UnlinkUsed(1, Ok(())),
+            Act::Len(PROBATION, 2),
+            Act::Len(WRITTEN, 3),
+            Act::Use(1, Ok(())),
+            Act::Back(PROBATION, Some(2)),
+        ],
+    },
+    Table {
+        name: "nodes of another queue are stale",
+        rows: &[
+            Act::Add(0),
+            Act::Add(1),
+            Act::UnlinkWrittenAsUsed(0, Some(Err(Stale))),
+            Act::Len(WRITTEN, 2),
+        ],
+    },
+    Table {
+        name: "a popped node is stale",
+        rows: &[
+            Act::Add(0),
+            Act::Add(1),
+            Act::Pop(PROBATION, Some(0)),
+            Act::Use(0, Err(Stale)),
+            Act::UnlinkUsed(0, Err(Stale)),
+            Act::Front(PROBATION, Some(1)),
+        ],
+    },
+    Table {
+        name: "calls on one queue",
+        rows: &[
+            Act::Add(0),
+            Act::Add(1),
+            Act::UseInDeque(0, Ok(())),
+            Act::Front(PROBATION, Some(1)),
+            Act::WriteInDeque(0, Ok(())),
+            Act::Front(WRITTEN, Some(1)),
+            Act::UnlinkUsedInDeque(1, Ok(())),
+            Act::Front(PROBATION, Some(0)),
+            Act::UnlinkWrittenInDeque(1, Ok(())),
+            Act::UnlinkWrittenNode(0, Some(Ok(()))),
+            Act::Len(WRITTEN, 0),
+        ],
+    },
+    Table {
+        name: "entries within a reservation",
+        rows: &[
+            Act::Reserve(9),
+            Act::AddWritten(0),
+            Act::AddWritten(1),
+            Act::AddWritten(2),
+            Act::AddWritten(3),
+            Act::AddWritten(4),
+            Act::AddWritten(5),
+            Act::AddWritten(6),
+            Act::AddWritten(7),
+            Act::AddWritten(8),
+            Act::Len(WRITTEN, 9),
+        ],
+    },
 ];
 
 #[test]
 fn entries_keep_both_orders(rt: HostRuntime) {
-    none_wrong(&rt, first_wrong(rt.alloc(), CASES));
+    assert_eq!(rt; first_wrong::<Cache, Act>(rt.alloc(), TABLES), None);
 }

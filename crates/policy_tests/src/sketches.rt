@@ -1,7 +1,7 @@
 //! The frequency sketch. A table that is refused for lack of memory is requested once more, and the sketch
 //! is as it was; so the tests pass with any one allocation refused.
-use crate::outcome::none_wrong;
 use moka_policy::FrequencySketch;
+use rows::{Stage, Table, first_wrong};
 use std::alloc::Global;
 
 /// What is done with a sketch.
@@ -43,67 +43,59 @@ fn comes_so(sketch: &mut FrequencySketch, act: Act) -> bool {
     }
 }
 
-/// Performs one after another, and returns the place of the first that failed.
-fn wrong_in(sketch: &mut FrequencySketch, acts: &[Act]) -> Option<usize> {
-    for (place, act) in acts.iter().enumerate() {
-        if !comes_so(sketch, *act) {
-            return Some(place);
-        }
+impl Stage<Act> for FrequencySketch {
+    fn new(alloc: Global) -> Option<Self> {
+        Some(FrequencySketch::default(alloc))
     }
-    None
-}
 
-/// The same on a new sketch, and returns the place of the first that failed.
-fn wrong_row(alloc: Global, acts: &[Act]) -> Option<usize> {
-    let mut sketch = FrequencySketch::default(alloc);
-    wrong_in(&mut sketch, acts)
-}
-
-/// Plays these cases, each on a new sketch, and returns the first that failed, and the place of its
-/// first failing row.
-fn first_wrong(alloc: Global, cases: &[&[Act]]) -> Option<(usize, usize)> {
-    for (number, acts) in cases.iter().enumerate() {
-        if let Some(place) = wrong_row(alloc, acts) {
-            return Some((number, place));
-        }
+    fn plays(&mut self, act: &Act) -> bool {
+        comes_so(self, *act)
     }
-    None
 }
 
-const CASES: &[&[Act]] = &[
-    // it counts up to fifteen
-    &[
-        Act::Count(1),
-        Act::Frequency(0),
-        Act::Grow(512),
-        Act::Count(20),
-        Act::Frequency(15),
-        Act::Grow(100),
-        Act::Frequency(15),
-    ],
-    // it ages at the sample
-    &[
-        Act::Grow(1),
-        Act::Count(9),
-        Act::Frequency(9),
-        Act::Count(1),
-        Act::Frequency(5),
-        Act::Count(4),
-        Act::Frequency(9),
-        Act::Count(1),
-        Act::Frequency(5),
-    ],
-    // a larger table begins anew
-    &[
-        Act::Grow(64),
-        Act::Count(7),
-        Act::Frequency(7),
-        Act::Grow(512),
-        Act::Frequency(0),
-    ],
+const TABLES: &[Table<'_, Act>] = &[
+    Table {
+        name: "a sketch counts up to fifteen",
+        rows: &[
+            Act::Count(1),
+            Act::Frequency(0),
+            Act::Grow(512),
+            Act::Count(20),
+            Act::Frequency(15),
+            Act::Grow(100),
+            Act::Frequency(15),
+        ],
+    },
+    Table {
+        name: "a sketch ages at the sample",
+        rows: &[
+            Act::Grow(1),
+            Act::Count(9),
+            Act::Frequency(9),
+            Act::Count(1),
+            Act::Frequency(5),
+            Act::Count(4),
+            Act::Frequency(9),
+            Act::Count(1),
+            Act::Frequency(5),
+        ],
+    },
+    Table {
+        name: "a larger table begins anew",
+        rows: &[
+            Act::Grow(64),
+            Act::Count(7),
+            Act::Frequency(7),
+            Act::Grow(512),
+            Act::Frequency(0),
+        ],
+    },
 ];
 
 #[test]
 fn sketches_count(rt: HostRuntime) {
-    none_wrong(&rt, first_wrong(rt.alloc(), CASES));
+    assert_eq!(rt;
+        first_wrong::<FrequencySketch, Act>(rt.alloc(), TABLES),
+        None
+    );
 }

@@ -1,9 +1,9 @@
 //! Timers. What is refused for memory is tried once more, and has changed nothing; so the tests
 //! pass with any one allocation refused.
-use crate::outcome::none_wrong;
 use moka_policy::{
     Due, EntryInfo, Instant, KeyHash, NodeId, ScheduleError, Slot, TimerEvent, TimerWheel,
 };
+use rows::{Stage, Table, first_wrong};
 use slab::Slab;
 use std::alloc::Global;
 use std::sync::Arc;
@@ -263,88 +263,81 @@ fn shows_so(timers: &mut Timers, act: Act) -> bool {
     }
 }
 
-/// Performs one after another, and returns the place of the first that failed.
-fn wrong_in(timers: &mut Timers, acts: &[Act]) -> Option<usize> {
-    for (place, act) in acts.iter().enumerate() {
-        if !comes_so(timers, *act) {
-            return Some(place);
-        }
+impl Stage<Act> for Timers {
+    fn new(alloc: Global) -> Option<Self> {
+        Some(new_timers(alloc))
     }
-    None
-}
 
-/// The same with new timers, and returns the place of the first that failed.
-fn wrong_row(alloc: Global, acts: &[Act]) -> Option<usize> {
-    let mut timers = new_timers(alloc);
-    wrong_in(&mut timers, acts)
-}
-
-/// Plays these cases, each with new timers, and returns the first that failed, and the place of its
-/// first failing row.
-fn first_wrong(alloc: Global, cases: &[&[Act]]) -> Option<(usize, usize)> {
-    for (number, acts) in cases.iter().enumerate() {
-        if let Some(place) = wrong_row(alloc, acts) {
-            return Some((number, place));
-        }
+    fn plays(&mut self, act: &Act) -> bool {
+        comes_so(self, *act)
     }
-    None
 }
 
-const CASES: &[&[Act]] = &[
-    // due timers expire
-    &[
-        Act::Schedule(TICK),
-        Act::Schedule(TICK - 4096),
-        Act::Schedule(TICK + 4096),
-        Act::Waits(TICK - 1),
-        Act::Expires(TICK),
-        Act::Expires(TICK),
-        Act::Waits(TICK),
-        Act::Len(1),
-        Act::Moment(TICK),
-    ],
-    // a dropped iterator leaves the moment
-    &[
-        Act::Schedule(TICK - 4096),
-        Act::Schedule(TICK),
-        Act::Expires(TICK),
-        Act::Moment(0),
-        Act::Expires(TICK),
-        Act::Len(0),
-    ],
-    // a thousand timers in falling order
-    &[Act::ScheduleThousand, Act::ExpiresAtEachTick, Act::Len(0)],
-    // timers placed, looked at, put at another time and taken one by one
-    &[
-        Act::Place(30, 3),
-        Act::Place(10, 1),
-        Act::Place(20, 2),
-        Act::NoFirst(9),
-        Act::First(10, 1),
-        Act::Replace(5),
-        Act::First(10, 2),
-        Act::Replace(25),
-        Act::First(25, 1),
-        Act::PopFirst,
-        Act::NoFirst(24),
-        Act::First(25, 2),
-        Act::PopFirst,
-        Act::ReplaceUnknown,
-        Act::First(30, 3),
-        Act::PopFirst,
-        Act::NoFirst(1000),
-        Act::Len(0),
-    ],
-    // timers within a reservation
-    &[
-        Act::Reserve(20),
-        Act::ScheduleReserved(TICK, 20),
-        Act::ExpiresOften(TICK, 20),
-        Act::Len(0),
-    ],
+const TABLES: &[Table<'_, Act>] = &[
+    Table {
+        name: "due timers expire",
+        rows: &[
+            Act::Schedule(TICK),
+            Act::Schedule(TICK - 4096),
+            Act::Schedule(TICK + 4096),
+            Act::Waits(TICK - 1),
+            Act::Expires(TICK),
+            Act::Expires(TICK),
+            Act::Waits(TICK),
+            Act::Len(1),
+            Act::Moment(TICK),
+        ],
+    },
+    Table {
+        name: "a dropped iterator leaves the moment",
+        rows: &[
+            Act::Schedule(TICK - 4096),
+            Act::Schedule(TICK),
+            Act::Expires(TICK),
+            Act::Moment(0),
+            Act::Expires(TICK),
+            Act::Len(0),
+        ],
+    },
+    Table {
+        name: "a thousand timers in falling order",
+        rows: &[Act::ScheduleThousand, Act::ExpiresAtEachTick, Act::Len(0)],
+    },
+    Table {
+        name: "timers placed, looked at, put at another time and taken one by one",
+        rows: &[
+            Act::Place(30, 3),
+            Act::Place(10, 1),
+            Act::Place(20, 2),
+            Act::NoFirst(9),
+            Act::First(10, 1),
+            Act::Replace(5),
+            Act::First(10, 2),
+            Act::Replace(25),
+            Act::First(25, 1),
+            Act::PopFirst,
+            Act::NoFirst(24),
+            Act::First(25, 2),
+            Act::PopFirst,
+            Act::ReplaceUnknown,
+            Act::First(30, 3),
+            Act::PopFirst,
+            Act::NoFirst(1000),
+            Act::Len(0),
+        ],
+    },
+    Table {
+        name: "timers within a reservation",
+        rows: &[
+            Act::Reserve(20),
+            Act::ScheduleReserved(TICK, 20),
+            Act::ExpiresOften(TICK, 20),
+            Act::Len(0),
+        ],
+    },
 ];
 
 #[test]
 fn timers_expire_when_they_are_due(rt: HostRuntime) {
-    none_wrong(&rt, first_wrong(rt.alloc(), CASES));
+    assert_eq!(rt; first_wrong::<Timers, Act>(rt.alloc(), TABLES), None);
 }
