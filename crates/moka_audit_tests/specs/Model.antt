@@ -8,3 +8,4 @@ pub mod Deadlines
 pub mod Belonging
 pub mod Commands
 pub mod Loads
+pub mod Bounds

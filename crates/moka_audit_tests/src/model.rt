@@ -7,6 +7,7 @@ ghost use Rattle.moka_audit_tests.specs.Model.Commands.{GoodCommands, BrokenComm
 ghost use Rattle.moka_audit_tests.specs.Model.Loads.{GoodLoads, BrokenLoads};
 ghost use Rattle.moka_audit_tests.specs.Model.Sizes.{GoodSizes, BrokenSizes};
 ghost use Rattle.moka_audit_tests.specs.Model.Belonging.{GoodBelonging, BrokenBelonging};
+ghost use Rattle.moka_audit_tests.specs.Model.Bounds.{RowsOfBytes, RowsOfParts, RowsOfRefusals, RowsOfClosings, RowsOfGiveUps, RowsOfConfigs, RowsOfRecency};
 ghost use Rattle.moka_audit_tests.specs.Model.Deadlines.{GoodDeadlines, BrokenDeadlines};
 
 /// Which bytes make which line, and which fault is told.
@@ -55,4 +56,16 @@ pub fn rows_of_deadlines()
 pub fn rows_of_belonging()
     ensures good { GoodBelonging }
     ensures broken { BrokenBelonging }
+{}
+
+/// Single definitions at their bounds: bytes of keys and digits, parts and shares, refusals, why a
+/// connection is closed, the 200th give-up, configurations, and the order of use.
+pub fn rows_of_bounds()
+    ensures bytes { RowsOfBytes }
+    ensures parts { RowsOfParts }
+    ensures refusals { RowsOfRefusals }
+    ensures closings { RowsOfClosings }
+    ensures give_ups { RowsOfGiveUps }
+    ensures configs { RowsOfConfigs }
+    ensures recencies { RowsOfRecency }
 {}

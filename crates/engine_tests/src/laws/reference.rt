@@ -1,6 +1,7 @@
 //! Worked rows of the reference cache, as computed checks: a small cache is played through the
 //! definitions, and what it tells, holds and shows is compared.
 
+ghost use Rattle.engine_tests.specs.Laws.Bounds.{RowsOfMoments, RowsOfChanges, RowsOfCover, RowsOfRoom, RowsOfTables, RowsOfApplied, RowsOfDue};
 ghost use Rattle.engine_tests.specs.Laws.Rows.{RowsOfTimes, RowsOfCoverage, RowsOfLeastRecentlyUsed, RowsOfFrequencies, RowsOfSending};
 
 /// Live and idle times and own expirations end at the very moment; what a write tells of a dead
@@ -28,4 +29,16 @@ pub fn rows_of_frequencies()
 /// The queue takes 128 writes, each ticket once.
 pub fn rows_of_sending()
     ensures { RowsOfSending }
+{}
+
+/// Single definitions at their bounds: moments and own expirations, coverage and what is reported,
+/// room, the sketch's table, what runs apply, and when one is due.
+pub fn rows_of_bounds()
+    ensures moments { RowsOfMoments }
+    ensures changes { RowsOfChanges }
+    ensures cover { RowsOfCover }
+    ensures room { RowsOfRoom }
+    ensures tables { RowsOfTables }
+    ensures applied { RowsOfApplied }
+    ensures due { RowsOfDue }
 {}

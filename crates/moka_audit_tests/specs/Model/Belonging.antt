@@ -29,11 +29,25 @@ first_last =
       connections = record { number = 1; unread = []; standing = Ready; waited = 0 } ∷ [];
     }
 
+-- the first of two feeds found no memory
+abbrev pub inputs_of_feeds : List Input
+inputs_of_feeds = input.Open 1
+    ∷ input.Feed (record { namespace = 1; number = 1 }) (text "GET a") (at 5)
+    ∷ input.Feed (record { namespace = 1; number = 1 }) (text "GET b") (at 6) ∷ []
+
+abbrev pub second_records : List Record
+second_records = opened 1 ∷ made_feed 1 6 (text "GET b") (says 1 "GET b" (text "NONE") ∷ []) ∷ []
+
+abbrev pub second_last : Situation
+second_last = record first_last { latest = 6 }
+
 pub record GoodBelonging : Type 0 where
   pub first_belongs : BelongsIn plain_config 1 (empty_situation 0) inputs_of_both first_records
       first_last
   pub other_left_out : BelongsIn plain_config 2 (empty_situation 0) inputs_of_both []
       (empty_situation 0)
+  pub feed_left_out : BelongsIn plain_config 1 (empty_situation 0) inputs_of_feeds second_records
+      second_last
 
 -- ---- broken
 

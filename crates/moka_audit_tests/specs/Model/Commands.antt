@@ -252,6 +252,21 @@ fed_after_quit = history (opened 1
     ∷ made_feed 1 0 (text "QUIT") (says 1 "QUIT" (text "OK") ∷ [])
     ∷ made_feed 1 0 (text "GET a") (says 1 "GET a" (text "NONE") ∷ []) ∷ [])
 
+-- an `ADD` over a dead value does not report it as replaced
+abbrev pub dead_sum_replaced : Transcript
+dead_sum_replaced = history (opened 1
+    ∷ made_feed 1 0 (text "SET n - 1") (takes 1 "SET n - 1" (text "OK") [] ∷ [])
+    ∷ made_feed 1 7000000 (text "ADD n - 1")
+    (takes 1 "ADD n - 1" (text "VAL 1") (note Replaced "n" "1" ∷ []) ∷ []) ∷ [])
+
+-- nor over a covered one
+abbrev pub covered_sum_replaced : Transcript
+covered_sum_replaced = history (opened 1
+    ∷ made_feed 1 0 (text "SET n - 1") (takes 1 "SET n - 1" (text "OK") [] ∷ [])
+    ∷ made_feed 1 0 (text "CLEAR") (says 1 "CLEAR" (text "OK") ∷ [])
+    ∷ made_feed 1 0 (text "ADD n - 1")
+    (takes 1 "ADD n - 1" (text "VAL 1") (note Replaced "n" "1" ∷ []) ∷ []) ∷ [])
+
 pub record BrokenCommands : Type 0 where
   pub has_tells_breaks : BreaksAfter 2 (of_idle_ms 7) has_tells
   pub has_uses_breaks : BreaksAfter 3 (of_idle_ms 7) has_uses
@@ -268,3 +283,5 @@ pub record BrokenCommands : Type 0 where
   pub keys_out_of_order_breaks : BreaksAfter 3 plain_config keys_out_of_order
   pub quit_goes_on_breaks : BreaksAfter 1 plain_config quit_goes_on
   pub fed_after_quit_breaks : BreaksAfter 2 plain_config fed_after_quit
+  pub dead_sum_replaced_breaks : BreaksAfter 2 (of_idle_ms 7) dead_sum_replaced
+  pub covered_sum_replaced_breaks : BreaksAfter 3 plain_config covered_sum_replaced

@@ -1,7 +1,8 @@
 -- Rows of connections: opened, closed, fed in turn, and commands held back for lack of memory.
 use Rattle.std.specs.Prelude.{◌^◌, [], ◌∷◌, ◌++◌}
 use Rattle.audit_model.specs.declared.transcript.Transcript.{Transcript}
-use Rattle.moka_audit_tests.specs.Model.Making.{text, opened, closed, made_feed, says, takes, made_held_step, history, plain_config, IsGood, BreaksAfter}
+use Rattle.audit_model.specs.declared.transcript.RemovalCause.TheVariants.{Expired}
+use Rattle.moka_audit_tests.specs.Model.Making.{text, opened, closed, made_feed, says, takes, made_held_step, note, history, plain_config, of_idle_ms, IsGood, BreaksAfter}
 
 -- ---- good
 
@@ -81,6 +82,14 @@ line_passes_held = history (opened 1
     ∷ made_feed 1 0 (text "GET a" ++ text "GET b")
     (made_held_step 1 "GET a" ∷ says 1 "GET b" (text "NONE") ∷ []) ∷ [])
 
+-- a line that is held back reports nothing
+abbrev pub held_tells : Transcript
+held_tells = history (opened 1
+    ∷ made_feed 1 0 (text "SET a - 1") (takes 1 "SET a - 1" (text "OK") [] ∷ [])
+    ∷ made_feed 1 7000000 (text "GET b") (record (made_held_step 1 "GET b") {
+      notices = note Expired "a" "1" ∷ [];
+    } ∷ []) ∷ [])
+
 pub record BrokenConnections : Type 0 where
   pub feed_first_breaks : BreaksAfter 0 plain_config feed_first
   pub wrong_number_breaks : BreaksAfter 1 plain_config wrong_number
@@ -91,3 +100,4 @@ pub record BrokenConnections : Type 0 where
   pub held_delete_hides_breaks : BreaksAfter 4 plain_config held_delete_hides
   pub held_again_breaks : BreaksAfter 2 plain_config held_again
   pub line_passes_held_breaks : BreaksAfter 1 plain_config line_passes_held
+  pub held_tells_breaks : BreaksAfter 2 (of_idle_ms 7) held_tells

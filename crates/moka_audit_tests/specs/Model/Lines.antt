@@ -16,8 +16,8 @@ says_to line reply =
 
 -- ---- good
 
-abbrev pub nothing : Transcript
-nothing = history []
+abbrev pub no_record : Transcript
+no_record = history []
 
 abbrev pub no_input : Transcript
 no_input = history (opened 1 ∷ [])
@@ -97,7 +97,7 @@ line_too_long = history (opened 1
     ∷ made_feed 2 0 (text "GET a") (says 2 "GET a" (text "NONE") ∷ []) ∷ [])
 
 pub record GoodLines : Type 0 where
-  pub nothing_good : IsGood plain_config nothing
+  pub no_record_good : IsGood plain_config no_record
   pub no_input_good : IsGood plain_config no_input
   pub cut_pieces_good : IsGood plain_config cut_pieces
   pub bad_lines_good : IsGood plain_config bad_lines

@@ -2,7 +2,7 @@
 use Rattle.std.specs.Prelude.{ℕ, List, [], ◌∷◌, ◌++◌, None, Some, codes, replicate}
 use Rattle.audit_model.specs.declared.event.Outcome.TheVariants as outcome
 use Rattle.audit_model.specs.declared.transcript.Record.{Record}
-use Rattle.audit_model.specs.declared.transcript.RemovalCause.TheVariants.{Explicit, Replaced}
+use Rattle.audit_model.specs.declared.transcript.RemovalCause.TheVariants.{Expired, Explicit, Replaced}
 use Rattle.audit_model.specs.declared.transcript.Transcript.{Transcript}
 use Rattle.moka_audit_tests.specs.Model.Making.{text, opened, closed, made_feed, answered, stored, given_up, came, failed, says, takes, tells, sends, joins, made_held_step, note, history, plain_config, of_capacity, of_idle_ms, with_deadlines, IsGood, BreaksAfter}
 
@@ -219,6 +219,14 @@ told_without_value = over_two_connections (first_asks
     ∷ answered 1 0 outcome.None (note Replaced "k" "1" ∷ []) (says 1 "LOAD k" (text "NONE") ∷ [])
     ∷ [])
 
+-- so it is where the note's cause is true
+abbrev pub dead_told_without_value : Transcript
+dead_told_without_value = history (opened 1
+    ∷ made_feed 1 0 (text "SET a - 1" ++ text "LOAD k")
+    (takes 1 "SET a - 1" (text "OK") [] ∷ sends 1 "LOAD k" 1 ∷ [])
+    ∷ answered 1 7000000 outcome.None (note Expired "a" "1" ∷ [])
+    (says 1 "LOAD k" (text "NONE") ∷ []) ∷ [])
+
 -- a waiting connection is forgotten
 abbrev pub one_forgotten : Transcript
 one_forgotten = over_two_connections (first_asks
@@ -266,6 +274,13 @@ live_value_missed = history (opened 1
     ∷ made_feed 1 0 (text "SET a - 1") (takes 1 "SET a - 1" (text "OK") [] ∷ [])
     ∷ made_feed 1 0 (text "LOAD a") (sends 1 "LOAD a" 1 ∷ []) ∷ [])
 
+-- those that wait are answered in the order in which they joined
+abbrev pub answered_out_of_order : Transcript
+answered_out_of_order = over_two_connections (first_asks
+    ∷ second_joins
+    ∷ stored 1 0 (came "v") []
+    (says 2 "LOAD k" (text "VAL v") ∷ says 1 "LOAD k" (text "VAL v") ∷ []) ∷ [])
+
 pub record BrokenLoads : Type 0 where
   pub own_load_each_breaks : BreaksAfter 3 plain_config own_load_each
   pub load_number_skipped_breaks : BreaksAfter 1 plain_config load_number_skipped
@@ -276,6 +291,7 @@ pub record BrokenLoads : Type 0 where
   pub value_skipped_breaks : BreaksAfter 4 plain_config value_skipped
   pub kept_at_capacity_0_breaks : BreaksAfter 2 (of_capacity 0) kept_at_capacity_0
   pub told_without_value_breaks : BreaksAfter 4 plain_config told_without_value
+  pub dead_told_without_value_breaks : BreaksAfter 2 (of_idle_ms 7) dead_told_without_value
   pub one_forgotten_breaks : BreaksAfter 4 plain_config one_forgotten
   pub line_before_the_second_breaks : BreaksAfter 4 plain_config line_before_the_second
   pub closed_is_answered_breaks : BreaksAfter 5 plain_config closed_is_answered
@@ -283,3 +299,4 @@ pub record BrokenLoads : Type 0 where
   pub value_of_two_lines_breaks : BreaksAfter 2 plain_config value_of_two_lines
   pub value_with_a_time_breaks : BreaksAfter 2 plain_config value_with_a_time
   pub live_value_missed_breaks : BreaksAfter 2 plain_config live_value_missed
+  pub answered_out_of_order_breaks : BreaksAfter 4 plain_config answered_out_of_order

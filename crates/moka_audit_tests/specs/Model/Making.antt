@@ -72,6 +72,10 @@ says conn line reply = tells conn line reply []
 abbrev pub takes : ℕ → String → List ℕ → List Note → Step
 takes conn line reply notes = made_step conn (codes line) reply (Some (record { part = 0 })) notes
 
+-- a step that accepts a value into the second part
+abbrev pub takes_second : ℕ → String → List ℕ → List Note → Step
+takes_second conn line reply notes = made_step conn (codes line) reply (Some (record { part = 1 })) notes
+
 -- a `LOAD` that begins to wait: it sends the load of that number, or joins one
 abbrev pub made_waiting_step : ℕ → String → Option ℕ → Step
 made_waiting_step conn line load = record { conn = conn; line = codes line; held = false; reply = None; load = load; accepted = None; notices = [] }
@@ -105,6 +109,10 @@ of_capacity n = record plain_config { capacity = Some n }
 abbrev pub of_bytes : ℕ → Config
 of_bytes n = record plain_config { capacity = Some n; weight = weigh.Bytes }
 
+-- two parts that share a capacity
+abbrev pub of_two_parts : Option ℕ → Config
+of_two_parts capacity = record plain_config { capacity = capacity; parts = 2 }
+
 abbrev pub of_idle_ms : ℕ → Config
 of_idle_ms n = record plain_config { idle_ms = Some n }
 
@@ -118,14 +126,14 @@ with_deadlines config = record config { own_deadlines = true }
 
 -- the number of the first record of which the front is not good, how many records follow one another, and whether all of them lead to the
 -- situation that their history leaves
-abbrev pub judged : Config → Transcript → Option ℕ × ℕ × Bool
-judged config transcript =
+abbrev pub judgement : Config → Transcript → Option ℕ × ℕ × Bool
+judgement config transcript =
     (first_break config transcript, followed config (empty_situation 0) transcript.records, leads_to_summary config 0 transcript.records)
 
 -- the transcript obeys, no event of it is refused, and its records follow one another to the situation that their history leaves
 abbrev pub IsGood : Config → Transcript → Type 0
-IsGood config transcript = judged config transcript ≡ (None, length transcript.records, true)
+IsGood config transcript = judgement config transcript ≡ (None, length transcript.records, true)
 
 -- of the transcript the first n records are good, and the next one breaks a rule
 abbrev pub BreaksAfter : ℕ → Config → Transcript → Type 0
-BreaksAfter n config transcript = judged config transcript ≡ (Some (suc n), n, false)
+BreaksAfter n config transcript = judgement config transcript ≡ (Some (suc n), n, false)

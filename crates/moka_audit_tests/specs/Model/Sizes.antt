@@ -1,8 +1,8 @@
 -- Rows of capacities: what is reported as `Size`, and when that is true.
-use Rattle.std.specs.Prelude.{[], ◌∷◌}
+use Rattle.std.specs.Prelude.{[], ◌∷◌, Some}
 use Rattle.audit_model.specs.declared.transcript.Transcript.{Transcript}
 use Rattle.audit_model.specs.declared.transcript.RemovalCause.TheVariants.{Explicit, Replaced, Size}
-use Rattle.moka_audit_tests.specs.Model.Making.{text, opened, made_feed, says, takes, tells, note, history, plain_config, of_capacity, of_bytes, IsGood, BreaksAfter}
+use Rattle.moka_audit_tests.specs.Model.Making.{text, opened, made_feed, says, takes, takes_second, tells, note, history, plain_config, of_capacity, of_bytes, of_two_parts, IsGood, BreaksAfter}
 
 -- ---- good
 
@@ -82,6 +82,32 @@ size_twice = history (opened 1
     (takes 1 "SET c - 3" (text "OK") (note Size "c" "3" ∷ note Size "a" "1" ∷ []) ∷ [])
     ∷ made_feed 1 0 (text "SYNC") (says 1 "SYNC" (text "SYNC 1 1") ∷ []) ∷ [])
 
+-- each part has its own share
+abbrev pub a_share_each : Transcript
+a_share_each = history (opened 1
+    ∷ made_feed 1 0 (text "SET a - 1") (takes 1 "SET a - 1" (text "OK") [] ∷ [])
+    ∷ made_feed 1 0 (text "SET b - 1") (takes_second 1 "SET b - 1" (text "OK") [] ∷ [])
+    ∷ made_feed 1 0 (text "SYNC") (says 1 "SYNC" (text "SYNC 2 2") ∷ []) ∷ [])
+
+-- a share is rounded up
+abbrev pub a_share_rounded_up : Transcript
+a_share_rounded_up = history (opened 1
+    ∷ made_feed 1 0 (text "SET a - 1") (takes 1 "SET a - 1" (text "OK") [] ∷ [])
+    ∷ made_feed 1 0 (text "SET b - 1") (takes 1 "SET b - 1" (text "OK") [] ∷ [])
+    ∷ made_feed 1 0 (text "SYNC") (says 1 "SYNC" (text "SYNC 2 2") ∷ []) ∷ [])
+
+-- a step that tells `Size` of one part ends nothing of the other
+abbrev pub told_of_both_parts : Transcript
+told_of_both_parts = history (opened 1
+    ∷ made_feed 1 0 (text "SET a - 1") (takes 1 "SET a - 1" (text "OK") [] ∷ [])
+    ∷ made_feed 1 0 (text "SET b - 1") (takes 1 "SET b - 1" (text "OK") [] ∷ [])
+    ∷ made_feed 1 0 (text "SET c - 1") (takes_second 1 "SET c - 1" (text "OK") [] ∷ [])
+    ∷ made_feed 1 0 (text "SET d - 1") (takes_second 1 "SET d - 1" (text "OK") [] ∷ [])
+    ∷ made_feed 1 0 (text "DEL d") (tells 1 "DEL d" (text "OK") (note Explicit "d" "1" ∷ []) ∷ [])
+    ∷ made_feed 1 0 (text "GET a") (tells 1 "GET a" (text "VAL 1") (note Size "a" "1" ∷ []) ∷ [])
+    ∷ made_feed 1 0 (text "GET c") (tells 1 "GET c" (text "VAL 1") (note Size "c" "1" ∷ []) ∷ [])
+    ∷ [])
+
 pub record GoodSizes : Type 0 where
   pub oldest_leaves_good : IsGood (of_capacity 2) oldest_leaves
   pub used_stays_good : IsGood (of_capacity 2) used_stays
@@ -91,6 +117,9 @@ pub record GoodSizes : Type 0 where
   pub size_after_delete_good : IsGood (of_capacity 2) size_after_delete
   pub size_in_its_step_good : IsGood (of_capacity 2) size_in_its_step
   pub size_twice_good : IsGood (of_capacity 2) size_twice
+  pub a_share_each_good : IsGood (of_two_parts (Some 2)) a_share_each
+  pub a_share_rounded_up_good : IsGood (of_two_parts (Some 3)) a_share_rounded_up
+  pub told_of_both_parts_good : IsGood (of_two_parts (Some 2)) told_of_both_parts
 
 -- ---- broken
 
@@ -158,6 +187,23 @@ size_twice_apart = history (opened 1
     ∷ made_feed 1 0 (text "GET a") (tells 1 "GET a" (text "VAL 1") (note Size "a" "1" ∷ []) ∷ [])
     ∷ [])
 
+-- only the other part was too full
+abbrev pub size_of_the_other_part : Transcript
+size_of_the_other_part = history (opened 1
+    ∷ made_feed 1 0 (text "SET a - 1") (takes 1 "SET a - 1" (text "OK") [] ∷ [])
+    ∷ made_feed 1 0 (text "SET b - 1") (takes 1 "SET b - 1" (text "OK") [] ∷ [])
+    ∷ made_feed 1 0 (text "SET c - 1") (takes_second 1 "SET c - 1" (text "OK") [] ∷ [])
+    ∷ made_feed 1 0 (text "GET c") (tells 1 "GET c" (text "VAL 1") (note Size "c" "1" ∷ []) ∷ [])
+    ∷ [])
+
+-- the value that a write replaces does not count beside the new one
+abbrev pub overwriting_fills_nothing : Transcript
+overwriting_fills_nothing = history (opened 1
+    ∷ made_feed 1 0 (text "SET a - 1") (takes 1 "SET a - 1" (text "OK") [] ∷ [])
+    ∷ made_feed 1 0 (text "SET b - 1") (takes 1 "SET b - 1" (text "OK") [] ∷ [])
+    ∷ made_feed 1 0 (text "SET b - 2")
+    (takes 1 "SET b - 2" (text "OK") (note Replaced "b" "1" ∷ note Size "a" "1" ∷ []) ∷ []) ∷ [])
+
 pub record BrokenSizes : Type 0 where
   pub keeps_nothing_breaks : BreaksAfter 1 plain_config keeps_nothing
   pub too_much_after_sync_breaks : BreaksAfter 4 (of_capacity 2) too_much_after_sync
@@ -166,3 +212,5 @@ pub record BrokenSizes : Type 0 where
   pub size_after_delete_and_sync_breaks : BreaksAfter 6 (of_capacity 2) size_after_delete_and_sync
   pub size_of_later_breaks : BreaksAfter 7 (of_capacity 2) size_of_later
   pub size_twice_apart_breaks : BreaksAfter 4 (of_capacity 2) size_twice_apart
+  pub size_of_the_other_part_breaks : BreaksAfter 4 (of_two_parts (Some 2)) size_of_the_other_part
+  pub overwriting_fills_nothing_breaks : BreaksAfter 3 (of_capacity 2) overwriting_fills_nothing

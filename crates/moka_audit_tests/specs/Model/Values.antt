@@ -1,9 +1,8 @@
 -- Rows of values: shown while live, told once with a true cause, counted by `SYNC`.
-use Rattle.std.specs.Prelude.{◌≡◌, [], ◌∷◌, codes, Some, true}
-use Rattle.audit_model.specs.declared.config.Config.{Config}
+use Rattle.std.specs.Prelude.{◌≡◌, [], ◌∷◌, Some, None, true}
 use Rattle.audit_model.specs.declared.transcript.Transcript.{Transcript}
 use Rattle.audit_model.specs.declared.transcript.RemovalCause.TheVariants.{Expired, Explicit, Replaced}
-use Rattle.moka_audit_tests.specs.Model.Making.{text, opened, made_feed, made_step, says, takes, tells, note, history, plain_config, judged, IsGood, BreaksAfter}
+use Rattle.moka_audit_tests.specs.Model.Making.{text, opened, made_feed, says, takes, takes_second, tells, note, history, plain_config, of_two_parts, judgement, IsGood, BreaksAfter}
 
 -- ---- good
 
@@ -55,9 +54,7 @@ get_accepts =
 
 abbrev pub part_too_high : Transcript
 part_too_high = history (opened 1
-    ∷ made_feed 1 0 (text "SET a - 1") (made_step 1 (codes "SET a - 1") (text "OK") (Some (record {
-      part = 1;
-    })) [] ∷ []) ∷ [])
+    ∷ made_feed 1 0 (text "SET a - 1") (takes_second 1 "SET a - 1" (text "OK") [] ∷ []) ∷ [])
 
 abbrev pub silent_set : Transcript
 silent_set = history (opened 1
@@ -104,12 +101,8 @@ counts_drift = history (opened 1
 abbrev pub two_parts : Transcript
 two_parts = history (opened 1
     ∷ made_feed 1 0 (text "SET a - 1") (takes 1 "SET a - 1" (text "OK") [] ∷ [])
-    ∷ made_feed 1 0 (text "SET a - 2") (made_step 1 (codes "SET a - 2") (text "OK") (Some (record {
-      part = 1;
-    })) (note Replaced "a" "1" ∷ []) ∷ []) ∷ [])
-
-abbrev pub of_two_parts : Config
-of_two_parts = record plain_config { parts = 2 }
+    ∷ made_feed 1 0 (text "SET a - 2")
+    (takes_second 1 "SET a - 2" (text "OK") (note Replaced "a" "1" ∷ []) ∷ []) ∷ [])
 
 pub record BrokenValues : Type 0 where
   pub told_value_shown_breaks : BreaksAfter 3 plain_config told_value_shown
@@ -124,4 +117,4 @@ pub record BrokenValues : Type 0 where
   pub always_explicit_breaks : BreaksAfter 2 plain_config always_explicit
   pub expired_without_deadline_breaks : BreaksAfter 2 plain_config expired_without_deadline
   pub counts_drift_breaks : BreaksAfter 2 plain_config counts_drift
-  pub two_parts_break : judged of_two_parts two_parts ≡ (Some 3, 3, true)
+  pub two_parts_break : judgement (of_two_parts None) two_parts ≡ (Some 3, 3, true)

@@ -2,7 +2,7 @@
 use Rattle.std.proofs.Common.{refl}
 use Rattle.std.specs.Fmt.{digits}
 use Rattle.moka_audit_tests.specs.Model.Making.{plain_config, of_capacity, of_idle_ms, with_deadlines, IsGood, BreaksAfter}
-use Rattle.moka_audit_tests.specs.Model.Commands.{has_is_no_use, sums, sum_with_deadline, failed_sum_uses, numbers, no_room_for_sums, add_tells_size, cleared, cleared_and_held, prefix_dropped, second_id, keys_in_order, quit, bare_words, has_tells, has_uses, silent_add, sum_without_held, sum_not_stored, cleared_shown, clear_tells, dropped_shown, other_prefix_dropped, first_id, refused_drop_covers, key_left_out, keys_out_of_order, quit_goes_on, fed_after_quit}
+use Rattle.moka_audit_tests.specs.Model.Commands.{has_is_no_use, sums, sum_with_deadline, failed_sum_uses, numbers, no_room_for_sums, add_tells_size, cleared, cleared_and_held, prefix_dropped, second_id, keys_in_order, quit, bare_words, has_tells, has_uses, silent_add, sum_without_held, sum_not_stored, cleared_shown, clear_tells, dropped_shown, other_prefix_dropped, first_id, refused_drop_covers, key_left_out, keys_out_of_order, quit_goes_on, fed_after_quit, dead_sum_replaced, covered_sum_replaced}
 use Rattle.moka_audit_tests.proofs.model.rows_of_commands.Goals as goal
 
 has_is_no_use_good : IsGood (of_idle_ms 7) has_is_no_use
@@ -121,8 +121,16 @@ fed_after_quit_breaks : BreaksAfter 2 plain_config fed_after_quit
 unfolding digits
 fed_after_quit_breaks = refl
 
+dead_sum_replaced_breaks : BreaksAfter 2 (of_idle_ms 7) dead_sum_replaced
+unfolding digits
+dead_sum_replaced_breaks = refl
+
+covered_sum_replaced_breaks : BreaksAfter 3 plain_config covered_sum_replaced
+unfolding digits
+covered_sum_replaced_breaks = refl
+
 pub returns-clause-good : goal.returns-clause-good
 returns-clause-good c = record { has_is_no_use_good = has_is_no_use_good; sums_good = sums_good; sum_with_deadline_good = sum_with_deadline_good; failed_sum_uses_good = failed_sum_uses_good; numbers_good = numbers_good; no_room_for_sums_good = no_room_for_sums_good; add_tells_size_good = add_tells_size_good; cleared_good = cleared_good; cleared_and_held_good = cleared_and_held_good; prefix_dropped_good = prefix_dropped_good; second_id_good = second_id_good; keys_in_order_good = keys_in_order_good; quit_good = quit_good; bare_words_good = bare_words_good }
 
 pub returns-clause-broken : goal.returns-clause-broken
-returns-clause-broken c = record { has_tells_breaks = has_tells_breaks; has_uses_breaks = has_uses_breaks; silent_add_breaks = silent_add_breaks; sum_without_held_breaks = sum_without_held_breaks; sum_not_stored_breaks = sum_not_stored_breaks; cleared_shown_breaks = cleared_shown_breaks; clear_tells_breaks = clear_tells_breaks; dropped_shown_breaks = dropped_shown_breaks; other_prefix_dropped_breaks = other_prefix_dropped_breaks; first_id_breaks = first_id_breaks; refused_drop_covers_breaks = refused_drop_covers_breaks; key_left_out_breaks = key_left_out_breaks; keys_out_of_order_breaks = keys_out_of_order_breaks; quit_goes_on_breaks = quit_goes_on_breaks; fed_after_quit_breaks = fed_after_quit_breaks }
+returns-clause-broken c = record { has_tells_breaks = has_tells_breaks; has_uses_breaks = has_uses_breaks; silent_add_breaks = silent_add_breaks; sum_without_held_breaks = sum_without_held_breaks; sum_not_stored_breaks = sum_not_stored_breaks; cleared_shown_breaks = cleared_shown_breaks; clear_tells_breaks = clear_tells_breaks; dropped_shown_breaks = dropped_shown_breaks; other_prefix_dropped_breaks = other_prefix_dropped_breaks; first_id_breaks = first_id_breaks; refused_drop_covers_breaks = refused_drop_covers_breaks; key_left_out_breaks = key_left_out_breaks; keys_out_of_order_breaks = keys_out_of_order_breaks; quit_goes_on_breaks = quit_goes_on_breaks; fed_after_quit_breaks = fed_after_quit_breaks; dead_sum_replaced_breaks = dead_sum_replaced_breaks; covered_sum_replaced_breaks = covered_sum_replaced_breaks }

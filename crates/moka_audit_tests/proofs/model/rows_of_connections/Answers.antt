@@ -1,8 +1,8 @@
 -- Each row by computation.
 use Rattle.std.proofs.Common.{refl}
 use Rattle.std.specs.Fmt.{digits}
-use Rattle.moka_audit_tests.specs.Model.Making.{plain_config, IsGood, BreaksAfter}
-use Rattle.moka_audit_tests.specs.Model.Connections.{two_connections, held_command, held_delete, lines_behind_held, feed_first, wrong_number, fed_after_close, closed_twice, other_connection, moment_too_late, held_delete_hides, held_again, line_passes_held}
+use Rattle.moka_audit_tests.specs.Model.Making.{plain_config, of_idle_ms, IsGood, BreaksAfter}
+use Rattle.moka_audit_tests.specs.Model.Connections.{two_connections, held_command, held_delete, lines_behind_held, feed_first, wrong_number, fed_after_close, closed_twice, other_connection, moment_too_late, held_delete_hides, held_again, line_passes_held, held_tells}
 use Rattle.moka_audit_tests.proofs.model.rows_of_connections.Goals as goal
 
 two_connections_good : IsGood plain_config two_connections
@@ -57,8 +57,12 @@ line_passes_held_breaks : BreaksAfter 1 plain_config line_passes_held
 unfolding digits
 line_passes_held_breaks = refl
 
+held_tells_breaks : BreaksAfter 2 (of_idle_ms 7) held_tells
+unfolding digits
+held_tells_breaks = refl
+
 pub returns-clause-good : goal.returns-clause-good
 returns-clause-good c = record { two_connections_good = two_connections_good; held_command_good = held_command_good; held_delete_good = held_delete_good; lines_behind_held_good = lines_behind_held_good }
 
 pub returns-clause-broken : goal.returns-clause-broken
-returns-clause-broken c = record { feed_first_breaks = feed_first_breaks; wrong_number_breaks = wrong_number_breaks; fed_after_close_breaks = fed_after_close_breaks; closed_twice_breaks = closed_twice_breaks; other_connection_breaks = other_connection_breaks; moment_too_late_breaks = moment_too_late_breaks; held_delete_hides_breaks = held_delete_hides_breaks; held_again_breaks = held_again_breaks; line_passes_held_breaks = line_passes_held_breaks }
+returns-clause-broken c = record { feed_first_breaks = feed_first_breaks; wrong_number_breaks = wrong_number_breaks; fed_after_close_breaks = fed_after_close_breaks; closed_twice_breaks = closed_twice_breaks; other_connection_breaks = other_connection_breaks; moment_too_late_breaks = moment_too_late_breaks; held_delete_hides_breaks = held_delete_hides_breaks; held_again_breaks = held_again_breaks; line_passes_held_breaks = line_passes_held_breaks; held_tells_breaks = held_tells_breaks }

@@ -2,12 +2,12 @@
 use Rattle.std.proofs.Common.{refl}
 use Rattle.std.specs.Fmt.{digits}
 use Rattle.moka_audit_tests.specs.Model.Making.{plain_config, with_deadlines, IsGood, BreaksAfter}
-use Rattle.moka_audit_tests.specs.Model.Lines.{nothing, no_input, cut_pieces, bad_lines, returns, deadline_digits, longest_key, key_too_long, key_byte_too_high, longest_line, longest_value, value_too_long, line_too_long, other_fault, line_with_return, line_left_over, line_without_end, lines_swapped, key_too_long_read, fed_after_long_line}
+use Rattle.moka_audit_tests.specs.Model.Lines.{no_record, no_input, cut_pieces, bad_lines, returns, deadline_digits, longest_key, key_too_long, key_byte_too_high, longest_line, longest_value, value_too_long, line_too_long, other_fault, line_with_return, line_left_over, line_without_end, lines_swapped, key_too_long_read, fed_after_long_line}
 use Rattle.moka_audit_tests.proofs.model.rows_of_lines.Goals as goal
 
-nothing_good : IsGood plain_config nothing
+no_record_good : IsGood plain_config no_record
 unfolding digits
-nothing_good = refl
+no_record_good = refl
 
 no_input_good : IsGood plain_config no_input
 unfolding digits
@@ -86,7 +86,7 @@ unfolding digits
 fed_after_long_line_breaks = refl
 
 pub returns-clause-good : goal.returns-clause-good
-returns-clause-good c = record { nothing_good = nothing_good; no_input_good = no_input_good; cut_pieces_good = cut_pieces_good; bad_lines_good = bad_lines_good; returns_good = returns_good; deadline_digits_good = deadline_digits_good; longest_key_good = longest_key_good; key_too_long_good = key_too_long_good; key_byte_too_high_good = key_byte_too_high_good; longest_line_good = longest_line_good; longest_value_good = longest_value_good; value_too_long_good = value_too_long_good; line_too_long_good = line_too_long_good }
+returns-clause-good c = record { no_record_good = no_record_good; no_input_good = no_input_good; cut_pieces_good = cut_pieces_good; bad_lines_good = bad_lines_good; returns_good = returns_good; deadline_digits_good = deadline_digits_good; longest_key_good = longest_key_good; key_too_long_good = key_too_long_good; key_byte_too_high_good = key_byte_too_high_good; longest_line_good = longest_line_good; longest_value_good = longest_value_good; value_too_long_good = value_too_long_good; line_too_long_good = line_too_long_good }
 
 pub returns-clause-broken : goal.returns-clause-broken
 returns-clause-broken c = record { other_fault_breaks = other_fault_breaks; line_with_return_breaks = line_with_return_breaks; line_left_over_breaks = line_left_over_breaks; line_without_end_breaks = line_without_end_breaks; lines_swapped_breaks = lines_swapped_breaks; key_too_long_read_breaks = key_too_long_read_breaks; fed_after_long_line_breaks = fed_after_long_line_breaks }

@@ -1,8 +1,8 @@
 -- Each row by computation.
-use Rattle.std.proofs.Common.{◌≡◌, refl, true, Some}
+use Rattle.std.proofs.Common.{◌≡◌, refl, true, Some, None}
 use Rattle.std.specs.Fmt.{digits}
-use Rattle.moka_audit_tests.specs.Model.Making.{plain_config, judged, IsGood, BreaksAfter}
-use Rattle.moka_audit_tests.specs.Model.Values.{set_get_delete, set_twice, delete_nothing, told_value_shown, live_value_hidden, accepts_nothing, get_accepts, part_too_high, silent_set, silent_delete, told_twice, other_value_told, always_explicit, expired_without_deadline, counts_drift, two_parts, of_two_parts}
+use Rattle.moka_audit_tests.specs.Model.Making.{plain_config, of_two_parts, judgement, IsGood, BreaksAfter}
+use Rattle.moka_audit_tests.specs.Model.Values.{set_get_delete, set_twice, delete_nothing, told_value_shown, live_value_hidden, accepts_nothing, get_accepts, part_too_high, silent_set, silent_delete, told_twice, other_value_told, always_explicit, expired_without_deadline, counts_drift, two_parts}
 use Rattle.moka_audit_tests.proofs.model.rows_of_values.Goals as goal
 
 set_get_delete_good : IsGood plain_config set_get_delete
@@ -65,7 +65,7 @@ counts_drift_breaks : BreaksAfter 2 plain_config counts_drift
 unfolding digits
 counts_drift_breaks = refl
 
-two_parts_break : judged of_two_parts two_parts ≡ (Some 3, 3, true)
+two_parts_break : judgement (of_two_parts None) two_parts ≡ (Some 3, 3, true)
 unfolding digits
 two_parts_break = refl
 
