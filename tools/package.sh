@@ -1,6 +1,6 @@
 #!/usr/bin/env bash
-# Builds a Debian package of the programs, with the unit, the sample configuration, the man pages and the documents of users; prints its
-# path. It takes the programs that `rt run` or the gate leaves.
+# Builds a Debian package of the programs, with the units, the sample configurations, the man pages, the watcher and the documents of
+# users; prints its path. It takes the programs that `rt run` or the gate leaves.
 #
 #   tools/package.sh [FOLDER [PATH_OF_CACHED [PATH_OF_CACHED_CHECK [PATH_OF_BIVRANGD]]]]      FOLDER, where the package goes, is . by default
 set -euo pipefail
@@ -44,7 +44,11 @@ for document in PROTOCOL OPERATING CHOOSING; do
     put 644 "docs/$document.md" "usr/share/doc/cached/$document.md"
 done
 put 644 docs/hit_ratios.svg usr/share/doc/cached/hit_ratios.svg
-put 755 tools/watch.py usr/share/doc/cached/watch.py
+# The watcher finds the Python client in its own folder.
+put 755 tools/watch.py usr/share/cached/watch.py
+for module in clients/python/bivrang/*.py; do
+    put 644 "$module" "usr/share/cached/bivrang/$(basename "$module")"
+done
 put 644 NOTICE usr/share/doc/cached/copyright
 cat LICENSE >> "$root/usr/share/doc/cached/copyright"
 
@@ -56,7 +60,8 @@ Version: $version
 Architecture: $machine
 Maintainer: Bivrang maintainers <maintainers@users.noreply.bivrang.example>
 ${libc:+Depends: libc6 (>= $libc)
-}Section: database
+}Suggests: python3
+Section: database
 Priority: optional
 Installed-Size: $(du -sk "$root" | cut -f 1)
 Description: bounded cache behind a line protocol, proved

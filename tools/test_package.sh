@@ -29,7 +29,7 @@ if [ "$(id -u)" = 0 ]; then
         fail "dpkg does not install it"
     fi
     same "what dpkg says of it" "$(dpkg --root="$root" -s cached | sed -n 's/^Status: //p')" "install ok installed"
-    same "its configuration file" "$(dpkg --root="$root" -s cached | grep -c '^ /etc/cached.toml ')" 1
+    same "its configuration files" "$(dpkg --root="$root" -s cached | sed -n 's|^ \(/etc/[a-z.]*\) .*|\1|p' | LC_ALL=C sort | xargs)" "/etc/bivrangd.toml /etc/cached.toml"
 else
     dpkg-deb -x "$package" "$root"
 fi
@@ -37,13 +37,18 @@ fi
 cd "$root"
 same "cached_check" "$(usr/bin/cached_check etc/cached.toml)" "etc/cached.toml: ok"
 same "a script" "$(printf 'SET a - two words\nGET a\nHAS b\n' | usr/bin/cached --script 2> /dev/null)" $'OK\nVAL two words\nNO'
-same "the programs of the unit" "$(sed -n 's/^ExecStart=\(\S*\) .*/\1/p' usr/lib/systemd/system/cached.service)" /usr/bin/cached
+same "the programs of the units" "$(grep -h ^ExecStart= usr/lib/systemd/system/*.service | grep -o '/usr/[a-z/]*bin/[a-z]*' | xargs)" "/usr/bin/bivrangd /usr/bin/cached"
 usr/bin/bivrangd --check etc/bivrangd.toml > "$folder/told" 2>&1 || fail "bivrangd --check: $(cat "$folder/told")"
 if command -v systemd-analyze > /dev/null; then
+    # What the unit of bivrangd runs of the system; the folder has none of it.
+    install -D -m 755 /bin/true bin/sh
+    install -D -m 755 /bin/true usr/bin/mkfifo
     # An older one has not these options, and says nothing of the unit.
-    systemd-analyze verify --root="$root" --recursive-errors=no cached.service > "$folder/told" 2>&1 || ! grep -q cached.service "$folder/told" || fail "the unit: $(cat "$folder/told")"
+    for unit in cached bivrangd; do
+        systemd-analyze verify --root="$root" --recursive-errors=no $unit.service > "$folder/told" 2>&1 || ! grep -q $unit.service "$folder/told" || fail "the unit: $(cat "$folder/told")"
+    done
 fi
-for page in cached.1 cached_check.1 cached.toml.5; do
+for page in bivrangd.1 cached.1 cached_check.1 cached.toml.5; do
     gzip -dc "usr/share/man/man${page##*.}/$page.gz" > "$folder/$page"
     if command -v mandoc > /dev/null; then
         mandoc -Tlint -Wwarning "$folder/$page" || fail "$page"
@@ -72,6 +77,10 @@ try:
         replies = b"".join(iter(lambda: client.recv(65536), b""))
     assert replies == b"OK\n" * 1001 + b"SYNC 1000 1000\nNO\nYES\nYES\nOK\n", replies[-100:]
     assert server.stdout.readline() == b"sessions NOTE Size k0 v\n"
+    # The watcher of the package, by the interpreter alone, which reads no folder but the package's.
+    watch = [sys.executable, "-B", root / "usr/share/cached/watch.py", "--port", f"sessions:{port}", "--seconds", "1", "--plain"]
+    table = subprocess.run(watch, stdout=subprocess.PIPE, stdin=subprocess.DEVNULL, timeout=30, check=True, text=True).stdout
+    assert "sessions" in table and "1000" in table.replace(",", ""), table
 finally:
     server.kill()
 END
