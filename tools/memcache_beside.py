@@ -2,7 +2,7 @@
 
     python3 tools/memcache_beside.py [--requests N] [--seed S] -- COMMAND ..
 
-COMMAND starts the service; PORT in it stands for its port. Requests are those to which both have to reply the same. So numbers are
+COMMAND starts the service, as in memcache_clients.py. Requests are those to which both have to reply the same. So numbers are
 counted up only from what has as many digits, since memcached keeps the length of a number that gets shorter, and are below 2^63, since
 above that memcached looks for a minus sign in the memory behind the item; and what is appended to is not leased. Uniques are compared
 too: both give them one by one, but memcached also to a `flush_all`, which is left out. What else differs is a table in
@@ -14,9 +14,9 @@ import argparse
 import random
 import re
 import socket
-import subprocess
 import sys
-import time
+
+from memcache_clients import service, started
 
 MEMCACHED_PORT = 21311
 SERVICE_PORT = 21312
@@ -25,18 +25,9 @@ KEYS = [b"a", b"b", b"c", b"key", b"k" * 250, b"\xff\x01", b"x-1"]
 JOINED = [b"j", b"joined"]
 
 
-def connect(port):
-    for _ in range(1200):
-        try:
-            return socket.create_connection(("127.0.0.1", port))
-        except OSError:
-            time.sleep(0.1)
-    sys.exit(f"nobody listens at port {port}")
-
-
 class Client:
     def __init__(self, port):
-        self.socket = connect(port)
+        self.socket = socket.create_connection(("127.0.0.1", port))
         self.bytes = b""
 
     def ask(self, requests):
@@ -131,12 +122,8 @@ def main():
     parser.add_argument("command", nargs="+")
     wanted = parser.parse_args()
     draw = random.Random(wanted.seed)
-    started = []
-    try:
-        memcached = ["memcached", "-t", "1", "-u", "nobody", "-l", "127.0.0.1", "-p", str(MEMCACHED_PORT)]
-        command = [word.replace("PORT", str(SERVICE_PORT)) for word in wanted.command]
-        for words in memcached, command:
-            started.append(subprocess.Popen(words, stdout=subprocess.DEVNULL))
+    memcached = ["memcached", "-t", "1", "-u", "nobody", "-l", "127.0.0.1", "-p", str(MEMCACHED_PORT)]
+    with started(memcached, MEMCACHED_PORT), service(wanted.command, SERVICE_PORT):
         theirs, ours = Client(MEMCACHED_PORT), Client(SERVICE_PORT)
         done = 0
         while done < wanted.requests:
@@ -147,11 +134,7 @@ def main():
                 return 1
             done += len(several)
         print(f"{done} requests, each reply the same")
-        return 0
-    finally:
-        for process in started:
-            process.terminate()
-            process.wait()
+    return 0
 
 
 if __name__ == "__main__":

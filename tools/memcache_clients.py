@@ -3,8 +3,8 @@
 
     python3 tools/memcache_clients.py [--only CASE ..] -- COMMAND ..
 
-COMMAND starts the service; PORT in it stands for its port. The cases, each with the Debian package that apt-get installs where it lacks
-and it can:
+COMMAND starts the service; PORT in it stands for its port, CONFIG for a configuration file by which `bivrangd` serves it there. The
+cases, each with the Debian package that apt-get installs where it lacks and it can:
 
     capable     the conformance test of libmemcached, `memccapable -a` (libmemcached-tools)
     load        five seconds of `memcaslap` (libmemcached-tools)
@@ -148,8 +148,22 @@ def started(command, port):
         program.wait()
 
 
+CONFIG = """[[namespace]]
+name = "memcache"
+port = {port}
+protocol = "memcache"
+capacity = 67108864
+"""
+
+
+@contextlib.contextmanager
 def service(command, port):
-    return started([word.replace("PORT", str(port)) for word in command], port)
+    with tempfile.TemporaryDirectory() as folder:
+        config = pathlib.Path(folder, "bivrangd.toml")
+        config.write_text(CONFIG.format(port=port), encoding="ascii")
+        words = [word.replace("PORT", str(port)).replace("CONFIG", str(config)) for word in command]
+        with started(words, port) as program:
+            yield program
 
 
 def ask(port, request):

@@ -1,4 +1,4 @@
-//! A cache that is served by lines, to many connections.
+//! A cache that is served by lines, or by the memcache text protocol, to many connections.
 #![tactic(auto)]
 
 use bivrangd_server::bivrangd;

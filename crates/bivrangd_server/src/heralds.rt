@@ -1,51 +1,13 @@
 //! What leaves a namespace.
 
-use audit_model::{Note, RemovalCause, Seq};
+use audit_model::{Note, Seq};
+use cache_loop::Departures;
 use cache_serve::Teller;
 use cached_config::Notices;
 use cached_server::Site;
 use std::alloc::{AllocError, Global};
 use std::sync::{Arc, Mutex, Wait};
 use std::time::Clock;
-
-/// How many values have left a namespace, by cause.
-#[derive(Clone, Copy, Drop)]
-pub struct Departures {
-    pub expired: u64,
-    pub explicit: u64,
-    pub replaced: u64,
-    pub size: u64,
-}
-
-impl Departures {
-    /// None has left.
-    pub fn new() -> Departures {
-        Departures {
-            expired: 0,
-            explicit: 0,
-            replaced: 0,
-            size: 0,
-        }
-    }
-
-    /// Counts one.
-    fn count(&mut self, cause: RemovalCause) {
-        let counted = match cause {
-            RemovalCause::Expired => &mut self.expired,
-            RemovalCause::Explicit => &mut self.explicit,
-            RemovalCause::Replaced => &mut self.replaced,
-            RemovalCause::Size => &mut self.size,
-        };
-        *counted = counted.saturating_add(1);
-    }
-
-    /// Counts those of some notes.
-    fn count_all(&mut self, notes: &[Note]) {
-        for note in notes {
-            self.count(note.cause);
-        }
-    }
-}
 
 /// Counts what leaves a namespace, and tells as much of it as the configuration says.
 #[derive(Drop)]
@@ -67,6 +29,13 @@ impl<R: Clock + Wait + Copy> Herald<R> {
     }
 }
 
+/// Counts what some notes tell.
+fn count_all(departures: &mut Departures, notes: &[Note]) {
+    for note in notes {
+        departures.count(note.cause);
+    }
+}
+
 /// A note with its key and no value.
 fn without_value(alloc: Global, note: &Note) -> Result<Note, AllocError> {
     Ok(Note {
@@ -82,7 +51,7 @@ impl<R: Clock + Wait + Copy> Teller for Herald<R> {
     }
 
     fn tell<Q: Wait>(&mut self, rt: &Q, notes: &[Note]) {
-        self.departures.lock(rt).count_all(notes);
+        count_all(&mut self.departures.lock(rt), notes);
         match self.notices {
             Notices::Values => self.site.tell(rt, notes),
             Notices::Keys => self.tell_keys(rt, notes),

@@ -1,6 +1,6 @@
 //! What a namespace holds, as its clients are told.
 
-use cached_config::{HostedNamespace, Hosting};
+use cached_config::{HostedNamespace, Hosting, Protocol};
 use cached_server::Machine;
 use std::alloc::{AllocError, Global};
 use std::io::{Read, Write};
@@ -9,8 +9,8 @@ use std::os::unix::net::UnixStream;
 use std::str;
 use std::time::Duration;
 
-/// The longest reply to `SYNC` is shorter.
-const REPLY_BYTES: usize = 64;
+/// The longest reply that is read is shorter.
+const REPLY_BYTES: usize = 4096;
 
 /// Where a namespace is served.
 #[derive(Drop)]
@@ -42,43 +42,76 @@ impl Place {
         }
     }
 
-    /// Asks as a client what is held. `None` if there is no answer within a second.
-    pub fn ask<R: Machine>(&self, rt: &R) -> Option<Holding> {
+    /// Asks as a client what is held, by a protocol. `None` if there is no answer within a second.
+    pub fn ask<R: Machine>(&self, rt: &R, protocol: Protocol) -> Option<Holding> {
         let second = Duration::from_secs(1);
         match self {
             Place::Address(address) => {
                 let mut stream = TcpStream::connect_timeout(rt, address, second).ok()?;
                 stream.set_read_timeout(Some(second)).ok()?;
-                ask_over(&mut stream)
+                ask_over(&mut stream, protocol)
             }
             Place::Path(path) => {
                 let mut stream = UnixStream::connect(rt, path.as_str()).ok()?;
                 stream.set_read_timeout(Some(second)).ok()?;
-                ask_over(&mut stream)
+                ask_over(&mut stream, protocol)
             }
         }
     }
 }
 
 /// Asks over a connection what is held.
-fn ask_over<S: Read + Write>(stream: &mut S) -> Option<Holding> {
-    stream.write_all(b"SYNC\nQUIT\n").ok()?;
+fn ask_over<S: Read + Write>(stream: &mut S, protocol: Protocol) -> Option<Holding> {
     let mut reply = [0u8; REPLY_BYTES];
-    let mut count = 0usize;
-    for _read in 0..REPLY_BYTES {
-        let (line, rest) = reply.split_at_mut(count.min(REPLY_BYTES));
-        if line.contains(&b'\n') {
-            return holding_in(line);
+    match protocol {
+        Protocol::Lines => {
+            stream.write_all(b"SYNC\nQUIT\n").ok()?;
+            holding_in(read_reply(stream, b"\n", &mut reply)?)
         }
+        Protocol::Memcache(_) => {
+            stream.write_all(b"stats\r\nquit\r\n").ok()?;
+            items_in(read_reply(stream, b"END\r\n", &mut reply)?)
+        }
+    }
+}
+
+/// Reads a reply, until it ends in a text. `None` if it does not, or is too long.
+fn read_reply<'a, S: Read>(stream: &mut S, end: &[u8], reply: &'a mut [u8]) -> Option<&'a [u8]> {
+    let mut count = 0usize;
+    for _read in 0..reply.len() {
+        let rest = reply.get_mut(count..)?;
         match stream.read(rest).ok()? {
             0 => return None,
             more => count = count.saturating_add(more),
+        }
+        if reply.get(..count)?.ends_with(end) {
+            return reply.get(..count);
         }
     }
     None
 }
 
-/// What a reply says is held.
+/// What a reply to `stats` says is held.
+fn items_in(reply: &[u8]) -> Option<Holding> {
+    let text = str::from_utf8(reply).ok()?;
+    Some(Holding {
+        values: stat_in(text, "curr_items")?,
+        weight: stat_in(text, "bytes")?,
+    })
+}
+
+/// The number that a reply to `stats` tells under a name.
+fn stat_in(text: &str, name: &str) -> Option<u64> {
+    for line in text.lines() {
+        let mut words = line.split(" ");
+        if words.next() == Some("STAT") && words.next() == Some(name) {
+            return words.next()?.parse().ok();
+        }
+    }
+    None
+}
+
+/// What a reply to `SYNC` says is held.
 fn holding_in(reply: &[u8]) -> Option<Holding> {
     let text = str::from_utf8(reply).ok()?;
     let mut words = text.lines().next()?.split(" ");

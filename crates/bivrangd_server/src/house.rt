@@ -6,16 +6,20 @@ ghost use Rattle.cache_shared.specs.Events.{StandsAfter};
 use crate::alarms::Alarms;
 use crate::http::Metrics;
 use crate::listening::Listener;
+use crate::memcache::{MemcacheSteward, make_items, spawn_items};
 use crate::sources::Source;
 use crate::starting::{Loops, Start, Told};
 use crate::watch::Watch;
 use audit_model::{Config, Instant};
+use cache_link::Room;
 use cache_loop::Rules;
 use cache_shared::{Seating, Shareable, SharedService};
 use cache_spaces::Service;
-use cached_config::{HostedNamespace, Hosting, Notices};
+use cached_config::{HostedNamespace, Hosting, Notices, Protocol};
 use cached_server::{Cause, Ending, Fault, Machine, Outlet, Site};
 use crossbeam_channel::{Receiver, Sender};
+use memcache_service as items;
+use memcache_service::Shelf;
 use mio::Waker;
 use rand_core::SeedableRng;
 use rand_xoshiro::Xoshiro256PlusPlus;
@@ -153,8 +157,40 @@ impl<R: Machine> House<R> {
 
     /// Starts the loops of a namespace.
     fn start(&self, plan: Plan<R>, listener: &Listener, all: &mut Loops) -> Result<(), Ending> {
-        let core = make_service(&self.rt, self.alloc, plan.config)?;
-        self.share::<Brand, Service>(core, Blank::new(SEATS), plan, listener, all)
+        match plan.protocol {
+            Protocol::Lines => {
+                let core = make_service(&self.rt, self.alloc, plan.config)?;
+                self.share::<Brand, Service>(core, Blank::new(SEATS), plan, listener, all)
+            }
+            Protocol::Memcache(limits) => {
+                let service = make_items(&self.rt, self.alloc, limits)?;
+                self.own(service, plan, listener, all)
+            }
+        }
+    }
+
+    /// Gives a service to a loop of its own, and starts that.
+    fn own<T: Shelf + Send + 'static>(
+        &self,
+        service: items::Service<T>,
+        plan: Plan<R>,
+        listener: &Listener,
+        all: &mut Loops,
+    ) -> Result<(), Ending> {
+        let steward = MemcacheSteward {
+            rt: self.rt,
+            alloc: self.alloc,
+            service,
+            room: Room::new(self.alloc),
+        };
+        let (number, loops) = (all.sources.len(), (1, plan.rules));
+        let gears = all.add(&self.rt, self.alloc, listener, loops, plan.source)?;
+        if let Some(gear) = gears.into_iter().next() {
+            let ending = Sender::clone(&self.ending)?;
+            all.threads
+                .push(spawn_items(steward, gear, ending, number)?)?;
+        }
+        Ok(())
     }
 
     /// How a namespace is served, by so many loops if nothing else is said.
@@ -164,9 +200,10 @@ impl<R: Machine> House<R> {
         hosting: &Hosting,
         loops: usize,
     ) -> Result<Plan<R>, AllocError> {
-        let loops = match hosting.loops {
-            Some(loops) => loops as usize,
-            None => loops,
+        let loops = match (hosting.protocol, hosting.loops) {
+            (Protocol::Memcache(_), _) => 1,
+            (Protocol::Lines, Some(loops)) => loops as usize,
+            (Protocol::Lines, None) => loops,
         };
         let config = space.config;
         let source = Source::new(self.alloc, &space, hosting)?;
@@ -175,6 +212,7 @@ impl<R: Machine> House<R> {
             config,
             loops,
             source,
+            protocol: hosting.protocol,
             notices: hosting.notices,
             rules: Rules {
                 accepts: if loops == 1 { ACCEPTS } else { 1 },
@@ -212,10 +250,12 @@ impl<R: Machine> House<R> {
             shared,
             site: plan.site,
             notices: plan.notices,
-            rules: plan.rules,
+            departures: Arc::try_clone(&plan.source.departures)?,
             ending: Sender::clone(&self.ending)?,
         };
-        start.start(listener, plan.loops, plan.source, all)
+        let (number, loops) = (all.sources.len(), (plan.loops, plan.rules));
+        let gears = all.add(&self.rt, self.alloc, listener, loops, plan.source)?;
+        start.start(gears, number, &mut all.threads)
     }
 
     /// Waits until all loops have ended. When it is told to stop, it tells them; when it is told again, or after some seconds, they end at
@@ -249,6 +289,7 @@ impl<R: Machine> House<R> {
 struct Plan<R: time::Clock + Wait + Copy> {
     config: Config,
     site: Site<R>,
+    protocol: Protocol,
     notices: Notices,
     rules: Rules,
     loops: usize,

@@ -8,6 +8,7 @@ mod holdings;
 mod house;
 mod http;
 mod listening;
+mod memcache;
 mod metrics;
 mod sources;
 mod starting;

@@ -1,9 +1,8 @@
 //! What is counted of a namespace.
 
-use crate::heralds::Departures;
 use crate::holdings::{Holding, Place};
-use cache_loop::Counts;
-use cached_config::{HostedNamespace, Hosting};
+use cache_loop::{Counts, Departures};
+use cached_config::{HostedNamespace, Hosting, Protocol};
 use cached_server::Machine;
 use std::alloc::{AllocError, Global};
 use std::sync::atomic::{AtomicU64, Ordering};
@@ -15,8 +14,10 @@ pub struct Source {
     pub name: String,
     pub port: u16,
     place: Place,
+    protocol: Protocol,
     /// How many connections are open.
     pub open: Arc<AtomicU64>,
+    /// What has left, as far as its heralds count that.
     pub departures: Arc<Mutex<Departures>>,
     /// What each of its loops has counted.
     pub counts: Vec<Arc<Mutex<Counts>>>,
@@ -43,6 +44,7 @@ impl Source {
             name: String::from_utf8_lossy(alloc, space.name.as_slice())?,
             port: space.port,
             place: Place::of(alloc, space, hosting)?,
+            protocol: hosting.protocol,
             open: Arc::new(alloc, AtomicU64::new(0))?,
             departures: Arc::new(alloc, Mutex::new(Departures::new()))?,
             counts: Vec::new(alloc),
@@ -69,11 +71,15 @@ impl Source {
 
     /// Reads the numbers.
     pub fn read<R: Machine>(&self, rt: &R) -> Reading {
+        let holding = self.place.ask(rt, self.protocol);
+        let counts = self.counts(rt);
+        let mut departures = *self.departures.lock(rt);
+        departures.add(&counts.departures);
         Reading {
-            holding: self.place.ask(rt),
             open: self.open.load(Ordering::SeqCst),
-            departures: *self.departures.lock(rt),
-            counts: self.counts(rt),
+            departures,
+            counts,
+            holding,
         }
     }
 }

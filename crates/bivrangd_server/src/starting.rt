@@ -5,7 +5,7 @@ use crate::heralds::Herald;
 use crate::listening::Listener;
 use crate::sources::Source;
 use cache_link::Tools;
-use cache_loop::{Counting, Crew, Doorway, LOADED, Rules, STOP, serve_all};
+use cache_loop::{Counting, Crew, Departures, Doorway, LOADED, Rules, STOP, serve_all};
 use cache_serve::{Devices, Sitting};
 use cache_shared::{Seat, Seating, Shareable, SharedService};
 use cached_config::Notices;
@@ -13,7 +13,7 @@ use cached_server::{Ending, Fault, ListLoader, Machine, Site, StartClock};
 use crossbeam_channel::Sender;
 use mio::{Poll, Waker};
 use std::alloc::{AllocError, Global};
-use std::sync::Arc;
+use std::sync::{Arc, Mutex};
 use std::thread::JoinHandle;
 use std::{io, thread};
 
@@ -37,18 +37,6 @@ pub struct Loops {
     pub threads: Vec<JoinHandle<()>>,
     pub stoppers: Vec<Waker>,
     pub sources: Vec<Source>,
-}
-
-/// What the loops of a namespace are started with.
-#[derive(Drop)]
-pub struct Start<L: Seating, C: Shareable, R: Machine> {
-    pub rt: R,
-    pub alloc: Global,
-    pub shared: SharedService<L, C>,
-    pub site: Site<R>,
-    pub notices: Notices,
-    pub rules: Rules,
-    pub ending: Sender<Told, Global>,
 }
 
 /// Places to wait, one for each loop of a namespace, with the wakers of all of them.
@@ -84,72 +72,116 @@ impl Places {
     }
 }
 
+/// What a loop waits with, where its connections come in, and what it shares with others.
+#[derive(Drop)]
+pub struct Gear {
+    pub poll: Poll,
+    pub doorway: Doorway,
+    pub crew: Crew,
+}
+
+/// What a thread tells when its loop, of the namespace with this number, has ended.
+pub fn told_by(served: &io::Result<()>, number: usize) -> Told {
+    if served.is_ok() {
+        Told::Ended
+    } else {
+        Told::Failed(number)
+    }
+}
+
+impl Loops {
+    /// Gear for some loops of a namespace that come next, whose stoppers and numbers are added to the others.
+    pub fn add<R: Machine>(
+        &mut self,
+        rt: &R,
+        alloc: Global,
+        listener: &Listener,
+        plan: (usize, Rules),
+        source: Source,
+    ) -> Result<Vec<Gear>, Ending> {
+        let (loops, rules) = plan;
+        let places = match Places::new(rt, alloc, loops) {
+            Ok(places) => places,
+            Err(error) => return Err(Ending::machine("a queue of events", error)),
+        };
+        let Places {
+            polls,
+            wakers,
+            stoppers,
+        } = places;
+        let wakers = Arc::new(alloc, wakers)?;
+        let mut source = source;
+        let mut gears = Vec::with_capacity(alloc, loops)?;
+        for poll in polls {
+            let doorway = match listener.doorway() {
+                Ok(doorway) => doorway,
+                Err(error) => return Err(Ending::machine("a listener for each loop", error)),
+            };
+            let crew = crew_of(alloc, rules, &mut source, &wakers)?;
+            gears.push(Gear {
+                poll,
+                doorway,
+                crew,
+            })?;
+        }
+        for stopper in stoppers {
+            self.stoppers.push(stopper)?;
+        }
+        self.sources.push(source)?;
+        Ok(gears)
+    }
+}
+
+/// What a loop shares with the others of its namespace.
+fn crew_of(
+    alloc: Global,
+    rules: Rules,
+    source: &mut Source,
+    wakers: &Arc<Vec<Waker>>,
+) -> Result<Crew, AllocError> {
+    Ok(Crew {
+        alloc,
+        namespace: NAMESPACE,
+        rules,
+        open: Arc::try_clone(&source.open)?,
+        wakers: Arc::try_clone(wakers)?,
+        counts: source.add_loop(alloc)?,
+    })
+}
+
+/// What the loops of a namespace that speaks lines are started with.
+#[derive(Drop)]
+pub struct Start<L: Seating, C: Shareable, R: Machine> {
+    pub rt: R,
+    pub alloc: Global,
+    pub shared: SharedService<L, C>,
+    pub site: Site<R>,
+    pub notices: Notices,
+    pub departures: Arc<Mutex<Departures>>,
+    pub ending: Sender<Told, Global>,
+}
+
 impl<L, C, R> Start<L, C, R>
 where
     L: Seating + Send + Sync + 'static,
     C: Shareable + Send + 'static,
     R: Machine,
 {
-    /// Starts some loops over a namespace, each with a seat. They and their numbers are added to the others.
+    /// Starts a loop of the namespace with this number by each gear, with a seat.
     pub fn start(
         &self,
-        listener: &Listener,
-        loops: usize,
-        source: Source,
-        all: &mut Loops,
+        gears: Vec<Gear>,
+        number: usize,
+        threads: &mut Vec<JoinHandle<()>>,
     ) -> Result<(), Ending> {
-        let places = match Places::new(&self.rt, self.alloc, loops) {
-            Ok(places) => places,
-            Err(error) => return Err(Ending::machine("a queue of events", error)),
-        };
-        self.start_at(listener, places, source, all)
-    }
-
-    /// Starts a loop at each place.
-    fn start_at(
-        &self,
-        listener: &Listener,
-        places: Places,
-        source: Source,
-        all: &mut Loops,
-    ) -> Result<(), Ending> {
-        let Places {
-            polls,
-            wakers,
-            stoppers,
-        } = places;
-        let wakers = Arc::new(self.alloc, wakers)?;
-        let mut source = source;
-        let number = all.sources.len();
-        for poll in polls {
-            let crew = self.crew(&mut source, &wakers)?;
-            let thread = self.start_one(listener, poll, crew, &source, number)?;
-            all.threads.push(thread)?;
+        for gear in gears {
+            threads.push(self.start_one(gear, number)?)?;
         }
-        for stopper in stoppers {
-            all.stoppers.push(stopper)?;
-        }
-        all.sources.push(source)?;
         Ok(())
     }
 
-    /// What a loop shares with the others.
-    fn crew(&self, source: &mut Source, wakers: &Arc<Vec<Waker>>) -> Result<Crew, AllocError> {
-        Ok(Crew {
-            alloc: self.alloc,
-            namespace: NAMESPACE,
-            rules: self.rules,
-            open: Arc::try_clone(&source.open)?,
-            wakers: Arc::try_clone(wakers)?,
-            counts: source.add_loop(self.alloc)?,
-        })
-    }
-
     /// What a loop serves its connections with.
-    fn devices(
-        &self,
-        source: &Source,
-    ) -> Result<(StartClock<R>, ListLoader, Herald<R>), AllocError> {
+    fn devices(&self) -> Result<(StartClock<R>, ListLoader, Herald<R>), AllocError> {
         let Some((clock, loader, site)) = self.site.make(self.alloc) else {
             return Err(AllocError);
         };
@@ -157,7 +189,7 @@ where
             site,
             alloc: self.alloc,
             notices: self.notices,
-            departures: Arc::try_clone(&source.departures)?,
+            departures: Arc::try_clone(&self.departures)?,
         };
         Ok((clock, loader, herald))
     }
@@ -171,48 +203,26 @@ where
     }
 
     /// Starts a loop.
-    fn start_one(
-        &self,
-        listener: &Listener,
-        poll: Poll,
-        crew: Crew,
-        source: &Source,
-        number: usize,
-    ) -> Result<JoinHandle<()>, Ending> {
-        let doorway = match listener.doorway() {
-            Ok(doorway) => doorway,
-            Err(error) => return Err(Ending::machine("a listener for each loop", error)),
-        };
-        let devices = self.devices(source)?;
+    fn start_one(&self, gear: Gear, number: usize) -> Result<JoinHandle<()>, Ending> {
+        let devices = self.devices()?;
         let seat = self.seat()?;
-        let gear = (seat, devices, poll, doorway, crew);
-        Ok(self.spawn(gear, number)?)
+        Ok(self.spawn(seat, devices, gear, number)?)
     }
 
     /// Starts the thread of a loop of the namespace with this number.
     fn spawn(
         &self,
-        gear: (
-            Seat<L>,
-            (StartClock<R>, ListLoader, Herald<R>),
-            Poll,
-            Doorway,
-            Crew,
-        ),
+        seat: Seat<L>,
+        devices: (StartClock<R>, ListLoader, Herald<R>),
+        gear: Gear,
         number: usize,
     ) -> Result<JoinHandle<()>, AllocError> {
         let rt = self.rt;
         let shared = SharedService::clone(&self.shared)?;
         let ending = Sender::clone(&self.ending)?;
-        let (seat, devices, poll, doorway, crew) = gear;
         let looping = move || {
-            let served = serve_seat(&rt, &shared, seat, devices, poll, doorway, &crew);
-            let told = if served.is_ok() {
-                Told::Ended
-            } else {
-                Told::Failed(number)
-            };
-            let _ = ending.send(&rt, told);
+            let served = serve_seat(&rt, &shared, seat, devices, gear);
+            let _ = ending.send(&rt, told_by(&served, number));
         };
         Ok(thread::spawn(&rt, looping)?)
     }
@@ -224,16 +234,19 @@ fn serve_seat<L: Seating, C: Shareable, R: Machine>(
     shared: &SharedService<L, C>,
     seat: Seat<L>,
     devices: (StartClock<R>, ListLoader, Herald<R>),
-    poll: Poll,
-    doorway: Doorway,
-    crew: &Crew,
+    gear: Gear,
 ) -> io::Result<()> {
     let (clock, loader, mut herald) = devices;
-    let (mut poll, mut seat) = (poll, seat);
+    let Gear {
+        mut poll,
+        doorway,
+        crew,
+    } = gear;
     let counted = Counting {
         inner: loader,
         asked: 0,
     };
+    let mut seat = seat;
     let mut tools = Tools::new(crew.alloc, clock, counted);
     let mut sitting = Sitting::new(rt, crew.alloc, shared, &mut herald, false)?;
     serve_all(
@@ -243,6 +256,6 @@ fn serve_seat<L: Seating, C: Shareable, R: Machine>(
         &mut tools,
         &mut poll,
         doorway,
-        crew,
+        &crew,
     )
 }

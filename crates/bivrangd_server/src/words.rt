@@ -1,6 +1,6 @@
 //! The program's words.
 use clap::{Arg, ArgAction, ArgMatches, Command, Error};
-use std::alloc::Global;
+use std::alloc::{AllocError, Global};
 use std::convert::AsStr;
 use std::io::ErrorKind;
 
@@ -56,27 +56,28 @@ fn asked_by<'a>(matches: &ArgMatches<'a>) -> Option<Asked<'a>> {
     }
 }
 
-/// The words, matched with the arguments that there are.
-fn match_words<'a, S: AsStr>(alloc: Global, words: &'a [S]) -> Result<ArgMatches<'a>, Error> {
-    let config = Arg::new(alloc, "config")
-        .long("config")
-        .action(ArgAction::Set);
-    let check = Arg::new(alloc, "check")
-        .long("check")
-        .action(ArgAction::Set);
-    let version = Arg::new(alloc, "version")
-        .long("version")
-        .action(ArgAction::SetTrue);
-    let help = Arg::new(alloc, "help")
-        .long("help")
-        .action(ArgAction::SetTrue);
+/// A command that takes one more argument, `--NAME`.
+fn with<'a>(
+    alloc: Global,
+    command: Command<'a>,
+    name: &'a str,
+    action: ArgAction,
+) -> Result<Command<'a>, AllocError> {
+    command.arg(Arg::new(alloc, name).long(name).action(action))
+}
+
+/// The arguments that there are.
+fn command<'a>(alloc: Global) -> Result<Command<'a>, AllocError> {
     let command = Command::new(alloc, "bivrangd")
         .disable_help_flag(true)
         .disable_version_flag(true);
-    command
-        .arg(config)?
-        .arg(check)?
-        .arg(version)?
-        .arg(help)?
-        .try_get_matches_from(words)
+    let command = with(alloc, command, "config", ArgAction::Set)?;
+    let command = with(alloc, command, "check", ArgAction::Set)?;
+    let command = with(alloc, command, "version", ArgAction::SetTrue)?;
+    with(alloc, command, "help", ArgAction::SetTrue)
+}
+
+/// The words, matched with these arguments.
+fn match_words<'a, S: AsStr>(alloc: Global, words: &'a [S]) -> Result<ArgMatches<'a>, Error> {
+    command(alloc)?.try_get_matches_from(words)
 }

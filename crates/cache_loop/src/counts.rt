@@ -1,12 +1,53 @@
 //! What a loop counts.
 
 use crate::replies::Found;
+use audit_model::RemovalCause;
 use std::io;
 use std::io::{Read, Write};
 use std::time::{Clock, Instant};
 
 /// The bounds of the turns that are counted together, in nanoseconds: a turn belongs to the first that is not below its length.
 pub const TURN_BOUNDS: [u64; 5] = [10_000, 100_000, 1_000_000, 10_000_000, 100_000_000];
+
+/// How many values have left a namespace, by cause.
+#[derive(Clone, Copy, Drop)]
+pub struct Departures {
+    pub expired: u64,
+    pub explicit: u64,
+    pub replaced: u64,
+    pub size: u64,
+}
+
+impl Departures {
+    /// None has left.
+    pub fn new() -> Departures {
+        Departures {
+            expired: 0,
+            explicit: 0,
+            replaced: 0,
+            size: 0,
+        }
+    }
+
+    /// Counts one.
+    pub fn count(&mut self, cause: RemovalCause) {
+        let counted = match cause {
+            RemovalCause::Expired => &mut self.expired,
+            RemovalCause::Explicit => &mut self.explicit,
+            RemovalCause::Replaced => &mut self.replaced,
+            RemovalCause::Size => &mut self.size,
+        };
+        *counted = counted.saturating_add(1);
+    }
+
+    /// Adds those that were counted elsewhere.
+    pub fn add(&mut self, other: &Departures) {
+        self.expired = self.expired.saturating_add(other.expired);
+        self.explicit = self.explicit.saturating_add(other.explicit);
+        self.replaced = self.replaced.saturating_add(other.replaced);
+        self.size = self.size.saturating_add(other.size);
+    }
+}
 
 /// What a loop has counted since it began.
 #[derive(Clone, Copy, Drop)]
@@ -25,6 +66,8 @@ pub struct Counts {
     pub written: u64,
     /// Replies that told a value, and replies that there is none.
     pub found: Found,
+    /// What has left, as far as the steward counts that.
+    pub departures: Departures,
     /// Loads that a loader was asked for.
     pub loads: u64,
     /// Turns within each of the bounds and above the one before, and those above the last.
@@ -44,6 +87,7 @@ impl Counts {
             read: 0,
             written: 0,
             found: Found::new(),
+            departures: Departures::new(),
             loads: 0,
             turns: [0; 6],
             nanos: 0,
@@ -59,6 +103,7 @@ impl Counts {
         self.read = self.read.saturating_add(other.read);
         self.written = self.written.saturating_add(other.written);
         self.found.add(&other.found);
+        self.departures.add(&other.departures);
         self.loads = self.loads.saturating_add(other.loads);
         for (turns, more) in self.turns.iter_mut().zip(&other.turns) {
             *turns = turns.saturating_add(*more);

@@ -12,7 +12,7 @@ mod served;
 mod steward;
 
 pub use counting::Counting;
-pub use counts::{Counts, TURN_BOUNDS};
+pub use counts::{Counts, Departures, TURN_BOUNDS};
 pub use doorway::{Doorway, Stream};
 pub use lines::serve_all;
 pub use looping::{Crew, LOADED, Rules, STOP, serve_by};

@@ -1,5 +1,8 @@
 //! What `bivrangd` reads of a configuration, and what is wrong with one.
-use cached_config::{ConfigFault, Hosted, Hosting, Notices, check_hosted, read_hosted};
+use audit_model::EvictionPolicy;
+use cached_config::{
+    ConfigFault, Hosted, Hosting, ItemLimits, Notices, Protocol, check_hosted, read_hosted,
+};
 use std::alloc::{AllocError, Global};
 
 /// A file that says all that there is to say.
@@ -8,6 +11,14 @@ const FULL: &str =
 
 /// One that says as little as it can.
 const BARE: &str = "[[namespace]]\nname = \"a\"\nport = 1\n";
+
+/// One whose namespace speaks the memcache protocol, with all that goes with it.
+const ITEMS: &str =
+    "[[namespace]]\nname = \"a\"\nport = 1\ncapacity = 4096\npolicy = \"tinylfu\"\nprotocol = \"memcache\"\nitem_size = 1024\n";
+
+/// One that says as little of that as it can.
+const BARE_ITEMS: &str =
+    "[[namespace]]\nname = \"a\"\nport = 1\ncapacity = 4096\nprotocol = \"memcache\"\n";
 
 /// Whether a file is read with this hosting, and this port of the metrics.
 fn is_read(alloc: Global, text: &str, wanted: &Hosting, metrics: Option<u16>) -> bool {
@@ -25,9 +36,40 @@ fn has_one(hosted: &Hosted, wanted: &Hosting) -> bool {
                 && (found.mode, found.loops) == (wanted.mode, wanted.loops)
                 && (found.connections, found.idle) == (wanted.connections, wanted.idle)
                 && found.notices == wanted.notices
+                && found.protocol == wanted.protocol
         }
         _ => false,
     }
+}
+
+/// What a file says as little of as it can, with a protocol.
+fn bare_hosting(alloc: Global, protocol: Protocol) -> Result<Hosting, AllocError> {
+    Ok(Hosting {
+        bind: String::from_str(alloc, "127.0.0.1")?,
+        mode: 0o660,
+        loops: None,
+        connections: 10_000,
+        idle: None,
+        notices: Notices::Values,
+        protocol,
+    })
+}
+
+/// Whether both files are read that speak the memcache protocol.
+fn are_items_read(alloc: Global) -> Result<bool, AllocError> {
+    let limits = ItemLimits {
+        capacity: 4096,
+        policy: EvictionPolicy::TinyLfu,
+        item_size: 1024,
+    };
+    let bare = ItemLimits {
+        policy: EvictionPolicy::Lru,
+        item_size: 1 << 20,
+        ..limits
+    };
+    let items = bare_hosting(alloc, Protocol::Memcache(limits))?;
+    let bare = bare_hosting(alloc, Protocol::Memcache(bare))?;
+    Ok(is_read(alloc, ITEMS, &items, None) && is_read(alloc, BARE_ITEMS, &bare, None))
 }
 
 /// Whether both files are read.
@@ -39,15 +81,9 @@ fn are_read(alloc: Global) -> Result<bool, AllocError> {
         connections: 5,
         idle: Some(6),
         notices: Notices::Off,
+        protocol: Protocol::Lines,
     };
-    let bare = Hosting {
-        bind: String::from_str(alloc, "127.0.0.1")?,
-        mode: 0o660,
-        loops: None,
-        connections: 10_000,
-        idle: None,
-        notices: Notices::Values,
-    };
+    let bare = bare_hosting(alloc, Protocol::Lines)?;
     Ok(is_read(alloc, FULL, &full, Some(9411)) && is_read(alloc, BARE, &bare, None))
 }
 
@@ -56,11 +92,33 @@ fn files_are_read(rt: HostRuntime) {
     assert!(rt; are_read(rt.alloc()) == Ok(true) || are_read(rt.alloc()) == Ok(true));
 }
 
-/// A file with a fault in each line, and what is said of each.
-const FAULTY: (&str, &str) = (
-    "[metrics]\nport = 0\n[[namespace]]\nname = \"a\"\nport = 1\nbind = \"b\"\nmode = \"8\"\nloops = 65\nmax_connections = 0\nidle_s = 0\nnotices = true\nnotice = 1\n",
-    "1: metrics is a table with a port, a number from 1 to 65535, and nothing else\n6: bind is an IP address, or a path that begins with / and has at most 107 bytes\n7: mode is a text of three digits from 0 to 7\n8: loops is a number from 1 to 64\n9: max_connections is a number from 1 to 1000000\n10: idle_s is a number of seconds from 1 to 86400000\n11: notices is \"values\", \"keys\" or \"off\"\n12: unknown key notice: did you mean `notices`?\n",
-);
+#[test]
+fn files_of_items_are_read(rt: HostRuntime) {
+    assert!(rt; are_items_read(rt.alloc()) == Ok(true) || are_items_read(rt.alloc()) == Ok(true));
+}
+
+/// Files with a fault in each line, and what is said of each.
+const FAULTY: &[(&str, &str)] = &[
+    (
+        "[metrics]\nport = 0\n[[namespace]]\nname = \"a\"\nport = 1\nbind = \"b\"\nmode = \"8\"\nloops = 65\nmax_connections = 0\nidle_s = 0\nnotices = true\nnotice = 1\n",
+        "1: metrics is a table with a port, a number from 1 to 65535, and nothing else\n6: bind is an IP address, or a path that begins with / and has at most 107 bytes\n7: mode is a text of three digits from 0 to 7\n8: loops is a number from 1 to 64\n9: max_connections is a number from 1 to 1000000\n10: idle_s is a number of seconds from 1 to 86400000\n11: notices is \"values\", \"keys\" or \"off\"\n12: unknown key notice: did you mean `notices`?\n",
+    ),
+    // A protocol that is not known, and a key of another one.
+    (
+        "[[namespace]]\nname = \"a\"\nport = 1\nprotocol = \"redis\"\nitem_size = 1024\n",
+        "4: protocol is \"lines\" or \"memcache\"\n5: item_size goes with the memcache protocol only\n",
+    ),
+    // Keys that do not go with the memcache protocol.
+    (
+        "[[namespace]]\nname = \"a\"\nport = 1\nprotocol = \"memcache\"\ncapacity = 1\nparts = 2\nweight = \"bytes\"\nlive_ms = 1\nidle_ms = 1\ndeadlines = false\nloops = 1\nnotices = \"off\"\nitem_size = 0\n[namespace.loads]\n",
+        "1: loads does not go with the memcache protocol\n6: parts does not go with the memcache protocol\n7: weight does not go with the memcache protocol\n8: live_ms does not go with the memcache protocol\n9: idle_ms does not go with the memcache protocol\n10: deadlines does not go with the memcache protocol\n11: loops does not go with the memcache protocol\n12: notices does not go with the memcache protocol\n13: item_size is a number of bytes from 1 to 134217728\n",
+    ),
+    // No capacity.
+    (
+        "[[namespace]]\nname = \"a\"\nport = 1\nprotocol = \"memcache\"\n",
+        "1: capacity is missing: with the memcache protocol it is a number of bytes\n",
+    ),
+];
 
 /// The lines of faults.
 fn lines_of(alloc: Global, faults: &[ConfigFault]) -> Result<String, AllocError> {
@@ -72,14 +130,24 @@ fn lines_of(alloc: Global, faults: &[ConfigFault]) -> Result<String, AllocError>
     Ok(text)
 }
 
-/// Whether the faults of the faulty file are found.
-fn are_found(alloc: Global) -> Result<bool, AllocError> {
-    let report = check_hosted(alloc, FAULTY.0)?;
+/// Whether the faults of a file are found.
+fn are_found(alloc: Global, text: &str, wanted: &str) -> Result<bool, AllocError> {
+    let report = check_hosted(alloc, text)?;
     let lines = lines_of(alloc, &report.faults)?;
-    Ok(lines.as_str() == FAULTY.1)
+    Ok(lines.as_str() == wanted)
+}
+
+/// Whether the faults of all faulty files are found.
+fn are_all_found(alloc: Global) -> Result<bool, AllocError> {
+    for (text, wanted) in FAULTY {
+        if !are_found(alloc, *text, *wanted)? {
+            return Ok(false);
+        }
+    }
+    Ok(true)
 }
 
 #[test]
 fn faults_are_found(rt: HostRuntime) {
-    assert!(rt; are_found(rt.alloc()) == Ok(true) || are_found(rt.alloc()) == Ok(true));
+    assert!(rt; are_all_found(rt.alloc()) == Ok(true) || are_all_found(rt.alloc()) == Ok(true));
 }

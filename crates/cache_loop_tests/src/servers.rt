@@ -13,7 +13,7 @@ use std::thread;
 use std::thread::Threads;
 use std::time::Clock;
 
-/// What the namespace's table says beside its name, its port and its loads, and what clients do.
+/// What the namespace's table says beside its name and its port, and what its kind of namespaces has, and what clients do.
 #[derive(Clone, Copy)]
 struct Scene {
     keys: &'static str,
@@ -27,17 +27,29 @@ fn serve<R: Machine + Files>(rt: R, alloc: Global, text: &str, orders: Orders) -
     serve_text(rt, alloc, text, shown, &mut alarms, orders).is_ok()
 }
 
+/// What each namespace of lines has beside.
+const LINES: &str = "[namespace.loads]\nk = \"v\"";
+
+/// What each namespace that speaks the memcache protocol has beside.
+const MEMCACHE: &str = "protocol = \"memcache\"\ncapacity = 67108864";
+
 /// The configuration of a namespace, and of metrics, at two ports.
-fn config_of(alloc: Global, port: u16, metrics: u16, keys: &str) -> Result<String, AllocError> {
+fn config_of(
+    alloc: Global,
+    port: u16,
+    metrics: u16,
+    keys: &str,
+    rest: &str,
+) -> Result<String, AllocError> {
     format!(in alloc;
-        "[metrics]\nport = {metrics}\n[[namespace]]\nname = \"m\"\nport = {port}\n{keys}\n[namespace.loads]\nk = \"v\"\n"
+        "[metrics]\nport = {metrics}\n[[namespace]]\nname = \"m\"\nport = {port}\n{keys}\n{rest}\n"
     )
 }
 
 /// Whether a scene comes out as it says with a server on free ports, and the server ends well when it is told to stop.
-fn comes_out<R: Machine + Files>(rt: R, alloc: Global, scene: Scene) -> Option<bool> {
+fn comes_out<R: Machine + Files>(rt: R, alloc: Global, scene: Scene, rest: &str) -> Option<bool> {
     let (port, metrics) = (free_port(&rt)?, free_port(&rt)?);
-    let text = config_of(alloc, port, metrics, scene.keys).ok()?;
+    let text = config_of(alloc, port, metrics, scene.keys, rest).ok()?;
     let (orders, told) = unbounded(alloc).ok()?;
     let players = Players {
         port,
@@ -60,12 +72,13 @@ fn play_to_the_end<R: Machine>(rt: &R, players: Players, steps: &[Step]) -> bool
 }
 
 /// The same, at the second try if memory was refused at the first.
-fn comes_out_twice<R: Machine + Files>(rt: R, alloc: Global, scene: Scene) -> bool {
-    comes_out(rt, alloc, scene) == Some(true) || comes_out(rt, alloc, scene) == Some(true)
+fn comes_out_twice<R: Machine + Files>(rt: R, alloc: Global, scene: Scene, rest: &str) -> bool {
+    comes_out(rt, alloc, scene, rest) == Some(true)
+        || comes_out(rt, alloc, scene, rest) == Some(true)
 }
 
 /// Whether all scenes come out as they say.
-fn all_come_out<R>(rt: R, alloc: Global, scenes: &[Scene]) -> bool
+fn all_come_out<R>(rt: R, alloc: Global, scenes: &[Scene], rest: &str) -> bool
 where
     R: Net<Listener = TcpListener, Stream = TcpStream>
         + Clock
@@ -79,7 +92,7 @@ where
         + 'static,
 {
     for scene in scenes {
-        if !comes_out_twice(rt, alloc, *scene) {
+        if !comes_out_twice(rt, alloc, *scene, rest) {
             return false;
         }
     }
@@ -321,5 +334,134 @@ const SCENES: &[Scene] = &[
 
 #[test]
 fn scenes_of_servers(rt: HostRuntime) {
-    assert!(rt; all_come_out(rt, rt.alloc(), SCENES));
+    assert!(rt; all_come_out(rt, rt.alloc(), SCENES, LINES));
+}
+
+const MEMCACHE_SCENES: &[Scene] = &[
+    // Requests, and the metrics. What is held is known since the last maintenance, and a request runs that after 300 milliseconds.
+    Scene {
+        keys: "",
+        steps: &[
+            Step::Connect,
+            Step::Send(0, b"set a 5 0 3\r\nx\ny\r\nget a z\r\nget z\r\n", 1),
+            Step::Read(0, b"STORED\r\nVALUE a 5 3\r\nx\ny\r\nEND\r\nEND\r\n", 1),
+            Step::Pause(1000),
+            Step::Send(0, b"get a\r\n", 1),
+            Step::Read(0, b"VALUE a 5 3\r\nx\ny\r\nEND\r\n", 1),
+            Step::Visit,
+            Step::Send(1, b"GET /metrics HTTP/1.1\r\n\r\n", 1),
+            Step::Find(1, b"\nbivrangd_values{namespace=\"m\"} 1\n"),
+            Step::Visit,
+            Step::Send(2, b"GET /metrics HTTP/1.1\r\n\r\n", 1),
+            Step::Find(2, b"\nbivrangd_hits_total{namespace=\"m\"} 2\n"),
+            Step::Visit,
+            Step::Send(3, b"GET /metrics HTTP/1.1\r\n\r\n", 1),
+            Step::Find(3, b"\nbivrangd_misses_total{namespace=\"m\"} 2\n"),
+        ],
+    },
+    // Byte by byte; the end comes with the last bytes.
+    Scene {
+        keys: "",
+        steps: &[
+            Step::Connect,
+            Step::Drip(0, b"set a 0 0 1\r\n1\r\nget a\r\n"),
+            Step::Read(0, b"STORED\r\nVALUE a 0 1\r\n1\r\nEND\r\n", 1),
+            Step::Send(0, b"get z\r\nget", 1),
+            Step::End(0),
+            Step::Read(0, b"END\r\n", 1),
+            Step::AtEnd(0),
+        ],
+    },
+    // Many requests at once, and nothing more.
+    Scene {
+        keys: "",
+        steps: &[
+            Step::Connect,
+            Step::Send(0, b"get z\r\n", 20_000),
+            Step::End(0),
+            Step::Read(0, b"END\r\n", 20_000),
+            Step::AtEnd(0),
+        ],
+    },
+    // A client does not read what is far more than waits for it; another one is answered; then the first one reads all.
+    Scene {
+        keys: "",
+        steps: &[
+            Step::Connect,
+            Step::Send(0, b"set long 0 0 800000\r\n", 1),
+            Step::Send(0, b"vvvvvvvv", 100_000),
+            Step::Send(0, b"\r\n", 1),
+            Step::Read(0, b"STORED\r\n", 1),
+            Step::Send(0, b"get long\r\n", 20),
+            Step::Connect,
+            Step::Send(1, b"get z\r\n", 1),
+            Step::Read(1, b"END\r\n", 1),
+            Step::Lines(0, 60),
+            Step::Send(0, b"get z\r\n", 1),
+            Step::Read(0, b"END\r\n", 1),
+        ],
+    },
+    // A client quits, and sends more.
+    Scene {
+        keys: "",
+        steps: &[
+            Step::Connect,
+            Step::Send(0, b"get z\r\nquit\r\nget z\r\n", 1),
+            Step::Read(0, b"END\r\n", 1),
+            Step::AtEnd(0),
+        ],
+    },
+    // A data block that is too large is passed over.
+    Scene {
+        keys: "item_size = 10",
+        steps: &[
+            Step::Connect,
+            Step::Send(0, b"set a 0 0 11\r\n12345678901\r\nget a\r\n", 1),
+            Step::Read(0, b"SERVER_ERROR object too large for cache\r\nEND\r\n", 1),
+        ],
+    },
+    // One more than may be connected is told so.
+    Scene {
+        keys: "max_connections = 1",
+        steps: &[
+            Step::Connect,
+            Step::Send(0, b"get z\r\n", 1),
+            Step::Read(0, b"END\r\n", 1),
+            Step::Connect,
+            Step::Read(1, b"ERROR Too many open connections\r\n", 1),
+            Step::AtEnd(1),
+        ],
+    },
+    // An idle client is closed.
+    Scene {
+        keys: "idle_s = 1",
+        steps: &[
+            Step::Connect,
+            Step::Send(0, b"get z\r\n", 1),
+            Step::Read(0, b"END\r\n", 1),
+            Step::AtEnd(0),
+        ],
+    },
+    // When it stops, an idle client is closed, while another one has not read what it has asked for.
+    Scene {
+        keys: "",
+        steps: &[
+            Step::Connect,
+            Step::Connect,
+            Step::Send(1, b"set long 0 0 800000\r\n", 1),
+            Step::Send(1, b"vvvvvvvv", 100_000),
+            Step::Send(1, b"\r\n", 1),
+            Step::Read(1, b"STORED\r\n", 1),
+            Step::Send(1, b"get long\r\n", 20),
+            Step::Send(0, b"get z\r\n", 1),
+            Step::Read(0, b"END\r\n", 1),
+            Step::Stop,
+            Step::AtEnd(0),
+        ],
+    },
+];
+
+#[test]
+fn scenes_of_memcache(rt: HostRuntime) {
+    assert!(rt; all_come_out(rt, rt.alloc(), MEMCACHE_SCENES, MEMCACHE));
 }

@@ -1,7 +1,8 @@
 //! What the keys say that only `bivrangd` knows. An error is what is wrong with a value, in words that follow its key.
 
 use crate::listed::Notices;
-use crate::values::{at_key, number_at};
+use crate::values::{at_key, capacity_in, number_at, policy_in};
+use audit_model::EvictionPolicy;
 use std::net::IpAddr;
 use toml::Table;
 
@@ -15,6 +16,10 @@ const MODE: &str = "is a text of three digits from 0 to 7";
 const LOOPS: &str = "is a number from 1 to 64";
 
 const NOTICES: &str = "is \"values\", \"keys\" or \"off\"";
+
+const PROTOCOL: &str = "is \"lines\" or \"memcache\"";
+
+const ITEM_SIZE: &str = "is a number of bytes from 1 to 134217728";
 
 const METRICS: &str = "is a table with a port, a number from 1 to 65535, and nothing else";
 
@@ -112,4 +117,56 @@ pub fn idle_in(table: &Table) -> Result<Option<u64>, &'static str> {
         86_400_000,
         "is a number of seconds from 1 to 86400000",
     )
+}
+
+/// The keys that do not go with the memcache protocol.
+pub const OF_LINES: [&str; 8] = [
+    "parts",
+    "weight",
+    "live_ms",
+    "idle_ms",
+    "deadlines",
+    "loads",
+    "loops",
+    "notices",
+];
+
+/// The key that goes with the memcache protocol alone.
+pub const OF_MEMCACHE: &str = "item_size";
+
+/// Whether a table says that the namespace speaks the memcache protocol; not if it says nothing of it.
+pub fn memcache_in(table: &Table) -> Result<bool, &'static str> {
+    match at_key(table, "protocol") {
+        None => Ok(false),
+        Some(value) => match value.as_str() {
+            Some("lines") => Ok(false),
+            Some("memcache") => Ok(true),
+            _ => Err(PROTOCOL),
+        },
+    }
+}
+
+/// How many bytes a table says that all items may have. A number that is not valid is told by `capacity_in`.
+pub fn item_capacity_in(table: &Table) -> Result<u64, &'static str> {
+    match capacity_in(table) {
+        Ok(Some(capacity)) => Ok(capacity),
+        Ok(None) => Err("is missing: with the memcache protocol it is a number of bytes"),
+        Err(_) => Ok(0),
+    }
+}
+
+/// The policy that a table says for items; LRU if it says none. One that is not valid is told by `policy_in`.
+pub fn item_policy_in(table: &Table) -> EvictionPolicy {
+    if at_key(table, "policy").is_none() {
+        return EvictionPolicy::Lru;
+    }
+    policy_in(table).unwrap_or(EvictionPolicy::Lru)
+}
+
+/// How many bytes a table allows in a data block; 1 MiB if it says nothing of it.
+pub fn item_size_in(table: &Table) -> Result<u32, &'static str> {
+    match number_at(table, OF_MEMCACHE, 1, 1 << 27, ITEM_SIZE)? {
+        None => Ok(1 << 20),
+        Some(size) => u32::try_from(size).map_err(|_| ITEM_SIZE),
+    }
 }

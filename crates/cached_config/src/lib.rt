@@ -11,7 +11,8 @@ mod values;
 mod words;
 
 pub use listed::{
-    ConfigError, ConfigFault, ConfigReport, HostedNamespace, Hosting, Listed, Notices,
+    ConfigError, ConfigFault, ConfigReport, HostedNamespace, Hosting, ItemLimits, Listed, Notices,
+    Protocol,
 };
 pub use reading::{Hosted, check_config, check_hosted, read_config, read_hosted};
 pub use unread::Unread;

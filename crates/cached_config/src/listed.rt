@@ -2,7 +2,7 @@
 ghost use Rattle.std.specs.Prelude.{◌≡◌};
 ghost use Rattle.cached_config.specs.declared.listed.ConfigError.TheVariants as errors;
 
-use audit_model::{Bytes, Config};
+use audit_model::{Bytes, Config, EvictionPolicy};
 use std::alloc::AllocError;
 
 /// A key that loads find, with its value.
@@ -38,6 +38,27 @@ pub struct Hosting {
     /// After so many seconds without a byte a connection is closed.
     pub idle: Option<u64>,
     pub notices: Notices,
+    pub protocol: Protocol,
+}
+
+/// What the connections of a namespace of `bivrangd` speak.
+#[derive(Clone, Copy, PartialEq, Eq, Drop)]
+pub enum Protocol {
+    /// The line protocol.
+    Lines,
+    /// The memcache text protocol.
+    Memcache(ItemLimits),
+}
+
+/// How much a namespace that speaks the memcache protocol holds, and what leaves first.
+#[derive(Clone, Copy, PartialEq, Eq, Drop)]
+pub struct ItemLimits {
+    /// How many bytes all items may have, with what they cost.
+    pub capacity: u64,
+    /// LRU if the file says nothing of it.
+    pub policy: EvictionPolicy,
+    /// How many bytes a data block may have.
+    pub item_size: u32,
 }
 
 /// What `bivrangd` tells of a value that leaves.

@@ -7,9 +7,13 @@ ghost use Rattle.cached_config.specs.Good.{are_good};
 ghost use Rattle.cached_config.specs.Said.{IsConfigOf, Says, SaysAll, SaysLimits, SaysSpace, SaysSpaces, loads_table, said_or};
 
 use crate::good::{MOST, are_good};
-use crate::hosting::{bind_in, connections_in, idle_in, loops_in, metrics_in, mode_in, notices_in};
+use crate::hosting::{
+    OF_LINES, OF_MEMCACHE, bind_in, connections_in, idle_in, item_capacity_in, item_policy_in,
+    item_size_in, loops_in, memcache_in, metrics_in, mode_in, notices_in,
+};
 use crate::listed::{
-    ConfigError, ConfigFault, ConfigReport, HostedNamespace, Hosting, Listed, Notices,
+    ConfigError, ConfigFault, ConfigReport, HostedNamespace, Hosting, ItemLimits, Listed, Notices,
+    Protocol,
 };
 use crate::places::{Part, line_at, line_of_header, line_of_key, line_outside};
 use crate::values::{
@@ -23,7 +27,7 @@ use std::fmt::Display;
 use toml::{Table, Value};
 
 /// The keys of a namespace's table. All programs know the first `COMMON` of them.
-const KEYS: [&str; 16] = [
+const KEYS: [&str; 18] = [
     "name",
     "port",
     "capacity",
@@ -40,6 +44,8 @@ const KEYS: [&str; 16] = [
     "max_connections",
     "idle_s",
     "notices",
+    "protocol",
+    "item_size",
 ];
 
 const COMMON: usize = 10;
@@ -100,8 +106,12 @@ pub fn read_config(alloc: Global, text: &str) -> Result<Vec<HostedNamespace>, Co
 
 /// Like `read_config`, for `bivrangd`. In addition a namespace may have `bind` (an IP address, by default 127.0.0.1, or the path of a Unix
 /// socket, of at most 107 bytes), `mode` (the permissions of that socket, by default `"660"`), `loops` (1 to 64), `max_connections` (1 to
-/// 1,000,000, by default 10,000), `idle_s` (1 to 86,400,000; by default idle connections stay) and `notices` (`"values"`, the default,
-/// `"keys"` or `"off"`), and the file may have a table `metrics` with a `port`.
+/// 1,000,000, by default 10,000), `idle_s` (1 to 86,400,000; by default idle connections stay), `notices` (`"values"`, the default,
+/// `"keys"` or `"off"`) and `protocol` (`"lines"`, the default, or `"memcache"`), and the file may have a table `metrics` with a `port`.
+///
+/// One that speaks the memcache protocol has a `capacity`, in bytes, and optionally `policy` (by default `"lru"`) and `item_size` (1 to
+/// 134,217,728 bytes, by default 1,048,576), and none of `parts`, `weight`, `live_ms`, `idle_ms`, `deadlines`, `loads`, `loops` and
+/// `notices`.
 pub fn read_hosted(alloc: Global, text: &str) -> Result<Hosted, ConfigError>
     ensures ok { IfOk result (λ hosted. IsTrue (are_good hosted.spaces.items)) }
     ensures said { IfOk result (λ hosted. IsConfigOf text.now hosted.spaces.items) }
@@ -397,6 +407,7 @@ impl Reader<'_> {
         let connections = self.said(at, "max_connections", connections_in(at.table), 1)?;
         let idle = self.said(at, "idle_s", idle_in(at.table), None)?;
         let notices = self.said(at, "notices", notices_in(at.table), Notices::Values)?;
+        let protocol = self.protocol(at)?;
         let hosting = Hosting {
             bind: String::from_str(self.alloc, bind)?,
             mode,
@@ -404,8 +415,39 @@ impl Reader<'_> {
             connections,
             idle,
             notices,
+            protocol,
         };
         self.hostings.push(hosting)?;
+        Ok(())
+    }
+
+    /// Reads which protocol a namespace speaks.
+    fn protocol(&mut self, at: At<'_>) -> Result<Protocol, AllocError>
+        ensures { OnOk result (vec_len self.old.faults ≤ vec_len self.new.faults) }
+    {
+        if !self.said(at, "protocol", memcache_in(at.table), false)? {
+            self.refuse(at, OF_MEMCACHE, "goes with the memcache protocol only")?;
+            return Ok(Protocol::Lines);
+        }
+        for key in &OF_LINES {
+            self.refuse(at, *key, "does not go with the memcache protocol")?;
+        }
+        let capacity = self.said(at, "capacity", item_capacity_in(at.table), 0)?;
+        let item_size = self.said(at, OF_MEMCACHE, item_size_in(at.table), 0)?;
+        Ok(Protocol::Memcache(ItemLimits {
+            capacity,
+            policy: item_policy_in(at.table),
+            item_size,
+        }))
+    }
+
+    /// Refuses a key of a namespace, if it is there.
+    fn refuse(&mut self, at: At<'_>, key: &str, what: &str) -> Result<(), AllocError>
+        ensures { OnOk result (vec_len self.old.faults ≤ vec_len self.new.faults) }
+    {
+        if at.table.contains_key(key) {
+            return self.fault(at, Part::Own, key, what);
+        }
         Ok(())
     }
 
@@ -477,7 +519,8 @@ impl Reader<'_> {
     fn suits(&mut self, at: At<'_>, config: &Config) -> Result<(), AllocError>
         ensures { OnOk result (vec_len self.old.faults ≤ vec_len self.new.faults) }
     {
-        if !at.table.contains_key("capacity") {
+        let is_memcache = matches!(memcache_in(at.table), Ok(true));
+        if !is_memcache && !at.table.contains_key("capacity") {
             let what =
                 "no capacity, so nothing leaves for want of room, and the memory has no bound";
             let what = String::from_str(self.alloc, what)?;
