@@ -1,41 +1,48 @@
--- How a call begins where no more can wait, and how a compute call does.
+-- How a call begins, and how a compute call does.
 use Rattle.std.proofs.Common.{◌≡◌, ◌==◌, ℕ, Bool, true, false, Option, Some, None, Result, Ok, Err, IfOk, OnErr, refl, sym, ap, ◌∙◌, subst, inr, if◌then◌else◌, true≢false}
 use Rattle.std.proofs.lemmas.Bool.{eq-eqb}
-use Rattle.front_parts.specs.Places.Turning.{BeginsIn}
-use Rattle.front_reference.specs.Fronts.{Front, same_kind}
+use Rattle.front_parts.specs.Places.Calls.{visible_of}
+use Rattle.engine_reference.specs.Scanning.{NotesLookUp, past}
+use Rattle.front_reference.specs.Fronts.{CallsPart, Front, part_by_hash, same_kind}
 use Rattle.front_reference.specs.declared.data.At.{At}
 use Rattle.front_reference.specs.declared.data.TurnKind.{TurnKind}
 use Rattle.front_reference.specs.declared.data.TurnKind.TheVariants as kinds
+use Rattle.front_reference.specs.declared.data.TurnStart.{TurnStart}
 use Rattle.front_reference.specs.declared.data.TurnStart.TheVariants as state
 use Rattle.front_reference.specs.declared.errors.CacheError.{CacheError}
-use Rattle.front_state.specs.Beginning.{BeginsBy}
-use Rattle.front_state.specs.Calls.{LooksUpIn, Ways, hash_in, visible_in}
-use Rattle.front_state.proofs.Steady.{begun_found}
+use Rattle.front_state.specs.Beginning.{BeginsBy, StartsBy}
+use Rattle.front_state.specs.Calls.{Ways}
+use Rattle.front_state.proofs.Steady.{begun_else, begun_found}
 use Rattle.sync_desk.specs.Drawing.{BeginsAsDrawn, ComputesAsDrawn, EndsUnstarted, GivesUp, IsDrawn, LooksUpAsDrawn, StartsAsDrawn}
 use Rattle.sync_desk.specs.Slots.Waiting.{ChangesAt, IsPutAt, SlotsByNumber, changed, ended, opened, slot_at}
 use Rattle.sync_desk.specs.declared.slots.slot.Ending.TheVariants.{GivenUp}
 use Rattle.sync_desk.specs.declared.turns.ComputeStart.{ComputeStart}
 use Rattle.sync_desk.specs.declared.turns.ComputeStart.TheVariants as computing
 
--- a call that makes a value, and finds it where no more can wait
-module _ {K V P S R : Type 0} (ways : Ways K V P S R) (key : K) (at : At) (Ignores : V → Bool → Type 0) (old mid new : Front K V P S R) (same : mid ≡ old) (drawn : IsDrawn old at) where
-  asked : (shown : V) → visible_in ways mid at.now key ≡ Some shown → Ignores shown false → (v : V) → visible_in ways mid at.now key ≡ Some v → Ignores v false
-  asked shown is passes v seen =
-      let both : Some shown ≡ Some v = sym is ∙ seen in
-      let one : shown ≡ v = cc in
-      subst (λ x. Ignores x false) one passes
+-- a call begins with what is found, or as it starts where nothing is
+module _ {K V P S R : Type 0} (ways : Ways K V P S R) (key : K) (hash : ℕ) (at : At) (Ignores : V → Bool → Type 0) (ignored : Bool) (old new : Front K V P S R) where
+  abbrev seen : Option V
+  seen = past ignored (visible_of ways (part_by_hash old hash) at.now key)
 
-  found : (kind : TurnKind) (value : V) → ((v : V) × (visible_in ways mid at.now key ≡ Some v) × Ignores v false) → Some value ≡ visible_in ways mid at.now key → LooksUpIn ways key at mid new → BeginsIn ways kind key (hash_in ways mid key) at Ignores mid new (state.Found value)
-  found kind value shown is looks = begun_found ways mid new kind key (hash_in ways mid key) at.now at.step Ignores false value (asked shown.0 shown.1 shown.2) is looks
+  pub found-begins : (kind : TurnKind) (value : V) → same_kind kind kinds.Compute ≡ false → ((v : V) → visible_of ways (part_by_hash old hash) at.now key ≡ Some v → Ignores v ignored) → Some value ≡ seen
+      → CallsPart hash at.now at.step (NotesLookUp ways.answers ways.eq key hash at.now ignored) old new → BeginsBy ways kind key hash at Ignores old new (state.Found value)
+  found-begins kinds.Compute value makes asked is looks = absurd (true≢false makes)
+  found-begins kinds.With value makes asked is looks = begun_found ways old new kinds.With key hash at.now at.step Ignores ignored value asked is looks
+  found-begins kinds.Optionally value makes asked is looks = begun_found ways old new kinds.Optionally key hash at.now at.step Ignores ignored value asked is looks
+  found-begins kinds.Try value makes asked is looks = begun_found ways old new kinds.Try key hash at.now at.step Ignores ignored value asked is looks
 
-  by_kind : (kind : TurnKind) (value : V) → same_kind kind kinds.Compute ≡ false → ((v : V) × (visible_in ways mid at.now key ≡ Some v) × Ignores v false) → Some value ≡ visible_in ways mid at.now key → LooksUpIn ways key at mid new → BeginsBy ways kind key (hash_in ways mid key) at Ignores mid new (state.Found value)
-  by_kind kinds.Compute value makes shown is looks = absurd (true≢false makes)
-  by_kind kinds.With value makes shown is looks = found kinds.With value shown is looks
-  by_kind kinds.Optionally value makes shown is looks = found kinds.Optionally value shown is looks
-  by_kind kinds.Try value makes shown is looks = found kinds.Try value shown is looks
+  pub missed-begins : (kind : TurnKind) (start : TurnStart V) → same_kind kind kinds.Compute ≡ false → ((v : V) → visible_of ways (part_by_hash old hash) at.now key ≡ Some v → Ignores v ignored) → None ≡ seen
+      → StartsBy ways kind key hash at ignored old new start → BeginsBy ways kind key hash at Ignores old new start
+  missed-begins kinds.Compute start makes asked is starts = absurd (true≢false makes)
+  missed-begins kinds.With start makes asked is starts = begun_else ways old new kinds.With key hash at Ignores ignored start asked is starts
+  missed-begins kinds.Optionally start makes asked is starts = begun_else ways old new kinds.Optionally key hash at Ignores ignored start asked is starts
+  missed-begins kinds.Try start makes asked is starts = begun_else ways old new kinds.Try key hash at Ignores ignored start asked is starts
 
-  pub begins_found : (kind : TurnKind) (value : V) → same_kind kind kinds.Compute ≡ false → ((v : V) × (visible_in ways mid at.now key ≡ Some v) × Ignores v false) → Some value ≡ visible_in ways mid at.now key → LooksUpIn ways key at mid new → BeginsAsDrawn ways kind key Ignores old new (state.Found value)
-  begins_found kind value makes shown is looks = (at, drawn, subst (λ f. BeginsBy ways kind key (hash_in ways f key) at Ignores f new (state.Found value)) same (by_kind kind value makes shown is looks))
+  pub compute-begins : (kind : TurnKind) (start : TurnStart V) → same_kind kind kinds.Compute ≡ true → StartsBy ways kind key hash at ignored old new start → BeginsBy ways kind key hash at Ignores old new start
+  compute-begins kinds.Compute start computes starts = starts
+  compute-begins kinds.With start computes starts = absurd (true≢false (sym computes))
+  compute-begins kinds.Optionally start computes starts = absurd (true≢false (sym computes))
+  compute-begins kinds.Try start computes starts = absurd (true≢false (sym computes))
 
 -- a turn that begins and is given up is no longer there
 module _ {V F : Type 0} (number hash : ℕ) (old mid new : SlotsByNumber V F) (begins : IsPutAt number (Some (opened kinds.Compute hash)) old mid) (ends : ChangesAt kinds.Compute number (ended GivenUp) mid new) where
