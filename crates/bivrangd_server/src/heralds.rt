@@ -11,14 +11,18 @@ use std::time::Clock;
 /// How many values have left a namespace, by cause.
 #[derive(Clone, Copy, Drop)]
 pub struct Departures {
+    /// How many values expired.
     pub expired: u64,
+    /// How many values were removed, or hidden by a `CLEAR` or a `DROPIF`.
     pub explicit: u64,
+    /// How many values were replaced.
     pub replaced: u64,
+    /// How many values left for lack of capacity.
     pub size: u64,
 }
 
 impl Departures {
-    /// None has left.
+    /// Creates counts of no departures.
     pub fn new() -> Departures {
         Departures {
             expired: 0,
@@ -47,12 +51,16 @@ impl Departures {
     }
 }
 
-/// Counts what leaves a namespace, and tells as much of it as the configuration says.
+/// A teller, which counts what leaves a namespace, and reports as much of it as the configuration says.
 #[derive(Drop)]
 pub struct Herald<R: Clock + Wait + Copy> {
+    /// Where notes go, and the namespace.
     pub site: Site<R>,
+    /// The allocator.
     pub alloc: Global,
+    /// How much of each note is reported.
     pub notices: Notices,
+    /// What was counted.
     pub departures: Arc<Mutex<Departures>>,
 }
 

@@ -20,10 +20,10 @@ use std::{io, thread};
 /// The namespace: it is the only one of its service.
 const NAMESPACE: u64 = 0;
 
-/// What the program is told by its threads.
+/// What the threads report to the program.
 #[derive(Clone, Copy, Drop)]
 pub enum Told {
-    /// To stop.
+    /// The program is to stop.
     Stop,
     /// A loop has ended.
     Ended,
@@ -34,20 +34,30 @@ pub enum Told {
 /// The threads of all namespaces, the wakers by which they are stopped, and where their numbers are.
 #[derive(Drop)]
 pub struct Loops {
+    /// The threads.
     pub threads: Vec<JoinHandle<()>>,
+    /// The wakers by which the threads are stopped.
     pub stoppers: Vec<Waker>,
+    /// Where the numbers of each namespace are.
     pub sources: Vec<Source>,
 }
 
 /// What the loops of a namespace are started with.
 #[derive(Drop)]
 pub struct Start<L: Seating, C: Shareable, R: Machine> {
+    /// The handle of the machine.
     pub rt: R,
+    /// The allocator.
     pub alloc: Global,
+    /// The service of the namespace.
     pub shared: SharedService<L, C>,
+    /// Where notes go, and the namespace.
     pub site: Site<R>,
+    /// How much of each note is reported.
     pub notices: Notices,
+    /// How connections are served.
     pub rules: Rules,
+    /// Where a loop reports that it has ended.
     pub ending: Sender<Told, Global>,
 }
 
@@ -90,7 +100,8 @@ where
     C: Shareable + Send + 'static,
     R: Machine,
 {
-    /// Starts some loops over a namespace, each with a seat. They and their numbers are added to the others.
+    /// Starts some loops over a namespace, each with a seat. The loops and their numbers are added to the others. Returns an error if a
+    /// loop cannot be started.
     pub fn start(
         &self,
         listener: &Listener,
