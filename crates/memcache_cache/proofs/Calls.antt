@@ -36,19 +36,19 @@ use Rattle.memcache_service.specs.Shelves.{AreLeft, Becomes, OnlyLeave, Shelved,
 
 -- ---- lists of parts
 
-set-there : {X : Type 0} (xs : List X) (i : ℕ) (x y : X) → slice_get xs i ≡ Some y → slice_get (slice_set xs i x) i ≡ Some x
+pub set-there : {X : Type 0} (xs : List X) (i : ℕ) (x y : X) → slice_get xs i ≡ Some y → slice_get (slice_set xs i x) i ≡ Some x
 set-there [] i x y there = absurd (none-some y there)
 set-there (z ∷ zs) zero x y there = refl
 set-there (z ∷ zs) (suc i) x y there = set-there zs i x y there
 
-set-other : {X : Type 0} (xs : List X) (i k : ℕ) (x : X) → (k ≡ i → ⊥) → slice_get (slice_set xs i x) k ≡ slice_get xs k
+pub set-other : {X : Type 0} (xs : List X) (i k : ℕ) (x : X) → (k ≡ i → ⊥) → slice_get (slice_set xs i x) k ≡ slice_get xs k
 set-other [] i k x other = refl
 set-other (z ∷ zs) zero zero x other = absurd (other refl)
 set-other (z ∷ zs) zero (suc k) x other = refl
 set-other (z ∷ zs) (suc i) zero x other = refl
 set-other (z ∷ zs) (suc i) (suc k) x other = set-other zs i k x (λ e. other (ap suc e))
 
-some-same : {X : Type 0} (a b : X) → Some a ≡ Some b → a ≡ b
+pub some-same : {X : Type 0} (a b : X) → Some a ≡ Some b → a ≡ b
 some-same a b e = cc
 
 is-zero : (capacity : Option ℕ) → takes_nothing capacity ≡ true → capacity ≡ Some 0

@@ -3,7 +3,7 @@ ghost use Rattle.slab.specs.Slab.{Updates, get};
 ghost use Rattle.std.specs.Prelude.{◌≡◌, ◌≢◌, ◌↔◌, ◌≤◌, ◌<◌, ◌^◌, ℕ, [], None, Ok, IfOk, IsTrue, MatchOption, OnErr, false, length};
 ghost use Rattle.memcache_service.specs.Serving.{FailsToFeed, HasFed, IsDoneFor};
 ghost use Rattle.memcache_service.specs.Talking.{HasOpened, HasTaken};
-ghost use Rattle.memcache_service.specs.Shelves.{IsMoment};
+ghost use Rattle.memcache_service.specs.Shelves.{IsBounded, IsMoment};
 
 use crate::connection::Connection;
 use crate::counters::{Counters, Tally};
@@ -109,6 +109,15 @@ impl<T: Shelf> Service<T> {
             Some(connection) => connection.is_full(),
             None => false,
         }
+    }
+
+    /// Does nothing. Its contract bounds what the items weigh together: beside at most 63 keys, which were written since the last maintenance,
+    /// at most the shelf's capacity.
+    pub fn bounded(&self)
+        ensures { ∥ IsBounded T.weigh (T.capacity self.now.stock.shelf)
+            (T.view self.now.stock.shelf) ∥₁ }
+    {
+        self.stock.shelf.bounded();
     }
 
     /// What was counted.

@@ -1,7 +1,7 @@
 //! Items by key, in a cache.
-ghost use Rattle.std.specs.Prelude.{◌≡◌, OnOk, OnErr, Some, None, is_some, option_map};
-ghost use Rattle.memcache_model.specs.Items.{nothing, with_item};
-ghost use Rattle.memcache_service.specs.Shelves.{Becomes, IsMoment, OnlyLeave, Shelved, live_on};
+ghost use Rattle.std.specs.Prelude.{◌≡◌, ℕ, List, OnOk, OnErr, Some, None, is_some, option_map};
+ghost use Rattle.memcache_model.specs.Items.{Item, nothing, with_item};
+ghost use Rattle.memcache_service.specs.Shelves.{Becomes, IsBounded, IsMoment, OnlyLeave, Shelved, live_on};
 
 use crate::counters::Counters;
 use crate::item::StoredItem;
@@ -14,9 +14,17 @@ use std::alloc::AllocError;
 pub trait Shelf: Drop {
     ghost view: { Self → Shelved };
 
+    ghost weigh: { List ℕ → Item → ℕ };
+
+    ghost capacity: { Self → ℕ };
+
     /// Does nothing. Its contract says what the passing of time does.
     fn pass(&self)
         ensures { OnlyLeave (view self.now) };
+
+    /// Does nothing. Its contract bounds what the items weigh together.
+    fn bounded(&self)
+        ensures { ∥ IsBounded weigh (capacity self.now) (view self.now) ∥₁ };
 
     /// The live item of a key. It is no use of it.
     fn peek(&self, key: &Key, moment: u64) -> Option<&StoredItem>

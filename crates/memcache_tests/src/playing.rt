@@ -92,6 +92,36 @@ fn ask(service: &mut Served, sent: &[u8], told: &mut Vec<u8>) -> Result<(), Allo
     Ok(())
 }
 
+/// How many keys have an item, once each byte from `!` to `~` was set as a key at one moment.
+fn count_held(alloc: Global, setup: Setup) -> Result<usize, AllocError> {
+    let mut service = service(alloc, setup)?;
+    let mut told = Vec::new(alloc);
+    let mut set = *b"set k 0 0 1\r\nx\r\n";
+    for key in b'!'..=b'~' {
+        set[4] = key;
+        ask(&mut service, &set, &mut told)?;
+    }
+    let mut get = *b"get k\r\n";
+    let mut held: usize = 0;
+    for key in b'!'..=b'~' {
+        get[4] = key;
+        ask(&mut service, &get, &mut told)?;
+        if told.starts_with(b"VALUE") {
+            held = held.saturating_add(1);
+        }
+    }
+    Ok(held)
+}
+
+/// Whether of 94 items that were set at one moment at most so many are held, and at least one is. If the test itself had no memory, all is
+/// done once more.
+pub fn holds_at_most(alloc: Global, setup: Setup, most: usize) -> bool {
+    match count_held(alloc, setup) {
+        Ok(held) => 0 < held && held <= most,
+        Err(AllocError) => matches!(count_held(alloc, setup), Ok(held) if 0 < held && held <= most),
+    }
+}
+
 /// Whether a connection was told that there is no memory, or ended without a reply.
 fn is_refused(told: &[u8]) -> bool {
     told.is_empty() || told.starts_with(b"SERVER_ERROR out of memory")

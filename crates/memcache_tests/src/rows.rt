@@ -1,5 +1,5 @@
 //! Requests and replies.
-use crate::playing::{LARGE, Row, all_right, all_right_again};
+use crate::playing::{LARGE, Row, all_right, all_right_again, holds_at_most};
 use memcache_service::Setup;
 
 /// Storing and reading.
@@ -424,6 +424,12 @@ fn too_large(rt: HostRuntime) {
 #[test]
 fn evicted(rt: HostRuntime) {
     assert!(rt; all_right(rt.alloc(), TIGHT, EVICTED));
+}
+
+/// Beside the two that there is room for, at most 63 wait for maintenance.
+#[test]
+fn bounded(rt: HostRuntime) {
+    assert!(rt; holds_at_most(rt.alloc(), TIGHT, 65));
 }
 
 #[test]

@@ -1,5 +1,6 @@
 use Rattle.std.proofs.Common.{ap, refl}
 use Rattle.std.specs.Cmp.Lexicographic.{nat_list_eq_equiv}
+use Rattle.memcache_cache.proofs.Bounding.{remove_keeps}
 use Rattle.memcache_cache.proofs.Calls.{item_ways, remove_becomes}
 use Rattle.memcache_cache.proofs.lent.LentShelfShelf.remove.Goals as goal
 
@@ -7,3 +8,8 @@ pub returns-in-Ok-clause-removes : goal.returns-in-Ok-clause-removes
 returns-in-Ok-clause-removes g c =
     remove_becomes (item_ways g.S.BuildHasher g.S.Hasher.Hasher) nat_list_eq_equiv (λ a b. refl) c.args.moment c.args.key.now c.at-at.result c.args.self.now.cache c.invalidate.new.self c.keeps.ensures (ap (λ at. at.now) c.at-at.ensures)
     c.in-Ok.ensures.takes_out
+
+pub invariant_of-self : goal.invariant_of-self
+invariant_of-self g c =
+    let ways = item_ways g.S.BuildHasher g.S.Hasher.Hasher in
+    record { kept = remove_keeps ways.answers ways.hash (λ rules key value. refl) c.invalidate.result c.args.key.now c.at-at.result c.args.self.now.cache c.invalidate.new.self c.keeps.ensures c.args.self.now.kept c.invalidate.ensures.takes_out c.invalidate.ensures.err }
