@@ -4,8 +4,7 @@ ghost use Rattle.std.specs.Prelude.{◌≡◌, false};
 use crate::heralds::Herald;
 use crate::listening::Listener;
 use crate::sources::Source;
-use cache_link::Tools;
-use cache_loop::{Counting, Crew, Doorway, LOADED, Rules, STOP, serve_all};
+use cache_loop::{Crew, Doorway, Here, LOADED, LineSteward, Rules, STOP, serve_by};
 use cache_serve::{Devices, Sitting};
 use cache_shared::{Seat, Seating, Shareable, SharedService};
 use cached_config::Notices;
@@ -13,6 +12,7 @@ use cached_server::{Ending, Fault, ListLoader, Machine, Site, StartClock};
 use crossbeam_channel::Sender;
 use mio::{Poll, Waker};
 use std::alloc::{AllocError, Global};
+use std::io::ErrorKind;
 use std::sync::Arc;
 use std::thread::JoinHandle;
 use std::{io, thread};
@@ -230,19 +230,14 @@ fn serve_seat<L: Seating, C: Shareable, R: Machine>(
 ) -> io::Result<()> {
     let (clock, loader, mut herald) = devices;
     let (mut poll, mut seat) = (poll, seat);
-    let counted = Counting {
-        inner: loader,
-        asked: 0,
+    let (alloc, asker) = (crew.alloc, Here { loader });
+    let mut sitting = Sitting::new(rt, alloc, shared, &mut herald, false)?;
+    let (namespace, place) = (crew.namespace, &mut seat);
+    let steward = LineSteward::new(alloc, namespace, &mut sitting, place, clock, asker, None);
+    let Ok(mut steward) = steward else {
+        return Err(io::Error::from(ErrorKind::OutOfMemory));
     };
-    let mut tools = Tools::new(crew.alloc, clock, counted);
-    let mut sitting = Sitting::new(rt, crew.alloc, shared, &mut herald, false)?;
-    serve_all(
-        rt,
-        &mut sitting,
-        &mut seat,
-        &mut tools,
-        &mut poll,
-        doorway,
-        crew,
-    )
+    let served = serve_by(rt, &mut steward, &mut poll, doorway, crew);
+    let _asker = steward.end();
+    served
 }

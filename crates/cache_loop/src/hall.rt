@@ -83,7 +83,7 @@ impl<S: Steward> Hall<S> {
 
     /// How long to wait for events; without end if there is nothing else to do.
     pub fn patience(&self) -> Option<Duration> {
-        if !self.again.is_empty() || self.door == Door::Open {
+        if !self.again.is_empty() || self.is_loaded || self.door == Door::Open {
             return Some(Duration::from_millis(0));
         }
         match self.door {
@@ -142,6 +142,22 @@ impl<S: Steward> Hall<S> {
                 steward.stop(&mut served.link);
                 self.enqueue(key);
             }
+        }
+    }
+
+    /// Has the loads settled that were answered since.
+    pub fn take_answers(&mut self, steward: &mut S, crew: &Crew)
+        requires { S.rests_on }
+    {
+        let settled = steward.take_answers();
+        self.note_settled(crew, settled);
+    }
+
+    /// Notes that so many loads were settled, and tells other loops.
+    fn note_settled(&mut self, crew: &Crew, settled: u64) {
+        if settled > 0 {
+            self.is_loaded = true;
+            crew.tell_others();
         }
     }
 
@@ -273,9 +289,8 @@ impl<S: Steward> Hall<S> {
             Ok(next) => self.note_next(round.registry, key, next),
             Err(error) => self.end(steward, round.crew, key, Err(error)),
         }
-        let asked = steward.take_loads();
-        round.crew.tell_loads(asked);
-        self.counts.loads = self.counts.loads.saturating_add(asked);
+        let settled = steward.ask_loads();
+        self.note_settled(round.crew, settled);
         let nanos = self.watch.lap(round.rt);
         self.counts.count_turn(nanos);
     }

@@ -4,6 +4,7 @@ use crate::counts::Counts;
 use cache_link::Next;
 use cache_run::RunError;
 use std::io::{Read, Write};
+use std::time::Duration;
 
 /// Serves the connections of a loop: what it does depends on the protocol that they speak.
 pub trait Steward: Drop {
@@ -38,8 +39,16 @@ pub trait Steward: Drop {
     fn close(&mut self, link: Self::Link, outcome: Result<(), RunError>)
         requires { rests_on };
 
-    /// For how many loads the loader was asked since the last time. Others may wait for them.
-    fn take_loads(&mut self) -> u64;
+    /// Asks for the loads that went out. Returns how many were settled, which others may wait for.
+    fn ask_loads(&mut self) -> u64
+        requires { rests_on };
+
+    /// Settles the loads that were answered since, and those whose time is over. Returns how many were settled.
+    fn take_answers(&mut self) -> u64
+        requires { rests_on };
+
+    /// How long it is until the time of a load is over; `None` if no load has one.
+    fn patience(&mut self) -> Option<Duration>;
 
     /// Puts what it has counted itself to what its loop counts.
     fn tally(&self, counts: &mut Counts);
