@@ -23,7 +23,7 @@ pub trait SharedNumbers {
 
 /// A cache that threads share, of any form, with the machine's clock.
 #[derive(Drop)]
-pub struct Moka<H, C> {
+pub struct Moka<H: Clock + Drop, C> {
     cache: SharedCache<u64, u64, StdHasher, PlainRules, MachineEnv<H, Xoshiro256PlusPlus>, C>,
 }
 
