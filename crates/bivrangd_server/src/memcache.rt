@@ -18,7 +18,7 @@ use moka::EvictionPolicy;
 use std::alloc::Global;
 use std::io::{Read, Write};
 use std::thread::JoinHandle;
-use std::time::Clock;
+use std::time::{Clock, Duration};
 use std::{io, thread};
 
 /// Moments are below this many milliseconds.
@@ -65,9 +65,13 @@ pub fn make_items<R: Machine>(
 /// Serves the connections of a loop by the memcache protocol.
 #[derive(Drop)]
 pub struct MemcacheSteward<T: Shelf, R: Clock> {
+    /// The handle of the machine.
     pub rt: R,
+    /// The allocator.
     pub alloc: Global,
+    /// The service of the namespace.
     pub service: Service<T>,
+    /// Room for what is read and for replies.
     pub room: Room,
 }
 
@@ -115,8 +119,20 @@ impl<T: Shelf, R: Clock + Drop> Steward for MemcacheSteward<T, R> {
         link.close(&mut self.service);
     }
 
-    fn take_loads(&mut self) -> u64 {
+    fn ask_loads(&mut self) -> u64 {
         0
+    }
+
+    fn take_answers(&mut self) -> u64 {
+        0
+    }
+
+    fn give_up_loads(&mut self) -> u64 {
+        0
+    }
+
+    fn patience(&mut self) -> Option<Duration> {
+        None
     }
 
     fn tally(&self, counts: &mut Counts) {

@@ -4,8 +4,7 @@ ghost use Rattle.std.specs.Prelude.{◌≡◌, false};
 use crate::heralds::Herald;
 use crate::listening::Listener;
 use crate::sources::Source;
-use cache_link::Tools;
-use cache_loop::{Counting, Crew, Departures, Doorway, LOADED, Rules, STOP, serve_all};
+use cache_loop::{Crew, Departures, Doorway, Here, LOADED, LineSteward, Rules, STOP, serve_by};
 use cache_serve::{Devices, Sitting};
 use cache_shared::{Seat, Seating, Shareable, SharedService};
 use cached_config::Notices;
@@ -13,6 +12,7 @@ use cached_server::{Ending, Fault, ListLoader, Machine, Site, StartClock};
 use crossbeam_channel::Sender;
 use mio::{Poll, Waker};
 use std::alloc::{AllocError, Global};
+use std::io::ErrorKind;
 use std::sync::{Arc, Mutex};
 use std::thread::JoinHandle;
 use std::{io, thread};
@@ -78,8 +78,11 @@ impl Places {
 /// What a loop waits with, where its connections come in, and what it shares with others.
 #[derive(Drop)]
 pub struct Gear {
+    /// Where the loop waits.
     pub poll: Poll,
+    /// Where its connections come in.
     pub doorway: Doorway,
+    /// What it shares with others.
     pub crew: Crew,
 }
 
@@ -155,12 +158,19 @@ fn crew_of(
 /// What the loops of a namespace that speaks lines are started with.
 #[derive(Drop)]
 pub struct Start<L: Seating, C: Shareable, R: Machine> {
+    /// The handle of the machine.
     pub rt: R,
+    /// The allocator.
     pub alloc: Global,
+    /// The service of the namespace.
     pub shared: SharedService<L, C>,
+    /// Where notes go, and the namespace.
     pub site: Site<R>,
+    /// How much of each note is reported.
     pub notices: Notices,
+    /// How many values have left, by cause.
     pub departures: Arc<Mutex<Departures>>,
+    /// Where a loop reports that it has ended.
     pub ending: Sender<Told, Global>,
 }
 
@@ -245,20 +255,15 @@ fn serve_seat<L: Seating, C: Shareable, R: Machine>(
         doorway,
         crew,
     } = gear;
-    let counted = Counting {
-        inner: loader,
-        asked: 0,
-    };
     let mut seat = seat;
-    let mut tools = Tools::new(crew.alloc, clock, counted);
-    let mut sitting = Sitting::new(rt, crew.alloc, shared, &mut herald, false)?;
-    serve_all(
-        rt,
-        &mut sitting,
-        &mut seat,
-        &mut tools,
-        &mut poll,
-        doorway,
-        &crew,
-    )
+    let (alloc, asker) = (crew.alloc, Here { loader });
+    let mut sitting = Sitting::new(rt, alloc, shared, &mut herald, false)?;
+    let (namespace, place) = (crew.namespace, &mut seat);
+    let steward = LineSteward::new(alloc, namespace, &mut sitting, place, clock, asker, None);
+    let Ok(mut steward) = steward else {
+        return Err(io::Error::from(ErrorKind::OutOfMemory));
+    };
+    let served = serve_by(rt, &mut steward, &mut poll, doorway, &crew);
+    let _asker = steward.end();
+    served
 }

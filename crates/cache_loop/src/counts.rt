@@ -12,9 +12,13 @@ pub const TURN_BOUNDS: [u64; 5] = [10_000, 100_000, 1_000_000, 10_000_000, 100_0
 /// How many values have left a namespace, by cause.
 #[derive(Clone, Copy, Drop)]
 pub struct Departures {
+    /// How many values expired.
     pub expired: u64,
+    /// How many values were removed, or hidden by a clear or a predicate.
     pub explicit: u64,
+    /// How many values were replaced.
     pub replaced: u64,
+    /// How many values left for lack of capacity.
     pub size: u64,
 }
 

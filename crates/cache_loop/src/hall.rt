@@ -86,7 +86,7 @@ impl<S: Steward> Hall<S> {
 
     /// Returns how long to wait for events, or `None`, without end, if there is nothing else to do.
     pub fn patience(&self) -> Option<Duration> {
-        if !self.again.is_empty() || self.door == Door::Open {
+        if !self.again.is_empty() || self.is_loaded || self.door == Door::Open {
             return Some(Duration::from_millis(0));
         }
         match self.door {
@@ -145,6 +145,30 @@ impl<S: Steward> Hall<S> {
                 steward.stop(&mut served.link);
                 self.enqueue(key);
             }
+        }
+    }
+
+    /// Has the loads settled that were answered since the last call.
+    pub fn take_answers(&mut self, steward: &mut S, crew: &Crew)
+        requires { S.rests_on }
+    {
+        let settled = steward.take_answers();
+        self.note_settled(crew, settled);
+    }
+
+    /// Has the loads given up that were asked for and not settled.
+    pub fn give_up_loads(&mut self, steward: &mut S, crew: &Crew)
+        requires { S.rests_on }
+    {
+        let settled = steward.give_up_loads();
+        self.note_settled(crew, settled);
+    }
+
+    /// Notes that so many loads were settled, and tells other loops.
+    fn note_settled(&mut self, crew: &Crew, settled: u64) {
+        if settled > 0 {
+            self.is_loaded = true;
+            crew.tell_others();
         }
     }
 
@@ -276,9 +300,8 @@ impl<S: Steward> Hall<S> {
             Ok(next) => self.note_next(round.registry, key, next),
             Err(error) => self.end(steward, round.crew, key, Err(error)),
         }
-        let asked = steward.take_loads();
-        round.crew.tell_loads(asked);
-        self.counts.loads = self.counts.loads.saturating_add(asked);
+        let settled = steward.ask_loads();
+        self.note_settled(round.crew, settled);
         let nanos = self.watch.lap(round.rt);
         self.counts.count_turn(nanos);
     }

@@ -1,49 +1,88 @@
 //! Connections that speak lines.
-ghost use Rattle.std.specs.Prelude.{◌≡◌, false};
 ghost use Rattle.audit_model.specs.declared.input.Conn.{Conn};
 
-use crate::counting::Counting;
+use crate::apart::Apart;
+use crate::asker::Asker;
 use crate::counts::Counts;
-use crate::doorway::Doorway;
-use crate::looping::{Crew, serve_by};
+use crate::loading::Loading;
+use crate::nobody::Nobody;
 use crate::replies::{Found, Overheard, Replies};
 use crate::steward::Steward;
 use cache_link::{Link, Next, Patient, Tools};
-use cache_run::{Clock, Host, Loader, RunError};
-use mio::Poll;
+use cache_run::{Clock, Host, RunError};
+use std::alloc::Global;
 use std::io::{Read, Write};
-use std::sync::Wait;
-use std::{io, time};
+use std::time::Duration;
 
-/// A connection, and how far its replies have been read.
+/// A connection of lines, and how far its replies have been read.
 #[derive(Drop)]
-struct HeardLink {
+pub struct HeardLink {
     link: Link,
     replies: Replies,
 }
 
-/// Serves the connections of a namespace of a host by lines, with tools that they use in turn.
+/// A steward that serves the connections of a namespace of a host by lines. Loads that go out are asked for between the turns.
 #[derive(Drop)]
-struct LineSteward<'h, 'p, 't, H: Host, K, D> {
+pub struct LineSteward<'h, 'p, H: Host, K, A: Asker> {
+    alloc: Global,
     namespace: u64,
-    host: &'h mut H,
+    host: Apart<'h, H>,
     place: &'p mut H::Place,
-    tools: &'t mut Tools<K, Counting<D>>,
+    tools: Tools<K, Nobody>,
+    loading: Loading<A>,
     found: Found,
 }
 
-impl<H: Host, K: Clock, D: Loader> Steward for LineSteward<'_, '_, '_, H, K, D> {
+impl<'h, 'p, H: Host, K: Clock + Drop, A: Asker> LineSteward<'h, 'p, H, K, A> {
+    /// Creates a steward of a namespace, with a clock, and whoever is asked for loads. After `limit` nanoseconds a load is given up; `None`
+    /// is no limit. Returns the error of the host if it cannot open a connection, by which loads are settled.
+    pub fn new(
+        alloc: Global,
+        namespace: u64,
+        host: &'h mut H,
+        place: &'p mut H::Place,
+        clock: K,
+        asker: A,
+        limit: Option<u64>,
+    ) -> Result<LineSteward<'h, 'p, H, K, A>, RunError> {
+        let mut host = Apart::new(alloc, host);
+        let loading = Loading::open(alloc, &mut host, place, namespace, asker, limit)?;
+        Ok(LineSteward {
+            alloc,
+            namespace,
+            host,
+            place,
+            tools: Tools::new(alloc, clock, Nobody),
+            loading,
+            found: Found::new(),
+        })
+    }
+
+    /// Gives up the loads that were asked for and not settled. Returns whoever was asked.
+    pub fn end(self) -> A
+        requires known { (conn : Conn) → (place : H.Place) → H.knows conn place }
+    {
+        let LineSteward {
+            mut host,
+            place,
+            loading,
+            ..
+        } = self;
+        loading.end(&mut host, place)
+    }
+}
+
+impl<H: Host, K: Clock + Drop, A: Asker> Steward for LineSteward<'_, '_, H, K, A> {
     type Link = HeardLink;
 
-    ghost rests_on = { (H.LENT ≡ false)
-        × ((conn : Conn) → (place : H.Place) → H.knows conn place) };
+    ghost rests_on = { (conn : Conn) → (place : H.Place) → H.knows conn place };
 
     fn refusal(&self) -> &'static [u8] {
         b"ERR connections\n"
     }
 
     fn open(&mut self) -> Option<HeardLink> {
-        let link = Link::open(self.host, self.place, self.tools.alloc, self.namespace).ok()?;
+        let link = Link::open(&mut self.host, self.place, self.alloc, self.namespace).ok()?;
         Some(HeardLink {
             link,
             replies: Replies::new(),
@@ -67,51 +106,43 @@ impl<H: Host, K: Clock, D: Loader> Steward for LineSteward<'_, '_, '_, H, K, D> 
         let HeardLink { link, replies } = link;
         let mut reader = Patient::new(reader);
         let mut writer = Patient::new(Overheard::new(writer, replies, &mut self.found));
-        link.turn(self.host, self.place, &mut reader, &mut writer, self.tools)
+        link.turn(
+            &mut self.host,
+            self.place,
+            &mut reader,
+            &mut writer,
+            &mut self.tools,
+        )
     }
 
     fn close(&mut self, link: HeardLink, outcome: Result<(), RunError>) {
-        let _ = link
-            .link
-            .close(self.host, self.place, outcome, &mut self.tools.loader);
+        let _ = link.link.close(&mut self.host, self.place, outcome, &mut self.tools.loader);
     }
 
-    fn take_loads(&mut self) -> u64 {
-        let asked = self.tools.loader.asked;
-        self.tools.loader.asked = 0;
-        asked
+    fn ask_loads(&mut self) -> u64 {
+        self.loading
+            .ask_all(&mut self.host, self.place, &mut self.tools.clock);
+        self.loading.take_settled()
+    }
+
+    fn take_answers(&mut self) -> u64 {
+        self.loading
+            .take_answers(&mut self.host, self.place, &mut self.tools.clock);
+        self.ask_loads()
+    }
+
+    fn give_up_loads(&mut self) -> u64 {
+        self.loading.give_up_pending(&mut self.host, self.place);
+        self.loading.take_settled()
+    }
+
+    fn patience(&mut self) -> Option<Duration> {
+        let nanos = self.loading.patience(&mut self.tools.clock)?;
+        Some(Duration::from_nanos(nanos))
     }
 
     fn tally(&self, counts: &mut Counts) {
         counts.found = self.found;
+        counts.loads = self.loading.asked();
     }
-}
-
-/// Serves the connections that come in at a doorway by lines, until it is stopped. The connections are closed when the call returns.
-/// Returns an error if waiting for events fails, or if there is no memory for the first of them.
-pub fn serve_all<H, K, D, R>(
-    rt: &R,
-    host: &mut H,
-    place: &mut H::Place,
-    tools: &mut Tools<K, Counting<D>>,
-    poll: &mut Poll,
-    doorway: Doorway,
-    crew: &Crew,
-) -> io::Result<()>
-where
-    H: Host,
-    K: Clock,
-    D: Loader,
-    R: Wait + time::Clock,
-    requires shared { H.LENT ≡ false }
-    requires known { (conn : Conn) → (place : H.Place) → H.knows conn place }
-{
-    let mut steward = LineSteward {
-        namespace: crew.namespace,
-        host,
-        place,
-        tools,
-        found: Found::new(),
-    };
-    serve_by(rt, &mut steward, poll, doorway, crew)
 }

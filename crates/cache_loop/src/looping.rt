@@ -14,7 +14,8 @@ use std::{io, time};
 /// The token of the listener. No connection has it.
 pub const LISTENER: Token = Token(usize::MAX);
 
-/// The token of a waker by which a loop is told that loads were settled for which its connections may wait. No connection has it.
+/// The token of a waker by which a loop is told that loads were settled for which its connections may wait, or that a load of its own was
+/// answered. No connection has it.
 pub const LOADED: Token = Token(usize::MAX - 1);
 
 /// The token of a waker by which a loop is stopped. No connection has it. From its first wake on nobody is accepted and nothing is read any
@@ -57,17 +58,12 @@ pub struct Crew {
 }
 
 impl Crew {
-    /// Tells all loops that loads were settled, if the loader was asked for some.
-    pub(crate) fn tell_loads(&self, asked: u64) {
-        if asked > 0 {
-            self.wake_all();
-        }
-    }
-
-    /// Wakes all loops.
-    fn wake_all(&self) {
-        for waker in self.wakers.iter() {
-            let _ = waker.wake();
+    /// Tells other loops that loads were settled.
+    pub(crate) fn tell_others(&self) {
+        if self.wakers.len() > 1 {
+            for waker in self.wakers.iter() {
+                let _ = waker.wake();
+            }
         }
     }
 }
@@ -118,6 +114,7 @@ pub fn serve_by<S: Steward, R: Wait + time::Clock>(
     let waiting = (poll, &mut events);
     let ended = turn_round(rt, steward, waiting, &mut hall, crew);
     hall.end_all(steward, crew);
+    hall.give_up_loads(steward, crew);
     let counts = hall.counts(steward);
     *crew.counts.lock(rt) = counts;
     ended
@@ -140,7 +137,8 @@ fn turn_round<S: Steward, R: Wait + time::Clock>(
     };
     let second = crew.rules.idle.map(|_| Duration::from_secs(1));
     for _wake in rt.forever() {
-        poll.poll(events, shorter(hall.patience(), second))?;
+        let patience = shorter(hall.patience(), steward.patience());
+        poll.poll(events, shorter(patience, second))?;
         hall.note_all(steward, events);
         let registry = poll.registry();
         let round = Round { rt, registry, crew };
@@ -161,6 +159,7 @@ fn work<S: Steward, R: Wait + time::Clock>(
 )
     requires { S.rests_on }
 {
+    hall.take_answers(steward, round.crew);
     hall.wake_waiting();
     hall.accept_all(steward, round);
     hall.take_turns(steward, round);

@@ -4,6 +4,7 @@ use crate::counts::Counts;
 use cache_link::Next;
 use cache_run::RunError;
 use std::io::{Read, Write};
+use std::time::Duration;
 
 /// Whoever serves the connections of a loop. What a steward does depends on the protocol that they speak.
 pub trait Steward: Drop {
@@ -38,8 +39,20 @@ pub trait Steward: Drop {
     fn close(&mut self, link: Self::Link, outcome: Result<(), RunError>)
         requires { rests_on };
 
-    /// Returns for how many loads the loader was asked since the last time. Others may wait for them.
-    fn take_loads(&mut self) -> u64;
+    /// Asks for the loads that went out. Returns how many loads were settled, for which others may wait.
+    fn ask_loads(&mut self) -> u64
+        requires { rests_on };
+
+    /// Settles the loads that were answered since the last call, and those whose time is over. Returns how many loads were settled.
+    fn take_answers(&mut self) -> u64
+        requires { rests_on };
+
+    /// Gives up the loads that were asked for and not settled. Returns how many there were.
+    fn give_up_loads(&mut self) -> u64
+        requires { rests_on };
+
+    /// Returns how long it is until the time of a load is over, or `None` if no load has such a time.
+    fn patience(&mut self) -> Option<Duration>;
 
     /// Adds what the steward has counted itself to what its loop counts.
     fn tally(&self, counts: &mut Counts);

@@ -1,4 +1,4 @@
-//! A load of one loop, for which a connection of another loop waits.
+//! Loaders that take time, on threads of their own.
 ghost use Rattle.std.specs.Prelude.{◌≡◌, ◌∷◌, [], false, IfSome};
 ghost use Rattle.cache_shared.specs.Recordings.{bare_spaces, no_journals};
 ghost use Rattle.cache_shared.specs.Events.{StandsAfter};
@@ -6,14 +6,14 @@ ghost use Rattle.cache_shared.specs.Events.{StandsAfter};
 use crate::clients::free_port;
 use crate::scenes::{Players, Step};
 use audit_model::{Config, EvictionPolicy, Instant, Outcome, Seq, Weight};
-use cache_link::Tools;
-use cache_loop::{Counting, Counts, Crew, Doorway, LOADED, Rules, STOP, serve_all};
+use bivrangd_server::Told;
+use cache_loop::{Counts, Crew, Doorway, LOADED, LineSteward, Pool, Rules, STOP, serve_by};
 use cache_run::{Clock, Loader};
 use cache_serve::{Sitting, Untold};
 use cache_shared::{Seating, Shareable, SharedService};
 use cache_spaces::Service;
 use cached_server::Machine;
-use crossbeam_channel::unbounded;
+use crossbeam_channel::{Receiver, unbounded};
 use mio::net::TcpListener;
 use mio::{Poll, Waker};
 use rand_core::SeedableRng;
@@ -29,58 +29,158 @@ use std::thread::Threads;
 use std::time::Duration;
 use std::{net, thread, time};
 
-/// A clock that stands at 0.
+/// A clock that counts from its making on.
 #[derive(Drop)]
-struct Still;
+struct Since<R: time::Clock> {
+    rt: R,
+    begun: time::Instant,
+}
 
-impl Clock for Still {
+impl<R: time::Clock> Clock for Since<R> {
     ghost reads = { λ c t d. Unit {0} };
 
     fn now(&mut self) -> u64 {
-        0
+        match time::Instant::now(&self.rt) {
+            Ok(now) => {
+                let since = now.saturating_duration_since(self.begun);
+                u64::try_from(since.as_nanos()).unwrap_or(0)
+            }
+            Err(_) => 0,
+        }
     }
 }
 
-/// A loader that takes half a second, and counts how often it is asked.
+/// A loader whose values are their keys. Of all loaders with the same count, the first that is asked answers when it is told to, and if it
+/// is not told so within ten seconds, that there is no value; each later one answers at once.
 #[derive(Drop)]
-struct Slow<R: time::Clock> {
+struct Held<R: Wait> {
     rt: R,
     alloc: Global,
     asked: Arc<AtomicU64>,
+    told: Receiver<Told, Global>,
 }
 
-impl<R: time::Clock> Loader for Slow<R> {
+impl<R: time::Clock + Wait> Loader for Held<R> {
     ghost loads = { λ c key answer d. Unit {0} };
 
     fn load(&mut self, key: &[u8]) -> Option<Outcome> {
-        let _key = key;
-        self.asked.fetch_add(1, Ordering::SeqCst);
-        thread::sleep(&self.rt, Duration::from_millis(500));
-        let value = Vec::from_slice(self.alloc, b"v").ok()?;
+        let is_first = self.asked.fetch_add(1, Ordering::SeqCst) == 0;
+        if is_first {
+            let told = self.told.recv_timeout(&self.rt, Duration::from_secs(10));
+            if told.is_err() {
+                return Some(Outcome::None);
+            }
+        }
+        let value = Vec::from_slice(self.alloc, key).ok()?;
         Some(Outcome::Value(Seq::from_vec(value), None))
     }
 }
 
+/// So many loops, each with so many loaders, what clients do, and how often loaders are asked in all. After so many nanoseconds a load is
+/// given up.
+#[derive(Clone, Copy)]
+struct Case {
+    loops: usize,
+    loaders: u64,
+    limit: Option<u64>,
+    steps: &'static [Step],
+    asks: u64,
+}
+
+const CASES: &[Case] = &[
+    // A load of one connection, for which another one waits, perhaps of another loop. A third is served in the meantime.
+    Case {
+        loops: 2,
+        loaders: 1,
+        limit: None,
+        steps: &[
+            Step::Connect,
+            Step::Send(0, b"LOAD k\n", 1),
+            Step::Pause(100),
+            Step::Connect,
+            Step::Send(1, b"LOAD k\nGET k\n", 1),
+            Step::Connect,
+            Step::Send(2, b"GET z\n", 1),
+            Step::Read(2, b"NONE\n", 1),
+            Step::Stop,
+            Step::Read(0, b"VAL k\n", 1),
+            Step::Read(1, b"VAL k\nVAL k\n", 1),
+        ],
+        asks: 1,
+    },
+    // A loader is held until another connection of the same loop has got its load, and more.
+    Case {
+        loops: 1,
+        loaders: 2,
+        limit: None,
+        steps: &[
+            Step::Connect,
+            Step::Send(0, b"LOAD a\nGET b\n", 1),
+            Step::Pause(100),
+            Step::Connect,
+            Step::Send(1, b"LOAD b\nGET z\n", 1),
+            Step::Read(1, b"VAL b\nNONE\n", 1),
+            Step::Stop,
+            Step::Read(0, b"VAL a\nVAL b\n", 1),
+        ],
+        asks: 2,
+    },
+    // A load is given up after a fifth of a second, and asked for again; what its first loader then says is not told to anybody.
+    Case {
+        loops: 1,
+        loaders: 2,
+        limit: Some(200_000_000),
+        steps: &[
+            Step::Connect,
+            Step::Send(0, b"LOAD a\n", 1),
+            Step::Read(0, b"VAL a\n", 1),
+            Step::Stop,
+            Step::Send(0, b"GET a\n", 1),
+            Step::Read(0, b"VAL a\n", 1),
+        ],
+        asks: 2,
+    },
+    // The only loader is held while loads are given up several times: then it is asked for each of them once more.
+    Case {
+        loops: 1,
+        loaders: 1,
+        limit: Some(500_000_000),
+        steps: &[
+            Step::Connect,
+            Step::Send(0, b"LOAD a\n", 1),
+            Step::Pause(100),
+            Step::Connect,
+            Step::Send(1, b"LOAD b\n", 1),
+            Step::Pause(1600),
+            Step::Stop,
+            Step::Read(0, b"VAL a\n", 1),
+            Step::Read(1, b"VAL b\n", 1),
+        ],
+        asks: 3,
+    },
+];
+
 /// What a loop is given.
 #[derive(Drop)]
-struct Gear<R: time::Clock> {
+struct Gear<R: Wait> {
     poll: Poll,
     doorway: Doorway,
     crew: Crew,
-    loader: Slow<R>,
+    loaders: Vec<Held<R>>,
+    limit: Option<u64>,
 }
 
-/// The gear of two loops, and the wakers by which they are stopped.
+/// The gear of some loops, and the wakers by which they are stopped.
 #[derive(Drop)]
-struct Workshop<R: time::Clock> {
+struct Workshop<R: Wait> {
     gears: Vec<Gear<R>>,
     stoppers: Vec<Waker>,
 }
 
-/// Places to wait for two loops, with their wakers.
-fn make_polls<R: Machine>(rt: &R, alloc: Global) -> Option<(Vec<Poll>, Vec<Waker>)> {
+/// Places to wait for so many loops, with their wakers.
+fn make_polls<R: Machine>(rt: &R, alloc: Global, loops: usize) -> Option<(Vec<Poll>, Vec<Waker>)> {
     let (mut polls, mut wakers) = (Vec::new(alloc), Vec::new(alloc));
-    for _loop in 0..2 {
+    for _loop in 0..loops {
         let poll = Poll::new(rt).ok()?;
         wakers.push(Waker::new(poll.registry(), LOADED).ok()?).ok()?;
         polls.push(poll).ok()?;
@@ -95,16 +195,39 @@ const RULES: Rules = Rules {
     idle: None,
 };
 
-/// The gear of two loops at a port, whose loaders count here how often they are asked.
+/// So many loaders.
+fn make_loaders<R: Machine>(
+    rt: R,
+    alloc: Global,
+    count: u64,
+    asked: &Arc<AtomicU64>,
+    told: &Receiver<Told, Global>,
+) -> Option<Vec<Held<R>>> {
+    let mut loaders = Vec::new(alloc);
+    for _loader in 0..count {
+        let held = Held {
+            rt,
+            alloc,
+            asked: Arc::try_clone(asked).ok()?,
+            told: Receiver::clone(told).ok()?,
+        };
+        loaders.push(held).ok()?;
+    }
+    Some(loaders)
+}
+
+/// The gear of loops at a port, whose loaders count here how often they are asked.
 fn make_workshop<R: Machine>(
     rt: R,
     alloc: Global,
+    case: Case,
     port: u16,
     asked: &Arc<AtomicU64>,
+    told: &Receiver<Told, Global>,
 ) -> Option<Workshop<R>> {
     let address = SocketAddr::from((Ipv4Addr::LOCALHOST, port));
     let listener = net::TcpListener::from(TcpListener::bind(&rt, address).ok()?);
-    let (polls, wakers) = make_polls(&rt, alloc)?;
+    let (polls, wakers) = make_polls(&rt, alloc, case.loops)?;
     let wakers = Arc::new(alloc, wakers).ok()?;
     let open = Arc::new(alloc, AtomicU64::new(0)).ok()?;
     let (mut gears, mut stoppers) = (Vec::new(alloc), Vec::new(alloc));
@@ -121,11 +244,8 @@ fn make_workshop<R: Machine>(
                 wakers: Arc::try_clone(&wakers).ok()?,
                 counts: Arc::new(alloc, Mutex::new(Counts::new())).ok()?,
             },
-            loader: Slow {
-                rt,
-                alloc,
-                asked: Arc::try_clone(asked).ok()?,
-            },
+            loaders: make_loaders(rt, alloc, case.loaders, asked, told)?,
+            limit: case.limit,
         };
         gears.push(gear).ok()?;
     }
@@ -143,56 +263,33 @@ fn serve<L: Seating, C: Shareable, R: Machine>(
         mut poll,
         doorway,
         crew,
-        loader,
+        loaders,
+        limit,
     } = gear;
-    let counting = Counting {
-        inner: loader,
-        asked: 0,
-    };
-    let mut tools = Tools::new(alloc, Still, counting);
+    let waker = Waker::new(poll.registry(), LOADED).ok()?;
+    let asker = Pool::start(*rt, alloc, loaders, waker).ok()?;
     let mut untold = Untold;
     let mut seat = shared.seat(rt).ok()?;
     let mut sitting = Sitting::new(rt, alloc, shared, &mut untold, false).ok()?;
-    let ended = serve_all(
-        rt,
-        &mut sitting,
-        &mut seat,
-        &mut tools,
-        &mut poll,
-        doorway,
-        &crew,
-    );
+    let begun = time::Instant::now(rt).ok()?;
+    let clock = Since { rt: *rt, begun };
+    let place = &mut seat;
+    let steward = LineSteward::new(alloc, 0, &mut sitting, place, clock, asker, limit);
+    let mut steward = steward.ok()?;
+    let ended = serve_by(rt, &mut steward, &mut poll, doorway, &crew);
+    steward.end().join();
     Some(ended.is_ok())
 }
 
-/// One asks for a load, and, while its loop waits for that, another one does; a third is served in the meantime.
-const STEPS: &[Step] = &[
-    Step::Connect,
-    Step::Send(0, b"LOAD k\n", 1),
-    Step::Pause(100),
-    Step::Connect,
-    Step::Send(1, b"LOAD k\nGET k\n", 1),
-    Step::Connect,
-    Step::Send(2, b"GET z\n", 1),
-    Step::Read(2, b"NONE\n", 1),
-    Step::Read(0, b"VAL v\n", 1),
-    Step::Read(1, b"VAL v\nVAL v\n", 1),
-];
-
-/// Plays the steps with clients of a port.
-fn play<R: Machine>(rt: &R, alloc: Global, port: u16) -> Option<bool> {
-    let (orders, _told) = unbounded(alloc).ok()?;
-    let mut players = Players {
-        port,
-        metrics: port,
-        streams: Vec::new(alloc),
-        orders,
-    };
-    Some(players.play_all(rt, STEPS))
-}
-
-/// Whether the loader is asked once for connections of two loops, over a service with so many parts of a ledger.
-fn serve_two<L, C, R>(rt: R, alloc: Global, core: C, blank: Blank, parts: u64) -> Option<bool>
+/// Whether the clients and the loaders do what a case says, with loops that share a service with so many parts of a ledger.
+fn serve_case<L, C, R>(
+    rt: R,
+    alloc: Global,
+    core: C,
+    blank: Blank,
+    parts: u64,
+    case: Case,
+) -> Option<bool>
 where
     L: Seating + Send + Sync + 'static,
     C: Shareable + Send + 'static,
@@ -202,16 +299,24 @@ where
     requires parts { (blank.parts ≡ L.parts) × (L.all ≡ L.parts) × (parts ≡ L.parts) }
 {
     let shared = SharedService::<L, C>::new(alloc, core, blank, parts).ok()?;
-    let port = free_port(&rt)?;
     let asked = Arc::new(alloc, AtomicU64::new(0)).ok()?;
-    let Workshop { gears, stoppers } = make_workshop(rt, alloc, port, &asked)?;
+    let (orders, told) = unbounded(alloc).ok()?;
+    let mut players = Players {
+        port: free_port(&rt)?,
+        metrics: 0,
+        streams: Vec::new(alloc),
+        orders,
+    };
+    let workshop = make_workshop(rt, alloc, case, players.port, &asked, &told)?;
+    let Workshop { gears, stoppers } = workshop;
     let mut threads = Vec::new(alloc);
     for gear in gears {
         let shared = SharedService::clone(&shared).ok()?;
         let serving = move || serve(&rt, alloc, &shared, gear);
         threads.push(thread::spawn(&rt, serving).ok()?).ok()?;
     }
-    let mut good = play(&rt, alloc, port)? && asked.load(Ordering::SeqCst) == 1;
+    let mut good = players.play_all(&rt, case.steps);
+    good = good && asked.load(Ordering::SeqCst) == case.asks;
     for stopper in &stoppers {
         good = stopper.wake().is_ok() && good;
     }
@@ -243,8 +348,17 @@ fn make_service(alloc: Global) -> Option<Service>
     }
 }
 
-/// The same over a new service.
-fn is_loaded_once<R>(rt: R, alloc: Global) -> bool
+/// Whether a case comes out as it says, over a new service.
+fn comes_out<R: Machine>(rt: R, alloc: Global, case: Case) -> bool {
+    match make_service(alloc) {
+        Some(core) => serve_case::<Brand, Service, R>(rt, alloc, core, Blank::new(2), 2, case)
+            == Some(true),
+        None => false,
+    }
+}
+
+/// Whether all cases come out as they say, at the second try if memory was refused at the first.
+fn all_come_out<R>(rt: R, alloc: Global) -> bool
 where
     R: Net<Listener = net::TcpListener, Stream = TcpStream>
         + time::Clock
@@ -256,14 +370,15 @@ where
         + Sync
         + 'static,
 {
-    match make_service(alloc) {
-        Some(core) => serve_two::<Brand, Service, R>(rt, alloc, core, Blank::new(2), 2)
-            == Some(true),
-        None => false,
+    for case in CASES {
+        if !comes_out(rt, alloc, *case) && !comes_out(rt, alloc, *case) {
+            return false;
+        }
     }
+    true
 }
 
 #[test]
-fn a_load_is_awaited_over_two_loops(rt: HostRuntime) {
-    assert!(rt; is_loaded_once(rt, rt.alloc()) || is_loaded_once(rt, rt.alloc()));
+fn loaders_take_time(rt: HostRuntime) {
+    assert!(rt; all_come_out(rt, rt.alloc()));
 }

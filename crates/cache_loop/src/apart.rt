@@ -1,0 +1,161 @@
+//! A host whose connections leave their loads to others.
+ghost use Rattle.std.specs.Prelude.{◌≡◌, false, None};
+ghost use Rattle.cache_loop.specs.Apart.{ComesApart, IsGivenApart};
+
+use audit_model::{Bytes, Conn, LoadId, Outcome};
+use cache_run::{Given, Host, Loader, RunError};
+use std::alloc::Global;
+use std::mem;
+
+/// A host whose connections leave the loads that go out of their namespace to others.
+#[derive(Drop)]
+pub struct Apart<'a, H: Host> {
+    alloc: Global,
+    inner: &'a mut H,
+    // loads that went out
+    loads: Vec<(LoadId, Bytes)>,
+}
+
+impl<'a, H: Host> Apart<'a, H> {
+    /// Creates a host that leaves the loads of another host's connections to others.
+    pub fn new(alloc: Global, inner: &'a mut H) -> Apart<'a, H> {
+        Apart {
+            alloc,
+            inner,
+            loads: Vec::new(alloc),
+        }
+    }
+
+    /// Takes the loads that went out since the last call, with their keys.
+    pub fn take_loads(&mut self) -> Vec<(LoadId, Bytes)> {
+        mem::replace(&mut self.loads, Vec::new(self.alloc))
+    }
+
+    /// Keeps loads that went out. Those for which there is no memory are returned.
+    fn keep(&mut self, loads: Vec<(LoadId, Bytes)>) -> Option<Vec<(LoadId, Bytes)>> {
+        if self.loads.is_empty() {
+            self.loads = loads;
+            return None;
+        }
+        if self.loads.reserve(loads.len()).is_err() {
+            return Some(loads);
+        }
+        for load in loads {
+            let _ = self.loads.push(load);
+        }
+        None
+    }
+
+    /// Gives a connection what it is given, but for the loads, unless there is no memory to keep them.
+    fn set_apart(&mut self, given: Given) -> Given
+        ensures { IsGivenApart given result }
+    {
+        let Given {
+            held,
+            replies,
+            loads,
+            closing,
+            waits,
+        } = given;
+        let loads = match loads {
+            Some(loads) => self.keep(loads),
+            None => None,
+        };
+        Given {
+            held,
+            replies,
+            loads,
+            closing,
+            waits,
+        }
+    }
+}
+
+impl<H: Host> Host for Apart<'_, H> {
+    type Place = H::Place;
+
+    ghost LENT = { false };
+
+    ghost opens = { H.opens };
+
+    ghost knows = { H.knows };
+
+    ghost fits = { H.fits };
+
+    ghost came = { ComesApart H.came };
+
+    ghost rests = { H.rests };
+
+    ghost counted = { H.counted };
+
+    ghost exhausts = { H.exhausts };
+
+    ghost closes = { H.closes };
+
+    ghost drops = { H.drops };
+
+    fn open(&mut self, place: &mut H::Place, namespace: u64) -> Result<Conn, RunError> {
+        self.inner.open(place, namespace)
+    }
+
+    fn cut(&mut self, bytes: &[u8]) -> usize {
+        self.inner.cut(bytes)
+    }
+
+    fn feed(
+        &mut self,
+        place: &mut H::Place,
+        conn: Conn,
+        piece: &[u8],
+        moment: u64,
+    ) -> Result<Option<Given>, RunError> {
+        match self.inner.feed(place, conn, piece, moment) {
+            Ok(Some(given)) => Ok(Some(self.set_apart(given))),
+            Ok(None) => Ok(None),
+            Err(error) => Err(error),
+        }
+    }
+
+    fn settle(
+        &mut self,
+        place: &mut H::Place,
+        conn: Conn,
+        load: u64,
+        said: Option<Outcome>,
+        moment: u64,
+        wants_loads: bool,
+    ) -> Result<Given, RunError> {
+        match self
+            .inner
+            .settle(place, conn, load, said, moment, wants_loads)
+        {
+            Ok(given) => Ok(self.set_apart(given)),
+            Err(error) => Err(error),
+        }
+    }
+
+    fn await_owed(&mut self, place: &mut H::Place, conn: Conn) -> Given {
+        let given = self.inner.await_owed(place, conn);
+        self.set_apart(given)
+    }
+
+    fn close(&mut self, place: &mut H::Place, conn: Conn) {
+        self.inner.close(place, conn);
+    }
+
+    fn drop_loads<D: Loader>(
+        &mut self,
+        place: &mut H::Place,
+        conn: Conn,
+        hand: &[(LoadId, Bytes)],
+        loader: &mut D,
+    ) {
+        self.inner.drop_loads(place, conn, hand, loader);
+    }
+
+    ghost fits_none = { H.fits_none };
+
+    ghost exhausts_within = { H.exhausts_within };
+
+    ghost closes_behind = { H.closes_behind };
+}

@@ -1,0 +1,9 @@
+use Rattle.std.proofs.Common.{[], ◌∷◌}
+use Rattle.cache_loop_tests.specs.declared.loads.TheConstants.{PLAIN}
+use Rattle.cache_loop_tests.proofs.loads.comes_out.Given as goal
+
+abbrev pub ghosts-serve_case-L-Seating : goal.ghosts-serve_case-L-Seating
+ghosts-serve_case-L-Seating g a = record { all = a.blank.parts; configs = PLAIN ∷ [] }
+
+abbrev pub ghosts-serve_case-L-Ledger : goal.ghosts-serve_case-L-Ledger
+ghosts-serve_case-L-Ledger g a = record { name = a.blank.name; parts = a.blank.parts }
