@@ -7,7 +7,7 @@ use Rattle.std.proofs.lemmas.Bool.{eqb-true, eq-eqb}
 use Rattle.std.proofs.lemmas.Option.{none-some, slice_get_within, slice_get-get_or}
 use Rattle.std.proofs.lemmas.Slice.Eq.{bytes_eq-Decides}
 use Rattle.std.specs.Cmp.{IsEquivalence}
-use Rattle.std.specs.Prelude.{slice_get, slice_set}
+use Rattle.std.specs.Prelude.{slice_get, slice_set, unwrap_or}
 use Rattle.engine_reference.specs.declared.data.Notice.{Notice}
 use Rattle.engine_reference.specs.declared.data.Record.{Record}
 use Rattle.engine_reference.specs.Calls.{cleared_by, without_notice}
@@ -36,19 +36,19 @@ use Rattle.memcache_service.specs.Shelves.{AreLeft, Becomes, OnlyLeave, Shelved,
 
 -- ---- lists of parts
 
-set-there : {X : Type 0} (xs : List X) (i : ℕ) (x y : X) → slice_get xs i ≡ Some y → slice_get (slice_set xs i x) i ≡ Some x
+pub set-there : {X : Type 0} (xs : List X) (i : ℕ) (x y : X) → slice_get xs i ≡ Some y → slice_get (slice_set xs i x) i ≡ Some x
 set-there [] i x y there = absurd (none-some y there)
 set-there (z ∷ zs) zero x y there = refl
 set-there (z ∷ zs) (suc i) x y there = set-there zs i x y there
 
-set-other : {X : Type 0} (xs : List X) (i k : ℕ) (x : X) → (k ≡ i → ⊥) → slice_get (slice_set xs i x) k ≡ slice_get xs k
+pub set-other : {X : Type 0} (xs : List X) (i k : ℕ) (x : X) → (k ≡ i → ⊥) → slice_get (slice_set xs i x) k ≡ slice_get xs k
 set-other [] i k x other = refl
 set-other (z ∷ zs) zero zero x other = absurd (other refl)
 set-other (z ∷ zs) zero (suc k) x other = refl
 set-other (z ∷ zs) (suc i) zero x other = refl
 set-other (z ∷ zs) (suc i) (suc k) x other = set-other zs i k x (λ e. other (ap suc e))
 
-some-same : {X : Type 0} (a b : X) → Some a ≡ Some b → a ≡ b
+pub some-same : {X : Type 0} (a b : X) → Some a ≡ Some b → a ≡ b
 some-same a b e = cc
 
 is-zero : (capacity : Option ℕ) → takes_nothing capacity ≡ true → capacity ≡ Some 0
@@ -243,7 +243,7 @@ module _ {P S R : Type 0} (ways : Ways (List ℕ) Item P S R) (laws : IsEquivale
 
   pub notice_shows : (f : Cache) → shelf (record f { parts = without_told f.parts }) ≡ shelf f
   notice_shows f =
-      ap (λ (items : ℕ → Items). record { items = items; latest = (f.moment + 999999) / 1000000 })
+      ap (λ (items : ℕ → Items). record { items = items; latest = (f.moment + 999999) / 1000000; capacity = unwrap_or f.capacity 0 })
       (fun_ext (λ moment. fun_ext (λ q. told_shows f.parts (part_of f.bits (hash_in ways f q)) (moment * 1000000) q)))
 
   pub made_empty : (name : Option (List ℕ)) (bits : ℕ) (settings : Settings) (hasher : S) (rules : R) (f : Cache) → IsMadeWith name bits settings hasher rules f → ShowsNothing (shelf f)

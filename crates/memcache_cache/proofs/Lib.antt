@@ -1,2 +1,4 @@
 mod Parts
 mod Calls
+mod Weighing
+mod Bounding

@@ -12,10 +12,14 @@ left_until now milliseconds = min (milliseconds * 1000000) (2 ^ 64 - 1) - now
 abbrev pub left_of : Item → (now : ℕ) → Option ℕ
 left_of item now = option_map (left_until now) item.deadline
 
+-- what an item weighs under a key: the bytes of both, and what it costs beside
+abbrev pub item_weight : List ℕ → Item → ℕ
+item_weight key item = min (length key + length item.bytes + 290) (2 ^ 32 - 1)
+
 -- the rules: what an item weighs, and when it expires
 abbrev pub item_answers : Answers (List ℕ) Item (Unit {0}) ItemRules
 item_answers = record {
-  weight_of = λ rules key item. min (length key + length item.bytes + 290) (2 ^ 32 - 1);
+  weight_of = λ rules. item_weight;
   created = λ rules key item now. left_of item now;
   found = λ rules key item now left written. None;
   updated = λ rules key item now left. Some (left_of item now);

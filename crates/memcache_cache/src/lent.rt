@@ -1,6 +1,7 @@
 //! Items in a lent cache.
 ghost use Rattle.std.specs.Prelude.{◌≡◌, ◌*◌, ◌<◌, ◌≤◌, ◌^◌, Ok, IfOk, is_some, option_map};
 ghost use Rattle.memcache_cache.specs.Showing.{shelved_by};
+ghost use Rattle.memcache_cache.specs.Weights.{IsItemCache};
 ghost use Rattle.memcache_model.specs.Items.{unexpired};
 ghost use Rattle.memcache_service.specs.Shelves.{IsMoment, ShowsNothing};
 ghost use Rattle.front_parts.specs.Places.Calls.{hash_in};
@@ -24,6 +25,7 @@ type Cache<S> = LentState<Key, StoredItem, S, ItemRules, Single>;
 pub struct LentShelf<S: BuildHasher + Drop> {
     alloc: Global,
     cache: Cache<S>,
+    ghost kept: { ∥ IsItemCache cache ∥₁ },
 }
 
 impl<S: BuildHasher + Drop> LentShelf<S> {
@@ -41,6 +43,8 @@ impl<S: BuildHasher + Drop> LentShelf<S> {
             (shelved_by ⟦<ItemRules as HasWays<Key, StoredItem, S>>⟧.ways made.cache) moment) }
         ensures empty { IfOk result (λ made. ShowsNothing
             (shelved_by ⟦<ItemRules as HasWays<Key, StoredItem, S>>⟧.ways made.cache)) }
+        ensures capacity { IfOk result (λ made. (shelved_by
+            ⟦<ItemRules as HasWays<Key, StoredItem, S>>⟧.ways made.cache).capacity ≡ capacity) }
     {
         let settings = Settings {
             capacity: Some(capacity),
@@ -123,11 +127,18 @@ fn count_removal(counters: &mut Counters, notice: &Notice<Shared<Key>, StoredIte
 }
 
 impl<S: BuildHasher + Drop> Shelf for LentShelf<S> {
+    ghost use Rattle.memcache_cache.specs.Rules.{item_weight};
     ghost use Rattle.memcache_cache.specs.Showing.{shelved_by};
 
     ghost view = { λ s. shelved_by ⟦<ItemRules as HasWays<Key, StoredItem, S>>⟧.ways s.cache };
 
+    ghost weigh = { item_weight };
+
     fn pass(&self) {}
+
+    fn bounded(&self) {
+        self.cache.keeps();
+    }
 
     fn peek(&self, key: &Key, moment: u64) -> Option<&StoredItem> {
         unexpired(self.cache.peek(key, instant(moment)), moment)

@@ -27,6 +27,7 @@ same_item view moment key item old new is kept = record {
   flush = kept.flush;
   may_follow = kept.may_follow;
   most = kept.most;
+  capacity = kept.capacity;
 }
   where
     put : (k : List ℕ) (b : Bool) → same k key ≡ b → live_on (view old.shelf) moment k ≡ (if b then Some item else live_on (view old.shelf) moment k)
@@ -49,4 +50,5 @@ spared_keeps view moment old new spared before = record {
   flush = spared.flush;
   may_follow = subst (λ s. IsMoment (view s) moment) (sym spared.shelf) before;
   most = spared.most;
+  capacity = ap (λ s. (view s).capacity) spared.shelf;
 }

@@ -1,4 +1,5 @@
 mod Answering
+mod Capacity
 mod Cutting
 mod Feeding
 mod Finding

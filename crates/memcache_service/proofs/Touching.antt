@@ -68,6 +68,9 @@ module _ {T : Type 0} (view : T → Shelved) (moment : ℕ) (deadline : Option �
   keeps-most : (key : List ℕ) (o : Option Item) (mid new : Stock T) (text : List ℕ) → Does view moment (touches_one key deadline o (stock_at view moment mid)) mid new text → new.most ≡ mid.most
   keeps-most key o mid new text does = does.leaves.most
 
+  keeps-capacity : (key : List ℕ) (o : Option Item) (mid new : Stock T) (text : List ℕ) → Does view moment (touches_one key deadline o (stock_at view moment mid)) mid new text → (view new.shelf).capacity ≡ (view mid.shelf).capacity
+  keeps-capacity key o mid new text does = does.leaves.capacity
+
   pub reached_more : (key : List ℕ) (rest : List (List ℕ)) (was new : Stock T) (text named : List ℕ) → Reached (key ∷ rest) was → Does view moment (touches_one key deadline (live was key) (stock_at view moment was)) (record was { key = named }) new text → Reached rest new
   reached_more key rest was new text named r does =
       let mid : Stock T = record was { key = named } in
@@ -85,5 +88,6 @@ module _ {T : Type 0} (view : T → Shelved) (moment : ℕ) (deadline : Option �
           flush = rest_is.1 ∙ r.touches.flush;
           may_follow = may-follow key (live was key) mid new text does;
           most = keeps-most key (live was key) mid new text does ∙ r.touches.most;
+          capacity = keeps-capacity key (live was key) mid new text does ∙ r.touches.capacity;
         };
       }

@@ -1,11 +1,15 @@
 -- What a shelf has, and what a call does to it.
-use Rattle.std.specs.Prelude.{◌≡◌, ℕ, ◌≤◌, ◌<◌, ◌^◌, ◌⊎◌, List, None}
-use Rattle.memcache_model.specs.Items.{Items, unexpired}
+use Rattle.std.specs.Prelude.{◌≡◌, ℕ, ◌+◌, ◌≤◌, ◌<◌, ◌^◌, ◌⊎◌, false, List, [], ◌∷◌, length, None}
+use Rattle.std.specs.List.{list_any}
+use Rattle.std.specs.Option.{option_map_or}
+use Rattle.memcache_model.specs.Bytes.{same}
+use Rattle.memcache_model.specs.Items.{Item, Items, unexpired}
 
--- the items of keys by the moment, of which some may have expired, and the moment of the last call
+-- the items of keys by the moment, of which some may have expired, the moment of the last call, and what all items may weigh
 pub record Shelved : Type 0 where
   pub items : (moment : ℕ) → Items
   pub latest : ℕ
+  pub capacity : ℕ
 
 -- what is live of it at a moment
 abbrev pub live_on : Shelved → (moment : ℕ) → Items
@@ -34,3 +38,22 @@ pub record Becomes (moment : ℕ) (all : Items) (shelved : Shelved) : Type 0 whe
 abbrev pub OnlyLeave : Shelved → Type 0
 OnlyLeave shelved = (first later : ℕ) → first ≤ later
     → AreLeft later (shelved.items first) (shelved.items later)
+
+-- these keys, none of them twice or among the others
+abbrev pub AreBeside : (others keys : List (List ℕ)) → Type 0
+AreBeside others [] = Unit {0}
+AreBeside others (key ∷ keys) =
+    (list_any (same key) others ≡ false) × AreBeside (key ∷ others) keys
+
+-- what the items of keys weigh together
+abbrev pub weight_together : (List ℕ → Item → ℕ) → Items → List (List ℕ) → ℕ
+weight_together weigh items [] = 0
+weight_together weigh items (key ∷ keys) =
+    option_map_or (weigh key) (items key) 0 + weight_together weigh items keys
+
+-- Beside at most 63 keys, which were written since the last maintenance, all that is there weighs at most the capacity.
+pub record IsBounded (weigh : List ℕ → Item → ℕ) (shelved : Shelved) : Type 0 where
+  pub waiting : List (List ℕ)
+  pub few : length waiting ≤ 63
+  pub rest : (moment : ℕ) (keys : List (List ℕ)) → AreBeside waiting keys
+      → weight_together weigh (shelved.items moment) keys ≤ shelved.capacity

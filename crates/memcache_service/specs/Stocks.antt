@@ -62,6 +62,7 @@ module _ {T : Type 0} (view : T → Shelved) where
     pub flush : new.flush ≡ all.flush
     pub may_follow : IsMoment (view new.shelf) moment
     pub most : new.most ≡ old.most
+    pub capacity : (view new.shelf).capacity ≡ (view old.shelf).capacity
 
   -- it changes nothing else
   abbrev pub Keeps : ℕ → (old new : Stock T) → Type 0
@@ -100,6 +101,7 @@ module _ {T : Type 0} (view : T → Shelved) where
       (text : List ℕ) : Type 0 where
     pub says : IsRefusal text
     pub keeps : LeavesRefused moment command all old new
+    pub capacity : (view new.shelf).capacity ≡ (view old.shelf).capacity
 
   -- a command did what it was to do, or was refused
   abbrev pub DoesIfRoom : ℕ → Command → (all : model.Stock) → (old new : Stock T)

@@ -3,7 +3,7 @@ ghost use Rattle.slab.specs.Slab.{Updates, get};
 ghost use Rattle.std.specs.Prelude.{◌≡◌, ◌≢◌, ◌↔◌, ◌≤◌, ◌<◌, ◌^◌, ℕ, [], None, Ok, IfOk, IsTrue, MatchOption, OnErr, false, length};
 ghost use Rattle.memcache_service.specs.Serving.{FailsToFeed, HasFed, IsDoneFor};
 ghost use Rattle.memcache_service.specs.Talking.{HasOpened, HasTaken};
-ghost use Rattle.memcache_service.specs.Shelves.{IsMoment};
+ghost use Rattle.memcache_service.specs.Shelves.{IsBounded, IsMoment};
 
 use crate::connection::Connection;
 use crate::counters::{Counters, Tally};
@@ -50,6 +50,11 @@ impl<T: Shelf> Service<T> {
     pub fn open(&mut self) -> Result<Conn, AllocError>
         ensures opens { IfOk result (λ conn.
             HasOpened conn self.old.connections self.new.connections) }
+        ensures moment { self.new.moment ≡ self.old.moment }
+        ensures same { self.new.stock ≡ record self.old.stock {
+          connections = self.new.stock.connections;
+          counters = self.new.stock.counters;
+        } }
     {
         let alloc = self.stock.alloc;
         let conn = self.connections.insert(Connection::new(alloc))?;
@@ -82,6 +87,8 @@ impl<T: Shelf> Service<T> {
             → (result ≡ Ok false) × (self.new.connections ≡ self.old.connections)
             × (self.new.stock ≡ self.old.stock) }
         ensures later { self.old.moment ≤ self.new.moment }
+        ensures capacity { (T.view self.new.stock.shelf).capacity
+            ≡ (T.view self.old.stock.shelf).capacity }
     {
         let now = later(self.moment, moment);
         match self.connections.get_mut(conn) {
@@ -110,6 +117,14 @@ impl<T: Shelf> Service<T> {
             Some(connection) => connection.is_full(),
             None => false,
         }
+    }
+
+    /// Does nothing. Its contract bounds what the items weigh together: beside at most 63 keys, which were written since the last maintenance,
+    /// at most the shelf's capacity.
+    pub fn bounded(&self)
+        ensures { ∥ IsBounded T.weigh (T.view self.now.stock.shelf) ∥₁ }
+    {
+        self.stock.shelf.bounded();
     }
 
     /// Returns what was counted.

@@ -1,7 +1,7 @@
 //! Items by key, in a cache.
-ghost use Rattle.std.specs.Prelude.{◌≡◌, OnOk, OnErr, Some, None, is_some, option_map};
-ghost use Rattle.memcache_model.specs.Items.{nothing, with_item};
-ghost use Rattle.memcache_service.specs.Shelves.{Becomes, IsMoment, OnlyLeave, Shelved, live_on};
+ghost use Rattle.std.specs.Prelude.{◌≡◌, ℕ, List, OnOk, OnErr, Some, None, is_some, option_map};
+ghost use Rattle.memcache_model.specs.Items.{Item, nothing, with_item};
+ghost use Rattle.memcache_service.specs.Shelves.{Becomes, IsBounded, IsMoment, OnlyLeave, Shelved, live_on};
 
 use crate::counters::Counters;
 use crate::item::StoredItem;
@@ -14,9 +14,15 @@ use std::alloc::AllocError;
 pub trait Shelf: Drop {
     ghost view: { Self → Shelved };
 
+    ghost weigh: { List ℕ → Item → ℕ };
+
     /// Does nothing. Its contract says what the passing of time does.
     fn pass(&self)
         ensures { OnlyLeave (view self.now) };
+
+    /// Does nothing. Its contract bounds what the items weigh together.
+    fn bounded(&self)
+        ensures { ∥ IsBounded weigh (view self.now) ∥₁ };
 
     /// Returns the live item of a key, or `None` if there is none. The call is not a use of the item.
     fn peek(&self, key: &Key, moment: u64) -> Option<&StoredItem>
@@ -28,13 +34,15 @@ pub trait Shelf: Drop {
     fn note_use(&mut self, key: &Key, moment: u64) -> bool
         requires { IsMoment (view self.old) moment }
         ensures found { result ≡ is_some (live_on (view self.old) moment key.now) }
-        ensures used { Becomes moment ((view self.old).items moment) (view self.new) };
+        ensures used { Becomes moment ((view self.old).items moment) (view self.new) }
+        ensures capacity { (view self.new).capacity ≡ (view self.old).capacity };
 
     /// Stores an item under a key. Returns an error if there is not enough memory; then nothing has changed.
     fn put(&mut self, key: &Key, item: StoredItem, moment: u64) -> Result<(), AllocError>
         requires { IsMoment (view self.old) moment }
         ensures puts { OnOk result (Becomes moment
             (with_item key.now (Some item) ((view self.old).items moment)) (view self.new)) }
+        ensures capacity { (view self.new).capacity ≡ (view self.old).capacity }
         ensures unchanged { OnErr result (self.new ≡ self.old) };
 
     /// Removes the item of a key. Returns an error if there is not enough memory; then nothing has changed.
@@ -42,12 +50,14 @@ pub trait Shelf: Drop {
         requires { IsMoment (view self.old) moment }
         ensures removes { OnOk result
             (Becomes moment (with_item key.now None ((view self.old).items moment)) (view self.new)) }
+        ensures capacity { (view self.new).capacity ≡ (view self.old).capacity }
         ensures unchanged { OnErr result (self.new ≡ self.old) };
 
     /// Removes all items. The call allocates nothing. Returns an error if it was made 2^64 - 1 times; then nothing has changed.
     fn clear(&mut self, moment: u64) -> Result<(), AllocError>
         requires { IsMoment (view self.old) moment }
         ensures clears { OnOk result (Becomes moment nothing (view self.new)) }
+        ensures capacity { (view self.new).capacity ≡ (view self.old).capacity }
         ensures unchanged { OnErr result (self.new ≡ self.old) };
 
     /// Counts the items that left by themselves since this was last called.

@@ -117,6 +117,7 @@ impl<T: Shelf> Stock<T> {
         ensures err { OnErr result (Spares self.old self.new) }
         ensures may_follow { IsMoment (T.view self.new.shelf) moment }
         ensures most { self.new.most ≡ self.old.most }
+        ensures capacity { (T.view self.new.shelf).capacity ≡ (T.view self.old.shelf).capacity }
     {
         match self.flush {
             Some(at) => {
@@ -139,6 +140,7 @@ impl<T: Shelf> Stock<T> {
         ensures err { OnErr result (Spares self.old self.new) }
         ensures may_follow { IsMoment (T.view self.new.shelf) moment }
         ensures most { self.new.most ≡ self.old.most }
+        ensures capacity { (T.view self.new.shelf).capacity ≡ (T.view self.old.shelf).capacity }
     {
         self.shelf.clear(moment)?;
         self.flush = None;

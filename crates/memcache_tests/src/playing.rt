@@ -92,6 +92,70 @@ fn ask(service: &mut Served, sent: &[u8], told: &mut Vec<u8>) -> Result<(), Allo
     Ok(())
 }
 
+/// What an item of one byte weighs under a key of one byte: both, and `ITEM_COST`.
+const WEIGHT: u64 = 292;
+
+/// What is held, once each byte from `!` to `~` was set as a key at one moment: how many of the keys have an item, and how many bytes the
+/// statistics tell.
+#[derive(Clone, Copy, Drop)]
+struct Held {
+    items: u64,
+    bytes: u64,
+}
+
+impl Held {
+    /// Whether there is something, and neither the items nor what is told weigh more than this.
+    fn is_within(&self, most: u64) -> bool {
+        0 < self.items && self.items.saturating_mul(WEIGHT) <= most && self.bytes <= most
+    }
+}
+
+/// The bytes that statistics tell.
+fn told_bytes(told: &[u8]) -> Option<u64> {
+    let text = str::from_utf8(told).ok()?;
+    for line in text.lines() {
+        let mut words = line.split(" ");
+        if words.next() == Some("STAT") && words.next() == Some("bytes") {
+            return words.next()?.parse().ok();
+        }
+    }
+    None
+}
+
+/// Sets each byte from `!` to `~` as a key at one moment, and asks what is held.
+fn count_held(alloc: Global, setup: Setup) -> Result<Held, AllocError> {
+    let mut service = service(alloc, setup)?;
+    let mut told = Vec::new(alloc);
+    let mut set = *b"set k 0 0 1\r\nx\r\n";
+    for key in b'!'..=b'~' {
+        set[4] = key;
+        ask(&mut service, &set, &mut told)?;
+    }
+    ask(&mut service, b"stats\r\n", &mut told)?;
+    let bytes = told_bytes(told.as_slice()).ok_or(AllocError)?;
+    let mut get = *b"get k\r\n";
+    let mut items: u64 = 0;
+    for key in b'!'..=b'~' {
+        get[4] = key;
+        ask(&mut service, &get, &mut told)?;
+        if told.starts_with(b"VALUE") {
+            items = items.saturating_add(1);
+        }
+    }
+    Ok(Held { items, bytes })
+}
+
+/// Whether of 94 items that were set at one moment at least one is held, and those that are held weigh at most the capacity and what 63
+/// items weigh, which may wait for maintenance; as do the bytes that statistics tell. If the test itself had no memory, all is done once
+/// more.
+pub fn is_bounded(alloc: Global, setup: Setup) -> bool {
+    let most = setup.capacity.saturating_add(63 * WEIGHT);
+    match count_held(alloc, setup) {
+        Ok(held) => held.is_within(most),
+        Err(AllocError) => matches!(count_held(alloc, setup), Ok(held) if held.is_within(most)),
+    }
+}
+
 /// Whether a connection was told that there is no memory, or ended without a reply.
 fn is_refused(told: &[u8]) -> bool {
     told.is_empty() || told.starts_with(b"SERVER_ERROR out of memory")

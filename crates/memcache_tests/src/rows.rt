@@ -1,5 +1,5 @@
 //! Requests and replies.
-use crate::playing::{LARGE, Row, all_right, all_right_again};
+use crate::playing::{LARGE, Row, all_right, all_right_again, is_bounded};
 use memcache_service::Setup;
 
 /// Storing and reading.
@@ -424,6 +424,12 @@ fn too_large(rt: HostRuntime) {
 #[test]
 fn evicted(rt: HostRuntime) {
     assert!(rt; all_right(rt.alloc(), TIGHT, EVICTED));
+}
+
+/// Of 94 items there is room for two, and at most 63 wait for maintenance.
+#[test]
+fn bounded(rt: HostRuntime) {
+    assert!(rt; is_bounded(rt.alloc(), TIGHT));
 }
 
 #[test]

@@ -1,5 +1,7 @@
-use Rattle.std.proofs.Common.{ap, refl, sym, ◌∙◌}
+use Rattle.std.proofs.Common.{ap, refl, subst, sym, ◌∙◌}
 use Rattle.std.specs.Cmp.Lexicographic.{nat_list_eq_equiv}
+use Rattle.memcache_cache.proofs.Bounding.{notice_keeps}
+use Rattle.memcache_cache.specs.Weights.{IsItemCache}
 use Rattle.memcache_cache.proofs.Calls.{item_ways, notice_shows, one_less}
 use Rattle.memcache_cache.specs.Showing.{shelved_by}
 use Rattle.memcache_cache.proofs.lent.LentShelfShelf.count_removals.Goals as goal
@@ -16,3 +18,8 @@ pub returns : goal.returns
 returns g c =
     let ways = item_ways g.S.BuildHasher g.S.Hasher.Hasher in
     ap (λ cache. shelved_by ways cache) c.next_notice.ensures.taken ∙ notice_shows ways nat_list_eq_equiv (λ a b. refl) c.loop-notice.self.cache ∙ c.loop-notice.invariant
+
+pub invariant_of-self : goal.invariant_of-self
+invariant_of-self g c =
+    let ways = item_ways g.S.BuildHasher g.S.Hasher.Hasher in
+    record { kept = subst (λ f. ∥ IsItemCache f ∥₁) (sym c.next_notice.ensures.taken) (notice_keeps ways.answers ways.hash (λ rules key value. refl) c.loop-notice.self.cache c.loop-notice.self.kept) }

@@ -1,6 +1,7 @@
-use Rattle.std.proofs.Common.{◌≡◌, Some, is_some, ap, not, sym}
+use Rattle.std.proofs.Common.{◌≡◌, Some, is_some, ap, not, refl, sym}
 use Rattle.slab.proofs.SlabLemmas.{Updates-with_value}
 use Rattle.slab.specs.Slab.{get}
+use Rattle.memcache_service.proofs.Capacity.{failed-capacity, fed-capacity}
 use Rattle.memcache_service.proofs.service.Service.feed.Goals as goal
 
 pub returns-in-Ok-clause-feeds : goal.returns-in-Ok-clause-feeds
@@ -26,3 +27,13 @@ returns-in-Err-clause-lacks g c =
       is = Updates-with_value c.args.self.now.connections c.args.conn c.feed-fed.new.self (ap is_some was);
       done = c.in-Err.ensures.lacks;
     }
+
+pub returns-in-Ok-clause-capacity : goal.returns-in-Ok-clause-capacity
+returns-in-Ok-clause-capacity g c =
+    let first = record c.args.self.now.stock { counters = c.add.new.self } in
+    fed-capacity g.T.Shelf.view c.later-now.result c.args.piece.now c.in-Some.connection.now c.feed-fed.new.self first c.feed-fed.new.stock _ refl c.in-Ok.ensures.feeds (λ closed. (c.in-Ok.ensures.closed closed).2)
+
+pub returns-in-Err-clause-capacity : goal.returns-in-Err-clause-capacity
+returns-in-Err-clause-capacity g c =
+    let first = record c.args.self.now.stock { counters = c.add.new.self } in
+    failed-capacity g.T.Shelf.view c.later-now.result c.args.piece.now c.in-Some.connection.now c.feed-fed.new.self first c.feed-fed.new.stock c.in-Err.ensures.lacks

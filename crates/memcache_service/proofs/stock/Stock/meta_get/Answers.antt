@@ -27,5 +27,6 @@ returns-clause-ok g c =
         flush = named.flush;
         may_follow = named.may_follow;
         most = named.most;
+        capacity = named.capacity;
       };
     }))
