@@ -1,11 +1,11 @@
 #!/usr/bin/env python3
-"""Runs tests with failing allocations, and the programs on their stored runs. Each has to end as it does with enough memory.
+"""Runs tests with failing allocations, the programs on their stored runs, and a server. Each has to end as it does with enough memory.
 
     python3 tools/refuse_allocations.py [--folder FOLDER] [--way alone | following] [--jobs N] [--most N] [CRATE [WORD]]
     python3 tools/refuse_allocations.py --between [--folder FOLDER] [CRATE [WORD]]
 
 Without a CRATE it runs all crates of tests that `rt test` (or the gate) has built under FOLDER, by default this repository, and the
-programs that `rt run` left there; a CRATE is one of them. WORD: only tests whose names contain it.
+programs that `rt run` left there; a CRATE is one of them, or `bivrangd`. WORD: only tests whose names contain it.
 
 There are two ways. In each, the first allocation of a test fails, in the next run the second, and so on to the last:
 
@@ -20,6 +20,11 @@ A test has to pass each time: it tries again what was refused. Tests that do not
 with the reason; they are reported and not run. A program has to end with status 0 and the right texts, or with status 1 and a text on
 standard error, and then what it wrote is a prefix of the right replies.
 
+`bivrangd` serves a namespace that speaks the memcache protocol to a client that sends one request after the other. Where memory is refused,
+the reply is `SERVER_ERROR out of memory ..`, or the connection ends; the request is sent again, by a new connection if need be, and has to
+have the right reply, with the right uniques, as if it had not been sent before. (`following`: of so many allocations in a row.) At the
+end the server has to stop with status 0. One that lacks memory before it listens may end with status 1 and a text.
+
 The table has a row for each crate: its tests, the number of failing allocations (after a `+` those that followed), and how many
 tests failed. The status is 0 if none did, and in each crate some allocation was refused.
 
@@ -32,18 +37,23 @@ failed.
 import argparse
 import collections
 import concurrent.futures
+import contextlib
 import os
 import pathlib
 import shutil
+import socket
 import subprocess
 import sys
 import tempfile
+import time
 
 ROOT = pathlib.Path(__file__).resolve().parent.parent
 # A replay holds lines back where memory is refused, so it prints other transcripts: tools/random_use.py has these judged.
 PROGRAMS = {"cached": "--script", "transcript": "audit"}
 WAYS = ("alone", "following")
 SECONDS = 600
+# The server, and how many allocations are refused in a row by the way `following`.
+SERVER, IN_A_ROW = "bivrangd", 12
 # The modules of a crate in which tests say themselves which requests are refused.
 SAYING = ("without_memory::", "refused_in_turn::")
 # Tests that take no second try, by crate and the beginning of their names: why.
@@ -58,19 +68,28 @@ class Refuser:
         self.library = os.path.join(folder, "refuse_allocation.so")
         subprocess.run(["cc", "-shared", "-fPIC", "-O1", "-o", self.library, ROOT / "tools/refuse_allocation.c"], check=True)
 
-    def run(self, words, given=b"", **how):
-        """Runs a program so; answers how it ended, and how many allocations it asked for, were refused, and followed."""
+    def environment(self, how):
+        """The environment of a program that is run so, and the file that has its counts when it has ended."""
         descriptor, count = tempfile.mkstemp(dir=self.folder)
         os.close(descriptor)
         changed = {f"REFUSE_{word}".upper().rstrip("_"): str(it) for word, it in how.items()}
-        changed.update(LD_PRELOAD=self.library, REFUSE_COUNT=count)
+        return {**os.environ, **changed, "LD_PRELOAD": self.library, "REFUSE_COUNT": count}, pathlib.Path(count)
+
+    def run(self, words, given=b"", **how):
+        """Runs a program so; answers how it ended, and how many allocations it asked for, were refused, and followed."""
+        environment, count = self.environment(how)
         try:
-            ran = subprocess.run(words, input=given, capture_output=True, env={**os.environ, **changed}, timeout=SECONDS, check=False)
+            ran = subprocess.run(words, input=given, capture_output=True, env=environment, timeout=SECONDS, check=False)
         except subprocess.TimeoutExpired:
             ran = subprocess.CompletedProcess(words, None, b"", b"it does not end")
-        text = pathlib.Path(count).read_text(encoding="ascii").split()
-        os.remove(count)
-        return ran, [int(it) for it in text] if len(text) == 3 else [0, 1, 0]
+        return ran, counts_of(count)
+
+
+def counts_of(file):
+    """The counts that a program has left, which go."""
+    text = file.read_text(encoding="ascii").split()
+    file.unlink()
+    return [int(it) for it in text] if len(text) == 3 else [0, 1, 0]
 
 
 def own_places(program, crate, folder):
@@ -134,6 +153,168 @@ def sweep(refuser, words, most, passes, how_of, given=b""):
     return swept
 
 
+CONFIG = """[[namespace]]
+name = "memcache"
+port = {port}
+protocol = "memcache"
+capacity = 60000
+"""
+LACKS = b"SERVER_ERROR out of memory"
+# Requests, in the pieces in which they are sent. `stats` tells the time, so of that only the end is compared.
+REQUESTS = [
+    [b"set a 5 0 3\r\nabc\r\n"],
+    [b"gets a\r\n"],
+    [b"set a 6 100000 200\r\n" + b"a" * 200 + b"\r\n"],
+    [b"add b 0 0 1\r\n9\r\n"],
+    [b"add b 0 0 1\r\n8\r\n"],
+    [b"incr b 1\r\n"],
+    [b"decr b 3\r\n"],
+    [b"append a 0 0 3\r\n>>>\r\n"],
+    [b"prepend a 0 0 3\r\n<<<\r\n"],
+    [b"replace b 1 0 2\r\n77\r\n"],
+    [b"gets a b none\r\n"],
+    [b"cas b 1 0 2 8\r\n78\r\n"],
+    [b"cas b 1 0 2 8\r\n79\r\n"],
+    [b"touch a 0\r\n"],
+    [b"gat 100000 a\r\n"],
+    [b"set ", b"c 0 0 10\r\n", b"01234", b"56789\r", b"\n"],
+    [b"set large 0 0 20000\r\n", b"x" * 20000 + b"\r\n"],
+    [b"get large\r\n"],
+    [b"mg leased v c N30\r\n"],
+    [b"mg leased v N30\r\n"],
+    [b"ms leased 4 F7 c\r\nmade\r\n"],
+    [b"md leased I T30\r\n"],
+    [b"mg leased k v f s c\r\n"],
+    [b"ma counted N0 J5 v c\r\n"],
+    [b"ma counted v D7\r\n"],
+    [b"ms c 2 MA\r\n!!\r\n"],
+    [b"delete c\r\n"],
+    [b"delete large\r\n"],
+    [b"stats\r\n"],
+    [b"x" * 300 + b"\r\n"],
+    [b"gets a b c large leased counted\r\n"],
+    *([b"set filled-%d 0 0 100\r\n%0100d\r\n" % (number, number)] for number in range(100)),
+    [b"flush_all\r\n"],
+    [b"gets a b filled-99\r\n"],
+    [b"set last 0 0 2\r\nok\r\n"],
+    [b"gets last\r\n"],
+]
+# Behind each so many requests another connection comes.
+A_CONNECTION = 9
+
+
+class Wrong(Exception):
+    """What a server did that it may not do."""
+
+
+class Asking:
+    """A client of the server, which asks again what lacked memory, and counts how often that was."""
+
+    def __init__(self, port):
+        self.port, self.lacked, self.links = port, 0, []
+
+    def connect(self):
+        self.links.append(socket.create_connection(("127.0.0.1", self.port), timeout=30))
+
+    def reply(self, pieces, right):
+        """The reply to a request; None if the connection ended."""
+        told = b""
+        try:
+            for number, piece in enumerate(pieces):
+                # (what is sent next has to come alone)
+                time.sleep(0.002 if number else 0)
+                self.links[-1].sendall(piece)
+            while not is_whole(told, right):
+                came = self.links[-1].recv(1 << 16)
+                if not came:
+                    return None
+                told += came
+        except OSError:
+            return None
+        return told
+
+    def ask(self, pieces, right):
+        """Asks until there is memory."""
+        for _ in range(4 * IN_A_ROW):
+            told = self.reply(pieces, right)
+            if told is not None and is_right(told, right):
+                return
+            self.lacked += 1
+            if told is None:
+                self.connect()
+            elif not told.startswith(LACKS):
+                raise Wrong(f"{pieces[0][:40]!r} is replied {told[:60]!r}")
+        raise Wrong(f"{pieces[0][:40]!r} is never replied")
+
+
+def is_right(told, right):
+    """Whether that is the reply, or one that is not known but for its end."""
+    return told == right if right is not None else told.endswith(b"END\r\n")
+
+
+def is_whole(told, right):
+    """Whether that is the reply, or lines that are not its front."""
+    if right is None:
+        return told.endswith(b"END\r\n") or told.startswith(LACKS) and told.endswith(b"\r\n")
+    return told == right or told.endswith(b"\r\n") and not right.startswith(told)
+
+
+def right_replies(port):
+    """Those of a server that has memory."""
+    replies = []
+    with socket.create_connection(("127.0.0.1", port), timeout=30) as link:
+        for pieces in REQUESTS:
+            link.sendall(b"".join(pieces) + b"mn\r\n")
+            told = b""
+            while not told.endswith(b"MN\r\n"):
+                told += link.recv(1 << 16)
+            replies.append(None if pieces == [b"stats\r\n"] else told.removesuffix(b"MN\r\n"))
+    return replies
+
+
+def play(port, right):
+    """Asks all; returns how many requests lacked memory."""
+    asking = Asking(port)
+    for number, (pieces, reply) in enumerate(zip(REQUESTS, right)):
+        if number % A_CONNECTION == 0:
+            asking.connect()
+        asking.ask(pieces, reply)
+    for link in asking.links:
+        link.close()
+    return asking.lacked
+
+
+def serve(refuser, words, folder, use, **how):
+    """Starts the server so, uses it by its port, and stops it. Answers how it ended, its counts, and what the use returned; None if it never
+    listened."""
+    with socket.socket() as probe:
+        probe.bind(("127.0.0.1", 0))
+        port = probe.getsockname()[1]
+    config = pathlib.Path(folder, f"{port}.toml")
+    config.write_text(CONFIG.format(port=port), encoding="ascii")
+    environment, count = refuser.environment(how)
+    server = subprocess.Popen([*words, "--config", config], stdin=subprocess.PIPE, stdout=subprocess.PIPE, stderr=subprocess.PIPE, env=environment)
+    used = None
+    try:
+        if server.stdout.readline():
+            used = use(port)
+        # (a line that finds no memory may be lost, and after a second one it ends at once)
+        for _ in range(3):
+            with contextlib.suppress(OSError, subprocess.TimeoutExpired):
+                server.stdin.write(b"stop\n")
+                server.stdin.flush()
+                server.wait(12)
+                break
+        ended = subprocess.CompletedProcess(words, server.poll(), b"", server.stderr.read() if server.poll() is not None else b"it does not stop")
+    except Wrong as error:
+        ended = subprocess.CompletedProcess(words, None, b"", str(error).encode())
+    finally:
+        server.kill()
+        server.communicate()
+        config.unlink()
+    return ended, counts_of(count), used
+
+
 def tests_of(program, word):
     listed = subprocess.run([program, "--list"], capture_output=True, text=True, check=True).stdout
     names = [line.removesuffix(": test") for line in listed.split("\n") if line.endswith(": test")]
@@ -177,7 +358,7 @@ class Table:
     """Rows, one a crate."""
 
     def __init__(self, words, folder):
-        self.words, self.refuser, self.failed, self.ran = words, Refuser(folder), 0, 0
+        self.words, self.refuser, self.failed, self.ran, self.lacked = words, Refuser(folder), 0, 0, 0
         self.ways = [words.way] if words.way else list(WAYS)
         head = "".join(f"{way:>20} {'failed':>6}" for way in self.ways)
         print(f"{'crate':20} {'tests':>5} {'lack':>4}{head}", flush=True)
@@ -237,6 +418,33 @@ class Table:
         swept = {way: {crate: sweep(self.refuser, words, self.words.most, passes, hows[way], given)} for way in self.ways}
         self.row(crate, 1, {}, swept)
 
+    def server(self, program):
+        """The server, whose client asks the same in each run."""
+        copy = os.path.join(self.refuser.folder, SERVER)
+        shutil.copy(program, copy)
+        folder = self.refuser.folder
+        ended, _, right = serve(self.refuser, [copy], folder, right_replies)
+        if ended.returncode != 0 or right is None:
+            sys.exit(f"{SERVER} does not serve: {cause_of(ended)}")
+        _, (count, _, _), _ = serve(self.refuser, [copy], folder, lambda port: play(port, right))
+        hows = {"alone": lambda number: {"": number}, "following": lambda number: {"from": number, "to": number + IN_A_ROW, "one_in": 1}}
+
+        def one(way, number):
+            ended, counts, lacked = serve(self.refuser, [copy], folder, lambda port: play(port, right), **hows[way](number))
+            passed = ended.returncode == 0 or lacked is None and ended.returncode == 1 and bool(ended.stderr)
+            return number, counts, passed, ended, lacked
+
+        swept = {}
+        for way in self.ways:
+            swept[way] = {SERVER: Swept()}
+            with concurrent.futures.ThreadPoolExecutor(self.words.jobs) as pool:
+                for number, counts, passed, ended, lacked in pool.map(lambda it: one(way, it), numbers(count, self.words.most)):
+                    swept[way][SERVER].take(number, [counts[0], counts[1], max(0, counts[1] - 1)], passed, ended)
+                    self.lacked += lacked or 0
+        self.row(SERVER, 1, {}, swept)
+        print(f"    {len(REQUESTS)} requests a run, of which {self.lacked} in all lacked memory")
+        os.remove(copy)
+
     def run(self):
         found = False
         for crate, program in programs_of_tests(self.words.folder, self.words.crate).items():
@@ -247,6 +455,10 @@ class Table:
             if program.is_file() and self.words.crate in (None, crate):
                 found = True
                 self.program(crate, program)
+        program = self.words.folder / "crates" / SERVER / "out" / SERVER
+        if program.is_file() and self.words.crate in (None, SERVER):
+            found = True
+            self.server(program)
         if not found:
             sys.exit(f"under {self.words.folder} nothing is built: `rt test` in a crate of tests leaves its program in the crate's out/")
         if not self.ran:
