@@ -11,10 +11,12 @@ difference.
 """
 
 import argparse
+import math
 import random
 import re
 import socket
 import sys
+import time
 
 from memcache_clients import service, started
 
@@ -45,12 +47,13 @@ class Client:
 LEFT = re.compile(rb" t(\d+)")
 
 
-def are_same(said, told):
-    """Whether the replies are the same, but that the seconds that are left may differ by one: memcached's clock has whole seconds."""
+def are_same(said, told, seconds):
+    """Whether the replies are the same, but that the seconds that are left may differ by one, since memcached's clock has whole seconds, and
+    by those that both took to reply."""
     if said == told:
         return True
-    theirs, ours = LEFT.findall(said), LEFT.findall(told)
-    return LEFT.sub(b" t", said) == LEFT.sub(b" t", told) and all(abs(int(a) - int(b)) <= 1 for a, b in zip(theirs, ours, strict=True))
+    most, theirs, ours = 1 + math.ceil(seconds), LEFT.findall(said), LEFT.findall(told)
+    return LEFT.sub(b" t", said) == LEFT.sub(b" t", told) and all(abs(int(a) - int(b)) <= most for a, b in zip(theirs, ours, strict=True))
 
 
 def block(draw):
@@ -128,9 +131,10 @@ def main():
         done = 0
         while done < wanted.requests:
             several = [request(draw) for _ in range(draw.randrange(1, 8))]
+            start = time.monotonic()
             said, told = theirs.ask(b"".join(several)), ours.ask(b"".join(several))
-            if not are_same(said, told):
-                print("requests:", several, "memcached:", said, "service:", told, sep="\n")
+            if not are_same(said, told, time.monotonic() - start):
+                print(f"behind {done} requests:", several, "memcached:", said, "service:", told, sep="\n")
                 return 1
             done += len(several)
         print(f"{done} requests, each reply the same")

@@ -10,6 +10,8 @@ cases, each with the Debian package that apt-get installs where it lacks and it 
     load        five seconds of `memcaslap` (libmemcached-tools)
     pymemcache  values with every byte, 1 MiB, many keys, cas, counting, expiry (python3-pymemcache)
     pylibmc     the same in short, by another client (python3-pylibmc)
+    leases      the example of docs/MEMCACHE.md, by twelve clients at once: each key is loaded once
+    ring        pylibmc's ketama over three services: keys spread, one dies and comes back (python3-pylibmc)
     proxy       nutcracker over three services: keys spread, one dies and comes back (nutcracker)
     page        nginx serves a page from it (nginx-light)
 
@@ -25,10 +27,12 @@ import socket
 import subprocess
 import sys
 import tempfile
+import threading
 import time
 import urllib.error
 import urllib.request
 
+ROOT = pathlib.Path(__file__).resolve().parent.parent
 PORT = 21313
 # The interpreter for which Debian installs packages.
 PYTHON = "/usr/bin/python3"
@@ -88,32 +92,42 @@ client["large"] = b"x" * 1000000
 assert client["large"] == b"x" * 1000000
 """
 
-# A client of its own is made for each request, since the proxy closes one whose server is gone.
+# The first word is the ports of the services, the second what is done: `store` prints how many of 300 values are stored, `find` how many
+# are found. (BEHAVIORS stands for what the example has.)
+RING = r"""
+import sys
+import pylibmc
+
+ports, what = sys.argv[1].split(","), sys.argv[2]
+servers = ["127.0.0.1:" + port for port in ports]
+client = pylibmc.Client(servers, binary=False, behaviors=BEHAVIORS)
+done = 0
+for number in range(300):
+    for _ in range(5):
+        try:
+            done += client.set(f"key{number}", number) if what == "store" else client.get(f"key{number}") == number
+            break
+        except pylibmc.Error:
+            pass
+print(done)
+"""
+
+# A client of its own is made for each request, since the proxy closes one whose server is gone. It tries that again now and then.
 SPREAD = r"""
 import sys
 from pymemcache.client.base import Client
 
 done = 0
 for number in range(300):
-    try:
-        client = Client(("127.0.0.1", int(sys.argv[1])))
-        done += bool(client.set(f"key{number}", b"value", noreply=False))
-        client.close()
-    except Exception:
-        pass
+    for _ in range(3):
+        try:
+            client = Client(("127.0.0.1", int(sys.argv[1])))
+            done += bool(client.set(f"key{number}", b"value", noreply=False))
+            client.close()
+            break
+        except Exception:
+            pass
 print(done)
-"""
-
-NUTCRACKER = """pool:
-  listen: 127.0.0.1:{port}
-  hash: murmur
-  distribution: ketama
-  auto_eject_hosts: true
-  server_retry_timeout: 1000
-  server_failure_limit: 1
-  timeout: 400
-  servers:
-{servers}
 """
 
 NGINX = """daemon off;
@@ -205,12 +219,65 @@ def pylibmc(command):
         run(PYTHON, "-c", PYLIBMC, str(PORT))
 
 
+def example(heading, kind):
+    """The first example of a kind below a heading of docs/MEMCACHE.md."""
+    text = (ROOT / "docs/MEMCACHE.md").read_text(encoding="utf-8")
+    return text.partition(f"\n{heading}\n")[2].partition(f"```{kind}\n")[2].partition("```\n")[0]
+
+
+def leases(command):
+    source = example("## Leases", "python").replace("11211", str(PORT))
+    with service(command, PORT):
+        own = {}
+        exec(compile(source, "docs/MEMCACHE.md", "exec"), own)
+        assert own["page"] == b"slowly made"
+        loads, values = [], []
+
+        def visit(number):
+            server = socket.create_connection(("127.0.0.1", PORT), timeout=60).makefile("rwb")
+            for key in range(20):
+
+                def load():
+                    loads.append(key)
+                    time.sleep(0.02)
+                    return b"value of %d" % key
+
+                values.append(own["get"](server, b"leased-%d" % key, load) == b"value of %d" % key)
+
+        visits = [threading.Thread(target=visit, args=(number,)) for number in range(12)]
+        for thread in visits:
+            thread.start()
+        for thread in visits:
+            thread.join()
+        assert len(values) == 12 * 20 and all(values), "a value is another one"
+        assert sorted(loads) == list(range(20)), "a key is loaded twice"
+
+
+def ring(command):
+    ports = [PORT + 1, PORT + 2, PORT + 3]
+    behaviors = example("## Several servers", "python").partition("behaviors=")[2].rpartition(")")[0]
+    words = [PYTHON, "-c", RING.replace("BEHAVIORS", behaviors), ",".join(map(str, ports))]
+    with contextlib.ExitStack() as all_of_them:
+        first, _, _ = [all_of_them.enter_context(service(command, port)) for port in ports]
+        assert int(run(*words, "store")) == 300 and int(run(*words, "find")) == 300
+        theirs = [writes(port) for port in ports]
+        assert all(count > 30 for count in theirs), "keys do not spread"
+        first.kill()
+        first.wait()
+        assert int(run(*words, "find")) == 300 - theirs[0], "keys of a server that is there are lost"
+        assert int(run(*words, "store")) == 300, "a server that is gone is asked on"
+        with service(command, ports[0]):
+            assert int(run(*words, "store")) == 300 and writes(ports[0]) == theirs[0], "a server that came back is not asked"
+
+
 def proxy(command):
     ports = [PORT + 1, PORT + 2, PORT + 3]
     with tempfile.TemporaryDirectory() as folder, contextlib.ExitStack() as all_of_them:
         plan = pathlib.Path(folder, "nutcracker.yml")
-        servers = "\n".join(f"   - 127.0.0.1:{port}:1" for port in ports)
-        plan.write_text(NUTCRACKER.format(port=PORT, servers=servers), encoding="ascii")
+        text = example("## Several servers", "yaml").replace("127.0.0.1:11211", f"127.0.0.1:{PORT}")
+        for number, port in enumerate(ports, 1):
+            text = text.replace(f"10.0.0.{number}:11211", f"127.0.0.1:{port}")
+        plan.write_text(text, encoding="ascii")
         first, _, _ = [all_of_them.enter_context(service(command, port)) for port in ports]
         all_of_them.enter_context(started(["nutcracker", "-c", str(plan), "-s", str(PORT + 4)], PORT))
         assert int(run(PYTHON, "-c", SPREAD, str(PORT))) == 300
@@ -246,6 +313,8 @@ CASES = {
     load: (["libmemcached-tools"], "memcaslap", None),
     pymemcache: (["python3-pymemcache"], PYTHON, "pymemcache"),
     pylibmc: (["python3-pylibmc"], PYTHON, "pylibmc"),
+    leases: ([], PYTHON, None),
+    ring: (["python3-pylibmc"], PYTHON, "pylibmc"),
     proxy: (["nutcracker", "python3-pymemcache"], "nutcracker", "pymemcache"),
     page: (["nginx-light"], "nginx", None),
 }
@@ -283,7 +352,7 @@ def main():
         try:
             assert install(*needs), f"{' and '.join(needs[0])} cannot be had"
             case(wanted.command)
-        except (AssertionError, OSError, subprocess.TimeoutExpired) as error:
+        except (AssertionError, OSError, ValueError, LookupError, subprocess.TimeoutExpired) as error:
             why = error
         failed += why is not None
         print(f"{case.__name__}: {'passed' if why is None else f'FAILED: {why}'} in {time.time() - start:.0f} s", flush=True)
