@@ -2,16 +2,18 @@
 """Drives the proved server `cached --config` over loopback with clients of its own, and ends by itself.
 
     python3 benches/connections.py          requests per second, and the server's processor time per request, by connections and depth
-    python3 benches/connections.py NAME     the same requests to `bivrangd`, to `redis` or `memcached`, if they are on the path, or to `plain`
-                                            (plain_server)
+    python3 benches/connections.py NAME     the same requests to `bivrangd`, to `memcache` (a namespace of it that speaks that protocol), to
+                                            `redis` or `memcached`, if they are on the path, or to `plain` (plain_server)
     python3 benches/connections.py beside   all of these that are there, three rounds in turn, medians; fills figures.json
+    python3 benches/connections.py hits     look-ups alone, each of which finds its value, by `memcache`, `memcached -t 1` and `redis`: three
+                                            rounds in turn, medians; fills figures.json
     python3 benches/connections.py soak     a million requests over 200 connections, with the server's memory on the way
     python3 benches/connections.py memory   what the server holds for each of a million values
     python3 benches/connections.py idle     what `bivrangd` holds for each of 5,000 idle connections, and what is left once they have closed
 
 Build the servers first (servers.py says where they are). Half of the requests are SET, half GET, with keys of 16 bytes and values of 32. Each connection has keys
 of its own, so a GET returns what the same connection stored last, or NONE if that was evicted: each reply is compared, and a stale value
-ends the run with an error.
+ends the run with an error. With `hits` each has stored all its keys before.
 """
 import contextlib
 import multiprocessing
@@ -35,6 +37,7 @@ HOST = "127.0.0.1"
 KEYS = 10_000
 CAPACITY = 1_000
 CONNECTIONS = (1, 16, 64, 256)
+HITS_CONNECTIONS = (1, 16, 64)
 DEPTHS = {1: 60_000, 32: 600_000}
 ROUNDS = 3
 SOAK_CONNECTIONS, SOAK_REQUESTS, SOAK_DEPTH = 200, 1_000_000, 8
@@ -104,7 +107,7 @@ class Server:
 
     def __init__(self, capacity):
         self.port = free_port()
-        self.start([f'name = "main"\nport = {self.port}\ncapacity = {capacity}\npolicy = "lru"\n'])
+        self.start([f'name = "main"\nport = {self.port}\n{self.row.capacity(capacity)}policy = "lru"\n'])
 
     def start(self, namespaces):
         """Starts the program with these tables as its configuration."""
@@ -147,6 +150,12 @@ class Bivrangd(Server):
     row = servers.ROWS["bivrangd"]
 
 
+class Memcache(Server):
+    """A namespace of `bivrangd` that speaks the memcache protocol."""
+
+    dialect, row = Texts, servers.MEMCACHE
+
+
 class Other(Server):
     """A server that is started by words, and says nothing that is read."""
 
@@ -186,6 +195,13 @@ class Memcached(Other):
         return [self.program, "-l", HOST, "-p", str(self.port), "-U", "0", "-u", "nobody"]
 
 
+class MemcachedAlone(Memcached):
+    """`memcached` with one thread for all connections."""
+
+    def words(self):
+        return [*super().words(), "-t", "1"]
+
+
 class Plain(Other):
     """`plain_server`, as `cargo build --release` leaves it."""
 
@@ -199,29 +215,52 @@ class Plain(Other):
 class Client:
     """One connection: it sends so many requests at a time, and the next ones when each was answered."""
 
-    def __init__(self, port, dialect, number, keys, depth, batches):
-        self.dialect = dialect
+    def __init__(self, port, dialect, number, keys, depth, batches, hits):
+        self.dialect, self.hits = dialect, hits
         self.socket = socket.create_connection((HOST, port), timeout=ANSWER_SECONDS)
         self.socket.setsockopt(socket.IPPROTO_TCP, socket.TCP_NODELAY, 1)
         self.draw = random.Random(number)
         self.number, self.keys, self.depth, self.batches = number, keys, depth, batches
         self.stored, self.wanted, self.received, self.count = {}, [], bytearray(), 0
+        if hits:
+            self.store_all()
+
+    def key(self, number):
+        return b"%04d-%011d" % (self.number, number)
+
+    def put(self, key):
+        """A request that stores a value, and its replies."""
+        self.stored[key] = b"value-%026d" % self.count
+        return self.dialect.put(key, self.stored[key])
+
+    def get(self, key):
+        """A look-up, and which replies it may have: where only hits count, that with the value."""
+        request, replies = self.dialect.get(key, self.stored.get(key))
+        return request, [allowed[:1] for allowed in replies] if self.hits else replies
+
+    def say(self, requests):
+        """Sends requests, and notes which replies each may have."""
+        for _, replies in requests:
+            self.wanted += replies
+        self.count += len(requests)
+        self.socket.sendall(b"".join(request for request, _ in requests))
+
+    def store_all(self):
+        """Stores a value under each key, one after the other."""
+        for number in range(self.keys):
+            self.say([self.put(self.key(number))])
+            while not self.receive():
+                pass
 
     def send(self):
-        """Sends the next requests, and notes which replies each may have."""
-        requests = []
-        for _ in range(self.depth):
-            key = b"%04d-%011d" % (self.number, self.draw.randrange(self.keys))
-            if self.count % 2 == 0:
-                self.stored[key] = b"value-%026d" % self.count
-                request, replies = self.dialect.put(key, self.stored[key])
-            else:
-                request, replies = self.dialect.get(key, self.stored.get(key))
-            requests.append(request)
-            self.wanted += replies
-            self.count += 1
+        """Sends the next requests."""
+        keys = [self.key(self.draw.randrange(self.keys)) for _ in range(self.depth)]
+        self.say([self.put(key) if self.puts(place) else self.get(key) for place, key in enumerate(keys, self.count)])
         self.batches -= 1
-        self.socket.sendall(b"".join(requests))
+
+    def puts(self, place):
+        """Whether the request of this number stores a value: every second one, unless only hits count."""
+        return place % 2 == 0 and not self.hits
 
     def receive(self):
         """Takes what came, and answers whether all that was sent is answered."""
@@ -239,10 +278,11 @@ class Client:
         return True
 
 
-def drive(port, dialect, numbers, keys, depth, batches, started):
+def drive(port, dialect, numbers, keys, depth, batches, hits, ready, started):
     """Drives these connections until each has sent its batches."""
     poll = selectors.DefaultSelector()
-    clients = [Client(port, dialect, number, keys, depth, batches) for number in numbers]
+    clients = [Client(port, dialect, number, keys, depth, batches, hits) for number in numbers]
+    ready.wait()
     started.wait()
     for client in clients:
         poll.register(client.socket, selectors.EVENT_READ, client)
@@ -262,21 +302,22 @@ def drive(port, dialect, numbers, keys, depth, batches, started):
                     running -= 1
 
 
-def run(server, connections, depth, requests, watch=None):
+def run(server, connections, depth, requests, watch=None, hits=False):
     """The seconds that so many requests take, and the server's processor seconds for them."""
     batches = max(1, requests // (connections * depth))
     processes = min(CLIENT_PROCESSES, connections)
-    started = multiprocessing.Event()
+    ready, started = multiprocessing.Barrier(processes + 1), multiprocessing.Event()
     keys = max(1, KEYS // connections)
     drivers = [
         multiprocessing.Process(
-            target=drive, args=(server.port, server.dialect, range(first, connections, processes), keys, depth, batches, started)
+            target=drive, args=(server.port, server.dialect, range(first, connections, processes), keys, depth, batches, hits, ready, started)
         )
         for first in range(processes)
     ]
     for driver in drivers:
         driver.start()
-    time.sleep(1)
+    ready.wait(ANSWER_SECONDS)
+    time.sleep(0.2)
     used, begun = server.processor_seconds(), time.perf_counter()
     started.set()
     while any(driver.is_alive() for driver in drivers):
@@ -290,13 +331,13 @@ def run(server, connections, depth, requests, watch=None):
     return connections * depth * batches, seconds, used
 
 
-def round_of(name, make):
+def round_of(name, make, hits=False):
     """Rows of connections, depth, requests a second and processor microseconds a request, as each is measured."""
-    for connections in CONNECTIONS:
+    for connections in HITS_CONNECTIONS if hits else CONNECTIONS:
         for depth, requests in DEPTHS.items():
             progress.show(f"{name}: {connections} connections at depth {depth}")
             server = make(KEYS)
-            done, seconds, used = run(server, connections, depth, requests)
+            done, seconds, used = run(server, connections, depth, requests, hits=hits)
             server.stop()
             yield connections, depth, done / seconds, used / done * 1e6
 
@@ -308,13 +349,13 @@ def bench(name):
         print(f"{connections:11} {depth:6} {rate:18.0f} {micros:33.2f}", flush=True)
 
 
-def beside():
-    """All servers that are there, in turn."""
-    makes = {name: make for name, make in SERVERS.items() if make.is_there()}
+def in_turn(kind, servers_by_name, hits=False):
+    """All of these servers that are there, in turn."""
+    makes = {name: make for name, make in servers_by_name.items() if make.is_there()}
     taken = {}
     for _ in range(ROUNDS):
         for name, make in makes.items():
-            for connections, depth, _, micros in round_of(name, make):
+            for connections, depth, _, micros in round_of(name, make, hits):
                 taken.setdefault((connections, depth), {}).setdefault(name, []).append(micros)
     progress.clear()
     print("processor microseconds a request: medians, least and greatest")
@@ -322,7 +363,15 @@ def beside():
         medians = {name: round(statistics.median(all_micros), 2) for name, all_micros in row.items()}
         texts = [f"{name} {medians[name]} ({min(row[name]):.1f} to {max(row[name]):.1f})" for name in row]
         print(f"{connections:3} connections, depth {depth:2}: {', '.join(texts)}", flush=True)
-        figures.keep("requests", {f"{connections} {depth}": {name: figures.spread(row[name], medians[name]) for name in row}})
+        figures.keep(kind, {f"{connections} {depth}": {name: figures.spread(row[name], medians[name]) for name in row}})
+
+
+def beside():
+    in_turn("requests", SERVERS)
+
+
+def hits():
+    in_turn("hits", {"memcache": Memcache, "memcached": MemcachedAlone, "redis": Redis}, hits=True)
 
 
 def soak():
@@ -387,8 +436,8 @@ def idle():
     print(f"{IDLE} idle connections: {used / IDLE:.0f} bytes each, {left / IDLE:.0f} once they have closed")
 
 
-SERVERS = {"cached": Server, "bivrangd": Bivrangd, "redis": Redis, "memcached": Memcached, "plain": Plain}
-KINDS = {"soak": soak, "memory": memory, "idle": idle, "beside": beside}
+SERVERS = {"cached": Server, "bivrangd": Bivrangd, "memcache": Memcache, "redis": Redis, "memcached": Memcached, "plain": Plain}
+KINDS = {"soak": soak, "memory": memory, "idle": idle, "beside": beside, "hits": hits}
 
 
 if __name__ == "__main__":

@@ -2,6 +2,7 @@
 import re
 
 import figures
+import traces
 
 MARKED = re.compile(r"(<!-- figures: ([a-z_ 0-9]+) -->\n).*?(<!-- end of figures -->)", re.DOTALL)
 SIZES = ["1000", "100000", "1000000"]
@@ -22,9 +23,22 @@ def table(head, rows):
 
 
 def requests(kept):
-    names = {"cached": "`cached`", "bivrangd": "`bivrangd`", "redis": "Redis", "memcached": "memcached", "plain": "`plain_server`"}
+    names = {
+        "cached": "`cached`",
+        "bivrangd": "`bivrangd`",
+        "memcache": "`bivrangd`, memcache",
+        "redis": "Redis",
+        "memcached": "memcached",
+        "plain": "`plain_server`",
+    }
     names = {name: said for name, said in names.items() if any(name in of for of in kept["requests"].values())}
     rows = [[*row.split(), *(shown(of.get(name), 1) for name in names)] for row, of in kept["requests"].items()]
+    return table(["Connections", "Depth", *names.values()], rows)
+
+
+def hits(kept):
+    names = {"memcache": "`bivrangd`", "memcached": "`memcached -t 1`", "redis": "Redis"}
+    rows = [[*row.split(), *(shown(of.get(name), 1) for name in names)] for row, of in kept["hits"].items()]
     return table(["Connections", "Depth", *names.values()], rows)
 
 
@@ -173,9 +187,25 @@ def ratios(kept):
     )
 
 
+def same_memory(kept):
+    """For each kind of values a table, with what is held first."""
+    names = {"memcached": "memcached", "lru": "`bivrangd`, LRU", "tinylfu": "`bivrangd`, TinyLFU"}
+    kinds = [name.removesuffix(" held") for name in kept["same_memory"] if name.endswith(" held")]
+
+    def of_kind(kind):
+        row = {what: kept["same_memory"].get(f"{kind} {what}") for what in ("held", "KiB", *traces.TRACES)}
+        held = [["values held", *(shown(row["held"][name]) for name in names)], ["MiB more than empty", *(shown(row["KiB"][name] / 1024, 1) for name in names)]]
+        ratios = [[trace, *(shown(row[trace][name], 1) for name in names)] for trace in traces.TRACES if row[trace]]
+        return table([f"Values of {kind} bytes", *names.values()], [*held, *ratios])
+
+    return "\n\n".join(map(of_kind, kinds))
+
+
 # By the name in a document: the kind whose date is told, and what makes the table.
 TABLES = {
     "requests": ("requests", requests),
+    "hits": ("hits", hits),
+    "same memory": ("same_memory", same_memory),
     "server": (None, server),
     "calls": ("calls", calls),
     "factors": ("factors", factors),
@@ -199,6 +229,8 @@ def filled(text):
     def made(found):
         head, name, end = found.groups()
         kind, make = TABLES[name]
+        if kind and kind not in kept:
+            return f"{head}\nNot measured yet.\n\n{end}"
         date = f"Measured {kept['measured'][kind]}.\n\n" if kind else ""
         return f"{head}\n{date}{make(kept)}\n\n{end}"
 
