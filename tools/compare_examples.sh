@@ -27,10 +27,6 @@ same "docs/PROTOCOL.md's example and crates/cached/stdin" \
 same "docs/PROTOCOL.md's example and crates/cached/stdout" \
     "$(sed -n 's/^< //p' <<<"$example")" "$(cat crates/cached/stdout)"
 
-# The sample configuration is the one in README: what follows its `cat`, up to the next command.
-same "README.md's configuration and docs/bivrangd.toml" \
-    "$(awk '/^\$ cat docs\/bivrangd.toml$/ { open = 1; next } open && /^\$ / { exit } open' README.md)" "$(cat docs/bivrangd.toml)"
-
 # That of cached's man page is its sample, but for the comment.
 same "docs/man/cached.toml.5's example and docs/cached.toml" \
     "$(sed -n '/^\.Bd -literal/,/^\.Ed/p' docs/man/cached.toml.5 | grep -v '^\.')" "$(grep -v '^#' docs/cached.toml)"
