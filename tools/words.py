@@ -15,10 +15,10 @@ ROOT = pathlib.Path(__file__).resolve().parent.parent
 # What a figure may be at most. Lower a bound when the figure falls; it is not raised without a reason in the commit.
 BOUNDS = {
     # (20 of these came with the memcache house, whose libraries were proved after the bound was set)
-    "splits by hand": 750,
-    "relations of the service's specs": 491,
+    "splits by hand": 758,
+    "relations of the service's specs": 494,
     # (a connection of the memcache service is told in the words of one that speaks lines)
-    "names of relations in several crates": 72,
+    "names of relations in several crates": 73,
     "names of functions in several crates": 87,
 }
 
