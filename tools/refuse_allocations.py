@@ -23,7 +23,8 @@ standard error, and then what it wrote is a prefix of the right replies.
 `bivrangd` serves a namespace that speaks the memcache protocol to a client that sends one request after the other. Where memory is refused,
 the reply is `SERVER_ERROR out of memory ..`, or the connection ends; the request is sent again, by a new connection if need be, and has to
 have the right reply, with the right uniques, as if it had not been sent before. (`following`: of so many allocations in a row.) At the
-end the server has to stop with status 0. One that lacks memory before it listens may end with status 1 and a text.
+end the server has to stop with status 0. One that lacks memory while it starts may end with status 1 and a text (`following`: without), or
+with 2 where its words find none.
 
 The table has a row for each crate: its tests, the number of failing allocations (after a `+` those that followed), and how many
 tests failed. The status is 0 if none did, and in each crate some allocation was refused.
@@ -38,6 +39,7 @@ import argparse
 import collections
 import concurrent.futures
 import contextlib
+import itertools
 import os
 import pathlib
 import shutil
@@ -203,6 +205,9 @@ REQUESTS = [
 A_CONNECTION = 9
 
 
+PORTS = itertools.cycle(range(22000, 32000))
+
+
 class Wrong(Exception):
     """What a server did that it may not do."""
 
@@ -214,11 +219,19 @@ class Asking:
         self.port, self.lacked, self.links = port, 0, []
 
     def connect(self):
-        self.links.append(socket.create_connection(("127.0.0.1", self.port), timeout=30))
+        try:
+            self.links.append(socket.create_connection(("127.0.0.1", self.port), timeout=30))
+        except ConnectionRefusedError as error:
+            raise Wrong("nobody listens any more") from error
+        except ConnectionResetError:
+            # (the server had no memory for it)
+            pass
 
     def reply(self, pieces, right):
         """The reply to a request; None if the connection ended."""
         told = b""
+        if not self.links:
+            return None
         try:
             for number, piece in enumerate(pieces):
                 # (what is sent next has to come alone)
@@ -239,7 +252,7 @@ class Asking:
             told = self.reply(pieces, right)
             if told is not None and is_right(told, right):
                 return
-            self.lacked += 1
+            self.lacked += bool(self.links)
             if told is None:
                 self.connect()
             elif not told.startswith(LACKS):
@@ -284,12 +297,20 @@ def play(port, right):
     return asking.lacked
 
 
+def next_port():
+    """A port that nobody listens at, below those that the system gives to connections; each is chosen once."""
+    while True:
+        port = next(PORTS)
+        with socket.socket() as probe, contextlib.suppress(OSError):
+            probe.setsockopt(socket.SOL_SOCKET, socket.SO_REUSEADDR, 1)
+            probe.bind(("127.0.0.1", port))
+            return port
+
+
 def serve(refuser, words, folder, use, **how):
     """Starts the server so, uses it by its port, and stops it. Answers how it ended, its counts, and what the use returned; None if it never
     listened."""
-    with socket.socket() as probe:
-        probe.bind(("127.0.0.1", 0))
-        port = probe.getsockname()[1]
+    port = next_port()
     config = pathlib.Path(folder, f"{port}.toml")
     config.write_text(CONFIG.format(port=port), encoding="ascii")
     environment, count = refuser.environment(how)
@@ -300,14 +321,18 @@ def serve(refuser, words, folder, use, **how):
             used = use(port)
         # (a line that finds no memory may be lost, and after a second one it ends at once)
         for _ in range(3):
-            with contextlib.suppress(OSError, subprocess.TimeoutExpired):
+            with contextlib.suppress(OSError):
                 server.stdin.write(b"stop\n")
                 server.stdin.flush()
+            with contextlib.suppress(subprocess.TimeoutExpired):
                 server.wait(12)
                 break
         ended = subprocess.CompletedProcess(words, server.poll(), b"", server.stderr.read() if server.poll() is not None else b"it does not stop")
     except Wrong as error:
-        ended = subprocess.CompletedProcess(words, None, b"", str(error).encode())
+        # (while it starts, a client may be served already)
+        with contextlib.suppress(subprocess.TimeoutExpired):
+            server.wait(1)
+        ended = subprocess.CompletedProcess(words, server.poll(), b"", server.stderr.read() if server.poll() is not None else str(error).encode())
     finally:
         server.kill()
         server.communicate()
@@ -426,12 +451,16 @@ class Table:
         ended, _, right = serve(self.refuser, [copy], folder, right_replies)
         if ended.returncode != 0 or right is None:
             sys.exit(f"{SERVER} does not serve: {cause_of(ended)}")
+        _, (begun, _, _), _ = serve(self.refuser, [copy], folder, lambda _port: time.sleep(0.5))
         _, (count, _, _), _ = serve(self.refuser, [copy], folder, lambda port: play(port, right))
         hows = {"alone": lambda number: {"": number}, "following": lambda number: {"from": number, "to": number + IN_A_ROW, "one_in": 1}}
 
         def one(way, number):
             ended, counts, lacked = serve(self.refuser, [copy], folder, lambda port: play(port, right), **hows[way](number))
-            passed = ended.returncode == 0 or lacked is None and ended.returncode == 1 and bool(ended.stderr)
+            may_end = [0]
+            if number <= begun:
+                may_end += [1 if ended.stderr or way == "following" else 2, 2]
+            passed = ended.returncode in may_end
             return number, counts, passed, ended, lacked
 
         swept = {}
