@@ -1,5 +1,5 @@
 //! Commands that ask, and change no value.
-ghost use Rattle.std.specs.Prelude.{◌≡◌, ◌≤◌, ◌+◌, ◌++◌, OnOk, OnErr, None, Ok, codes, decimal, vec_len, vec_capacity};
+ghost use Rattle.std.specs.Prelude.{◌≡◌, ◌≤◌, ◌+◌, ◌++◌, ℕ, OnOk, OnErr, None, Ok, codes, decimal, vec_len, vec_capacity};
 ghost use Rattle.audit_model.specs.declared.command.Command.TheVariants as says;
 ghost use Rattle.cache_commands.specs.Answered.{IsAnswered};
 ghost use Rattle.cache_store.specs.Values.{IsMoment};
@@ -54,10 +54,10 @@ fn write_number_of_keys(output: &mut Vec<u8>, number: usize)
 }
 
 /// Replies to a `QUIT`.
-pub fn quit<S: Store>(store: &S, now: u64, output: &mut Vec<u8>) -> Result<(), AllocError>
-    requires { IsMoment (S.view store.now) now }
-    ensures ok { OnOk result (IsAnswered now (Ok says.Quit) None (S.view store.now)
-        (S.view store.now) output.old.items output.new.items) }
+pub fn quit<S: Store>(store: &S, output: &mut Vec<u8>) -> Result<(), AllocError>
+    ensures ok { OnOk result ((now : ℕ) → IsMoment (S.view store.now) now → IsAnswered now
+        (Ok says.Quit) None (S.view store.now) (S.view store.now) output.old.items
+        output.new.items) }
     ensures unwritten { OnErr result (output.new.items ≡ output.old.items) }
 {
     store.sound();

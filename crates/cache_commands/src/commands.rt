@@ -1,5 +1,5 @@
 //! Commands.
-ghost use Rattle.std.specs.Prelude.{◌≡◌, ◌≤◌, ◌++◌, None, IfOk, OnOk, OnErr, Ok, Err, length, vec_len, vec_capacity, ◌+◌, codes, decimal, option_map};
+ghost use Rattle.std.specs.Prelude.{◌≡◌, ◌≤◌, ◌++◌, ℕ, None, IfOk, OnOk, OnErr, Ok, Err, length, vec_len, vec_capacity, ◌+◌, codes, decimal, option_map};
 ghost use Rattle.std.specs.Result.{IsErrOf};
 ghost use Rattle.audit_model.specs.History.{accepts_values};
 ghost use Rattle.audit_model.specs.Replies.{fault_text};
@@ -92,7 +92,7 @@ pub fn set<S: Store>(
         write(output, b"OFF\n");
         return Ok(None);
     }
-    let part = store.accept(key, value, milliseconds, false, now)?;
+    let part = store.accept(key, value, milliseconds, now)?;
     write(output, b"OK\n");
     Ok(Some(Accepted { part }))
 }
@@ -154,15 +154,9 @@ fn write_counts(output: &mut Vec<u8>, counts: Counts)
 }
 
 /// Replies to a line that cannot be read.
-pub fn fault<S: Store>(
-    store: &S,
-    error: LineError,
-    now: u64,
-    output: &mut Vec<u8>,
-) -> Result<(), AllocError>
-    requires { IsMoment (S.view store.now) now }
-    ensures ok { OnOk result (IsAnswered now (Err error) None (S.view store.now) (S.view store.now)
-        output.old.items output.new.items) }
+pub fn fault<S: Store>(store: &S, error: LineError, output: &mut Vec<u8>) -> Result<(), AllocError>
+    ensures ok { OnOk result ((now : ℕ) → IsMoment (S.view store.now) now → IsAnswered now
+        (Err error) None (S.view store.now) (S.view store.now) output.old.items output.new.items) }
     ensures unwritten { OnErr result (output.new.items ≡ output.old.items) }
 {
     store.sound();

@@ -88,7 +88,7 @@ impl<S: Store> Keyed<S> {
                 self.key.fill(key)?;
                 let part = self
                     .store
-                    .accept(&self.key, bytes.as_slice(), *milliseconds, false, now)?;
+                    .accept(&self.key, bytes.as_slice(), *milliseconds, now)?;
                 Ok(Some(Accepted { part }))
             }
             Outcome::None => Ok(None),

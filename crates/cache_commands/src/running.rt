@@ -83,8 +83,8 @@ impl<S: Store> Keyed<S> {
             Request::DropIf { prefix } => drop_prefix(&mut self.store, prefix, now, reply)?,
             Request::Keys => keys(&self.store, now, reply)?,
             Request::Sync => sync(&mut self.store, now, reply)?,
-            Request::Quit => quit(&self.store, now, reply)?,
-            Request::Fault(error) => fault(&self.store, error, now, reply)?,
+            Request::Quit => quit(&self.store, reply)?,
+            Request::Fault(error) => fault(&self.store, error, reply)?,
         }
         Ok(Ran::Answered(None))
     }

@@ -114,7 +114,7 @@ fn accept_sum<S: Store>(
     output.try_reserve(SHORT)?;
     let mut buffer = Buffer::new();
     let digits = buffer.format(sum).as_bytes();
-    let part = store.accept(key, digits, milliseconds, true, now)?;
+    let part = store.accept(key, digits, milliseconds, now)?;
     write_line(output, b"VAL ", digits);
     Ok(part)
 }

@@ -23,7 +23,7 @@ use Rattle.cache_lines.specs.Ended.{spare_of}
 use Rattle.cache_lines.specs.Gathered.{IsFresh, adds, gathered, stage, written}
 use Rattle.cache_lines.specs.Leads.Leads.{BeginsUnknown}
 use Rattle.cache_lines.specs.Making.{Making, making_of}
-use Rattle.cache_lines.specs.Tape.Taped.{HasSpare, IsBegun, Taped, started}
+use Rattle.cache_lines.specs.Tape.Taped.{HasSpare, IsBegun, Taped, spends, started}
 use Rattle.cache_lines.specs.Waiting.{is_load, under_way}
 use Rattle.cache_lines.specs.Whole.{held_line}
 use Rattle.cache_lines.specs.declared.base.Base.{Base}
@@ -34,7 +34,7 @@ use Rattle.cache_core.proofs.connections.Getting.{found-at}
 use Rattle.cache_core.specs.Connection.Fed.{StepRan, seen_of}
 use Rattle.cache_core.specs.Connections.Presence.{Presence, reply_text_of, text_at, Here, is_here}
 use Rattle.cache_core.specs.Fed.{seen_at, ReplacedAt}
-use Rattle.cache_core.specs.Settled.{IsAmid, Parts, Piece}
+use Rattle.cache_core.specs.Settled.{HasSpareFor, IsAmid, Parts, Piece}
 use Rattle.cache_core.specs.Settling.{PartsUnknown, Reruns, AreThere, IsWaitingAt, LeavesOthers}
 use Rattle.cache_core.specs.State.{at_number}
 use Rattle.cache_core.specs.Turned.{replies_to}
@@ -48,9 +48,14 @@ room-left k lines None (Some t) same spare room = let no : true ≡ false = same
 room-left k lines (Some t) None same spare room = let no : false ≡ true = same in cc
 room-left k lines (Some t) (Some u) same spare room = let h : t.spare ≤ u.spare + k = spare in omega (arith, h, room)
 
-room-some : (a : Option Taped) → MatchOption a (Unit {0}) (λ t. 1 ≤ t.spare) → HasSpare a
+pub room-some : (a : Option Taped) → MatchOption a (Unit {0}) (λ t. 1 ≤ t.spare) → HasSpare a
 room-some None room = tt
 room-some (Some t) room = let h : 1 ≤ t.spare = room in let is : 0 < t.spare = omega (arith, h) in is
+
+-- a step that is held back leaves room for those that had room behind it
+pub spares-on : (lines : ℕ) (a b : Option Taped) (step : Step) → b ≡ option_map (spends step) a → HasSpareFor (suc lines) a → HasSpareFor lines b
+spares-on lines None b step is room = subst (HasSpareFor lines) (sym is) tt
+spares-on lines (Some t) b step is room = let h : suc lines ≤ t.spare = room in let le : lines ≤ t.spare - 1 = omega (arith, h) in subst (HasSpareFor lines) (sym is) le
 
 pub room-least : (a b : ℕ) (t : Option Taped) → b ≤ a → MatchOption t (Unit {0}) (λ x. a ≤ x.spare) → MatchOption t (Unit {0}) (λ x. b ≤ x.spare)
 room-least a b None le room = tt

@@ -105,6 +105,10 @@ pub record Piece {S T : Type 0} (view : S → Values) (tape : T → Option Taped
       ++ (if is_some (tape was.tape) then [] else flat_map (λ step. step.notices) steps)
   pub moves : (n : ℕ) → Moves making.config (own_steps n steps) (course_at old n) (course_at new n)
 
+-- if a record is made, so many steps can still be held back
+abbrev pub HasSpareFor : ℕ → Option Taped → Type 0
+HasSpareFor lines tape = MatchOption tape (Unit {0}) (λ t. lines ≤ t.spare)
+
 -- what is kept through a record: this moment, nothing outside the record, and this many lines of room
 pub record IsAmid {S T : Type 0} (view : S → Values) (tape : T → Option Taped) (now : ℕ)
     (base : Base S T) (connections : List Presence) (lines : ℕ) : Type 0 where
@@ -112,7 +116,7 @@ pub record IsAmid {S T : Type 0} (view : S → Values) (tape : T → Option Tape
   pub untaken : is_some (tape base.tape) ≡ true → (view base.store).untaken ≡ []
   pub outputs : is_some (tape base.tape) ≡ true → (n : ℕ)
       → at_number [] (map reply_text_of connections) n ≡ []
-  pub room : MatchOption (tape base.tape) (Unit {0}) (λ t. lines ≤ t.spare)
+  pub room : HasSpareFor lines (tape base.tape)
 
 -- a part of a record: from whatever values were held
 pub record Parts {S T : Type 0} (view : S → Values) (tape : T → Option Taped) (now : ℕ)

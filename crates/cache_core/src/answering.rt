@@ -149,7 +149,7 @@ impl<S: Store, T: Tape> Interior<S, T> {
             unreachable!();
         };
         let waiting = settled.waiting.as_slice();
-        self.tell_all(now, waiting, outcome);
+        self.tell_all(waiting, outcome);
         self.resume_all(now, waiting);
     }
 }

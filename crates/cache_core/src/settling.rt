@@ -5,7 +5,7 @@ ghost use Rattle.audit_model.specs.Places.{tasks_to_give_up};
 ghost use Rattle.audit_model.specs.Replies.{outcome_text};
 ghost use Rattle.audit_model.specs.Steps.{Deliver, RunAgain, RunLines};
 ghost use Rattle.cache_core.specs.Fed.{seen_at};
-ghost use Rattle.cache_core.specs.Settled.{IsAmid, Parts};
+ghost use Rattle.cache_core.specs.Settled.{HasSpareFor, IsAmid, Parts};
 ghost use Rattle.cache_core.specs.Settling.{AreThere, AreWaiting, HasReplyRoomAt, HaveReplyRoom, IsWaitingAt, LeavesOthers, PartsUnknown, Reruns, ResumesAt, runs_at, runs_with};
 ghost use Rattle.cache_lines.specs.Bases.{CanRun};
 ghost use Rattle.cache_lines.specs.Ended.{spare_of};
@@ -72,24 +72,29 @@ impl<S: Store, T: Tape> Interior<S, T> {
     }
 
     /// Hands the outcome to the connection at a place, whose `LOAD` waits, in reserved room.
-    fn tell_at(&mut self, now: u64, index: usize, outcome: &Outcome)
-        requires amid { IsAmid S.view T.view now self.old.base self.old.connections 1 }
+    fn tell_at(&mut self, index: usize, outcome: &Outcome)
+        requires spare { HasSpareFor 1 (T.view self.old.base.tape) }
         requires inside { index < length self.old.connections }
         requires waits { IsWaitingAt (S.view self.old.base.store).frame.config self.old.connections
             (index + 1) }
         requires room { HasReplyRoomAt self.old.connections (length (outcome_text outcome.now))
             index }
-        ensures ran { Parts S.view T.view now self.old.base self.new.base self.old.connections
+        ensures ran { (now : ℕ) → IsAmid S.view T.view now self.old.base self.old.connections 1
+            → Parts S.view T.view now self.old.base self.new.base self.old.connections
             self.new.connections (Deliver (index + 1) outcome.now ∷ []) }
-        ensures amid { (lines : ℕ) → IsAmid S.view T.view now self.old.base self.old.connections
-            (suc lines) → IsAmid S.view T.view now self.new.base self.new.connections lines }
+        ensures amid { (now lines : ℕ) → IsAmid S.view T.view now self.old.base
+            self.old.connections (suc lines)
+            → IsAmid S.view T.view now self.new.base self.new.connections lines }
+        ensures spare { (lines : ℕ) → HasSpareFor (suc lines) (T.view self.old.base.tape)
+            → HasSpareFor lines (T.view self.new.base.tape) }
+        ensures store { self.new.base.store ≡ self.old.base.store }
         ensures others { LeavesOthers self.old.connections self.new.connections index }
         ensures goes { SameTaken self.old.base.loads self.new.base.loads }
     {
         self.base.store.sound();
         let number = number_at(&self.connections, index);
         let mut connection = self.connections.take(index);
-        deliver(&mut self.base, now, number, &mut connection, outcome);
+        deliver(&mut self.base, number, &mut connection, outcome);
         self.connections.put(index, connection);
     }
 
@@ -131,24 +136,25 @@ impl<S: Store, T: Tape> Interior<S, T> {
     }
 
     /// Hands the outcome to those connections, one after another, whose `LOAD`s wait; each runs lines then. There is room for each reply.
-    pub fn tell_all(&mut self, now: u64, waiting: &[u64], outcome: &Outcome)
-        requires amid { IsAmid S.view T.view now self.old.base self.old.connections
-            (length waiting.now) }
+    pub fn tell_all(&mut self, waiting: &[u64], outcome: &Outcome)
+        requires spare { HasSpareFor (length waiting.now) (T.view self.old.base.tape) }
         requires waits { AreWaiting (S.view self.old.base.store).frame.config self.old.connections
             waiting.now }
         requires room { HaveReplyRoom self.old.connections (length (outcome_text outcome.now))
             waiting.now }
-        ensures ran { Parts S.view T.view now self.old.base self.new.base self.old.connections
-            self.new.connections (map (λ conn. Deliver conn outcome.now) waiting.now) }
-        ensures amid { (lines : ℕ) → IsAmid S.view T.view now self.old.base self.old.connections
-            (length waiting.now + lines) → IsAmid S.view T.view now self.new.base
-            self.new.connections lines }
+        ensures ran { (now : ℕ) → IsAmid S.view T.view now self.old.base self.old.connections
+            (length waiting.now) → Parts S.view T.view now self.old.base self.new.base
+            self.old.connections self.new.connections
+            (map (λ conn. Deliver conn outcome.now) waiting.now) }
+        ensures amid { (now lines : ℕ) → IsAmid S.view T.view now self.old.base
+            self.old.connections (length waiting.now + lines)
+            → IsAmid S.view T.view now self.new.base self.new.connections lines }
         ensures count { length self.new.connections ≡ length self.old.connections }
         ensures goes { SameTaken self.old.base.loads self.new.base.loads }
     {
         for number in waiting {
             let index = (*number - 1) as usize;
-            self.tell_at(now, index, outcome);
+            self.tell_at(index, outcome);
         }
     }
 

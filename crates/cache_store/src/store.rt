@@ -1,5 +1,5 @@
 //! The values of one namespace, as its service sees them.
-ghost use Rattle.std.specs.Prelude.{◌≡◌, ◌++◌, true, false, length, map, IfOk, OnOk, OnErr};
+ghost use Rattle.std.specs.Prelude.{◌≡◌, ◌++◌, Bool, true, false, length, map, IfOk, OnOk, OnErr};
 ghost use Rattle.std.specs.List.{concat};
 ghost use Rattle.std.specs.Option.{option_map};
 ghost use Rattle.std.specs.Result.{IsErrOf};
@@ -74,20 +74,18 @@ pub trait Store: Drop {
         ensures does { OnOk result (Does now (using key.now) (view self.old) (view self.new)) }
         ensures unchanged { OnErr result (self.new ≡ self.old) };
 
-    /// Accepts a value that lives this many milliseconds, and returns its part. `looked_up` says whether the same step is a look-up of the
-    /// key too.
+    /// Accepts a value that lives this many milliseconds, and returns its part. The same step may be a look-up of the key too.
     fn accept(
         &mut self,
         key: &Key,
         bytes: &[u8],
         milliseconds: Option<u64>,
-        looked_up: bool,
         now: u64,
     ) -> Result<u64, StoreError>
         requires in_time { IsMoment (view self.old) now }
         requires fits { IsAcceptable (view self.old).frame.config bytes.now milliseconds }
-        ensures does { IfOk result (λ part. AcceptsValue now key.now bytes.now milliseconds
-            looked_up part (view self.old) (view self.new)) }
+        ensures does { IfOk result (λ part. (looked_up : Bool) → AcceptsValue now key.now bytes.now
+            milliseconds looked_up part (view self.old) (view self.new)) }
         ensures used_up { IsErrOf result StoreError.UsedUp → IsSpent (view self.old) }
         ensures unchanged { OnErr result (self.new ≡ self.old) };
 

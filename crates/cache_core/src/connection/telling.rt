@@ -1,9 +1,10 @@
 //! A waiting `LOAD` that receives its load's outcome.
-ghost use Rattle.std.specs.Prelude.{◌≡◌, ◌+◌, ◌≤◌, None, true, length, vec_len, vec_capacity};
+ghost use Rattle.std.specs.Prelude.{◌≡◌, ◌+◌, ◌≤◌, ℕ, None, true, length, suc, vec_len, vec_capacity};
 ghost use Rattle.audit_model.specs.Grammar.{reading};
 ghost use Rattle.audit_model.specs.Replies.{outcome_text};
 ghost use Rattle.audit_model.specs.Steps.{Deliver};
 ghost use Rattle.cache_core.specs.Connection.Fed.{IsReplied, StepRan, seen_of};
+ghost use Rattle.cache_core.specs.Settled.{HasSpareFor};
 ghost use Rattle.cache_lines.specs.Bases.{CanRun};
 ghost use Rattle.cache_lines.specs.Ended.{spare_of};
 ghost use Rattle.cache_lines.specs.Waiting.{is_load};
@@ -42,12 +43,11 @@ fn reply_with<T: Tape>(tape: &mut T, number: u64, connection: &mut Connection, o
 /// Hands the outcome to an open connection whose `LOAD` waits, in one step and in reserved room; it runs lines then.
 pub fn deliver<S: Store, T: Tape>(
     base: &mut Base<S, T>,
-    now: u64,
     number: u64,
     connection: &mut Connection,
     outcome: &Outcome,
 )
-    requires can_run { CanRun now (seen_of S.view T.view base.old connection.old) }
+    requires spare { HasSpare (T.view base.old.tape) }
     requires waits { connection.old.standing ≡ stands.Waiting }
     requires open { connection.old.closing ≡ None }
     requires load { is_load
@@ -55,10 +55,13 @@ pub fn deliver<S: Store, T: Tape>(
         ≡ true }
     requires room { vec_len connection.old.output.text + length (outcome_text outcome.now)
         ≤ vec_capacity connection.old.output.text }
-    ensures ran { StepRan now number (Deliver number outcome.now) connection.old
-        connection.new (seen_of S.view T.view base.old connection.old)
+    ensures ran { (now : ℕ) → CanRun now (seen_of S.view T.view base.old connection.old)
+        → StepRan now number (Deliver number outcome.now) connection.old connection.new
+        (seen_of S.view T.view base.old connection.old)
         (seen_of S.view T.view base.new connection.new) }
     ensures spare { spare_of (T.view base.old.tape) ≤ spare_of (T.view base.new.tape) + 1 }
+    ensures further { (lines : ℕ) → HasSpareFor (suc lines) (T.view base.old.tape)
+        → HasSpareFor lines (T.view base.new.tape) }
     ensures rest { base.new ≡ record base.old { tape = base.new.tape } }
 {
     base.store.sound();

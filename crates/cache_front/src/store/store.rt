@@ -149,7 +149,6 @@ impl<R: Rng + Drop, S: BuildHasher + Drop> Store for FrontStore<R, S> {
         key: &Key,
         bytes: &[u8],
         milliseconds: Option<u64>,
-        looked_up: bool,
         now: u64,
     ) -> Result<u64, StoreError> {
         let value = prepare(self.alloc, &mut self.notes, self.count, bytes, milliseconds)?;

@@ -36,7 +36,7 @@ fn accepts<S: Store>(store: &mut S, config: &Config, now: u64, key: &Key, value:
     if !takes_values(config.capacity) || value.len() > 8192 {
         return false;
     }
-    store.accept(key, value, None, false, now) == Ok(0)
+    store.accept(key, value, None, now) == Ok(0)
 }
 
 /// Accepts a value of a key. Where memory is wanted for it, so many values are held as before, the key has the value that it had, and

@@ -66,13 +66,12 @@ impl<S: Store> Store for Lacking<S> {
         key: &Key,
         bytes: &[u8],
         milliseconds: Option<u64>,
-        looked_up: bool,
         now: u64,
     ) -> Result<u64, StoreError> {
         if is_lacking(now) {
             return Err(StoreError::OutOfMemory);
         }
-        self.inner.accept(key, bytes, milliseconds, looked_up, now)
+        self.inner.accept(key, bytes, milliseconds, now)
     }
 
     fn remove(&mut self, key: &Key, now: u64) -> Result<(), StoreError> {

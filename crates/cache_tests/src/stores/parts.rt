@@ -183,7 +183,7 @@ fn part_in_new(alloc: Global, parts: u32, key: &Key) -> Result<u64, StoreError> 
     let config = Config { parts, ..PLAIN };
     let generator = SplitMix64::seed_from_u64(1);
     let mut store = FrontStore::new(alloc, config, 0, generator, ByLength)?;
-    store.accept(key, b"1", None, false, 0)
+    store.accept(key, b"1", None, 0)
 }
 
 /// The same by the key's name.
@@ -217,9 +217,9 @@ fn have_two_parts(alloc: Global, one: &Key, other: &Key) -> Result<bool, StoreEr
     let generator = SplitMix64::seed_from_u64(1);
     let hasher = KeyedHasher::new(b"sixteen bytes ...");
     let mut store = FrontStore::new(alloc, TWO, 0, generator, hasher)?;
-    let first = store.accept(one, b"1", None, false, 0);
-    let second = store.accept(other, b"1", None, false, 0);
-    let again = store.accept(one, b"2", None, true, 0);
+    let first = store.accept(one, b"1", None, 0);
+    let second = store.accept(other, b"1", None, 0);
+    let again = store.accept(one, b"2", None, 0);
     Ok(first.is_ok() && second.is_ok() && first != second && first == again)
 }
 

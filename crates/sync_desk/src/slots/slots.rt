@@ -175,10 +175,10 @@ impl<V: Drop, F: Drop> Slots<V, F> {
         Some(hash)
     }
 
-    /// Removes a turn of this kind, and returns how it ended.
-    fn take(&mut self, kind: TurnKind, number: u64) -> Ending<V, F>
-        requires { IfSome (slot_at number self.old.slots) (λ slot. slot.kind ≡ kind) }
-        ensures fits { fits kind result ≡ true }
+    /// Removes a turn, and returns how it ended.
+    fn take(&mut self, number: u64) -> Ending<V, F>
+        ensures fits { (kind : TurnKind) → IfSome (slot_at number self.old.slots)
+            (λ slot. slot.kind ≡ kind) → fits kind result ≡ true }
         ensures tells { result ≡ told_of (slot_at number self.old.slots) }
         ensures takes { IsPutAt number None self.old.slots self.new.slots }
     {
@@ -209,15 +209,15 @@ impl<V: Clone + Drop, F: Clone + Drop> Slots<V, F> {
             return Ok(Ending::Underway);
         }
         if slot.waiting <= 1 {
-            return Ok(self.take(kind, number));
+            return Ok(self.take(number));
         }
-        self.leave(kind, number)
+        self.leave(number)
     }
 
     /// One less waits for a turn, and gets a clone of what it ended with.
-    fn leave(&mut self, kind: TurnKind, number: u64) -> Result<Ending<V, F>, AllocError>
-        requires { IfSome (slot_at number self.old.slots) (λ slot. slot.kind ≡ kind) }
-        ensures fits { IfOk result (λ ending. fits kind ending ≡ true) }
+    fn leave(&mut self, number: u64) -> Result<Ending<V, F>, AllocError>
+        ensures fits { IfOk result (λ ending. (kind : TurnKind) → IfSome
+            (slot_at number self.old.slots) (λ slot. slot.kind ≡ kind) → fits kind ending ≡ true) }
         ensures tells { IsExact V.is_clone → IsExact F.is_clone
             → IfOk result (λ ending. ending ≡ told_of (slot_at number self.old.slots)) }
         ensures leaves { IsPutAt number (option_map with_one_less (slot_at number self.old.slots))

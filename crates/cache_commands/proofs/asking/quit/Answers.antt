@@ -3,4 +3,4 @@ use Rattle.cache_commands.proofs.Adding.{follows}
 use Rattle.cache_commands.proofs.asking.quit.Goals as goal
 
 pub returns-clause-ok : goal.returns-clause-ok
-returns-clause-ok g c = follows c.write_short.result (λ w. answered-quit _ _ _ _ c.sound.ensures c.requires.0 w) c.write_short.ensures.written
+returns-clause-ok g c = follows c.write_short.result (λ w now moment. answered-quit now _ _ _ c.sound.ensures moment.0 w) c.write_short.ensures.written

@@ -1,4 +1,4 @@
-use Rattle.std.proofs.Common.{sym, ap, ◌∙◌, subst, None}
+use Rattle.std.proofs.Common.{sym, ap, ◌∙◌, subst, None, false}
 use Rattle.audit_model.specs.History.{accepts_values}
 use Rattle.audit_model.specs.declared.config.Config.{Config}
 use Rattle.cache_commands.specs.Answered.{IsStored}
@@ -15,7 +15,7 @@ returns-in_ok-part-in-Value-clause-ok g c =
     let is = c.self.view_is in
     rw (← c.in-Value.is) at (stored-value _ _ _ _ _ _ _ (rw is at c.sound.ensures)
     (ap (λ (f : Config). accepts_values f.capacity) (sym (rw is at c.config.ensures)) ∙ sym c.accepts.ensures ∙ c.if-not-accepts.false)
-    (rw c.as_slice.ensures at (rw c.in_ok-fill-in-Value.ensures at (rw is at c.in_ok-part-in-Value.ensures.does))))
+    (rw c.as_slice.ensures at (rw c.in_ok-fill-in-Value.ensures at (rw is at (c.in_ok-part-in-Value.ensures.does false)))))
 
 pub returns-in-None-clause-ok : goal.returns-in-None-clause-ok
 returns-in-None-clause-ok g c =
