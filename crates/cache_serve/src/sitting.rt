@@ -1,5 +1,5 @@
 //! The host of a connection that has a seat of a shared service.
-ghost use Rattle.std.specs.Prelude.{◌≡◌, ◌≤◌, ◌⊎◌, ◌-◌, ◌^◌, true, false, IfOk, IfErr, IfSome, OnOk, OnErr};
+ghost use Rattle.std.specs.Prelude.{◌≡◌, ◌≤◌, ◌⊎◌, ◌-◌, ◌^◌, Bool, true, false, IfOk, IfErr, IfSome, OnOk, OnErr};
 ghost use Rattle.audit_model.specs.declared.input.Conn.{Conn};
 ghost use Rattle.cache_run.specs.Driver.Hosting.{Stops};
 ghost use Rattle.cache_serve.specs.Asked.{give_up_input};
@@ -75,8 +75,9 @@ impl<'a, L: Seating, C: Shareable, T: Teller, R: Wait> Sitting<'a, L, C, T, R> {
     }
 
     /// Gives what is owed, and counts the reply bytes.
-    fn give(&mut self, owed: Owed, held: bool, wants_loads: bool) -> Given
-        ensures { (conn : Conn) → Owes L.configs C.spaces C.untaken conn wants_loads owed
+    fn give(&mut self, owed: Owed, held: bool) -> Given
+        ensures { (conn : Conn) (wants_loads : Bool)
+            → Owes L.configs C.spaces C.untaken conn wants_loads owed
             → Gives L.configs C.spaces C.untaken conn wants_loads result }
     {
         if let Some(text) = &owed.replies {
@@ -114,7 +115,7 @@ impl<'a, L: Seating, C: Shareable, T: Teller, R: Wait> Sitting<'a, L, C, T, R> {
         };
         self.tell_notes(conn.namespace);
         let is_held = matches!(turn.output, Output::Held);
-        Ok(self.give(turn.owed, is_held, wants_loads))
+        Ok(self.give(turn.owed, is_held))
     }
 
     /// What a connection is owed; notes are reported.
@@ -124,7 +125,7 @@ impl<'a, L: Seating, C: Shareable, T: Teller, R: Wait> Sitting<'a, L, C, T, R> {
         let notes = &mut self.notes;
         let owed = self.shared.take_owed(self.rt, conn, wants_loads, notes);
         self.tell_notes(conn.namespace);
-        self.give(owed, false, wants_loads)
+        self.give(owed, false)
     }
 
     /// Gives up a load. If that is refused for memory, it is tried again. `None` if it is not under way.
