@@ -66,8 +66,8 @@ pub fn led_obeys()
     ensures { LedObeys }
 {}
 
-/// `first_break` is the first record that breaks a rule: up to it and with it the transcript is not faultless (`is_good`). It is the first
-/// record that does not follow from the situation before it, or with which a key gets a second part.
+/// `first_break` is the first record that breaks a rule: up to it and with it the transcript is not faultless (`is_good`). That is the
+/// first record that does not follow from the situation before it, or with which a key gets a second part.
 pub fn breaks_agree()
     ensures { BreaksAgree }
 {}
@@ -93,8 +93,8 @@ pub fn nothing_told_size()
     ensures { NothingToldSize }
 {}
 
-/// A key that has no live value gets one only by a step that accepts it: no event does that, and so it is between any two steps of a record,
-/// and between any two situations that records lead to.
+/// A key that has no live value gets one only by a step that accepts it: no event does that, and so it is between any two steps of a
+/// record, and between any two situations that records lead to.
 pub fn live_by_acceptance()
     ensures { LiveByAcceptance }
 {}
@@ -127,9 +127,9 @@ pub fn belongs_step_by_step()
     ensures { BelongsStepByStep }
 {}
 
-/// How records that belong to a list of inputs are added to. If one more input comes, they still belong to the inputs without a record of
-/// it, or with one more record, whose event is the input and which follows from the last situation. Two lists of inputs, with records that
-/// lead from one situation to the next, may be concatenated.
+/// How records that belong to a list of inputs are added to. If one more input comes, the records still belong to the inputs without a
+/// record of it, or with one more record, whose event is the input and which follows from the last situation. Two lists of inputs, with
+/// records that lead from one situation to the next, may be concatenated.
 pub fn belongs_on()
     ensures { BelongsOn }
 {}

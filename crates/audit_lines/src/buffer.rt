@@ -8,10 +8,10 @@ use memchr::memchr;
 use std::alloc::{AllocError, Global};
 use std::marker::Model;
 
-/// A line has at most this many bytes before its line feed.
+/// The maximum number of bytes of a line before its line feed.
 pub const MAX_LINE: usize = 8192;
 
-/// Bytes that came and that no line has used.
+/// Bytes of a connection that came and that no line has used.
 #[derive(Drop)]
 pub struct Buffer {
     bytes: Vec<u8>,
@@ -31,19 +31,19 @@ impl Model for Buffer {
     ghost invariant = { λ b. b.start ≤ length b.bytes.items };
 }
 
-/// What stands at the front of a stream.
+/// What stands at the front of a stream of bytes.
 #[derive(Clone, Copy, Debug, PartialEq, Eq)]
 pub enum Next {
-    /// A line of this many bytes, and its line feed.
+    /// A line of this many bytes before its line feed.
     Line(usize),
-    /// Less than a line.
+    /// Less than a whole line.
     More,
-    /// More bytes than a line may have.
+    /// More than 8192 bytes without a line feed.
     TooLong,
 }
 
 impl Buffer {
-    /// An empty buffer, which takes no memory.
+    /// Creates an empty buffer. The call allocates nothing.
     pub fn new(alloc: Global) -> Buffer
         ensures { result ≡ record { bytes = []; room = 0 } }
     {
@@ -53,7 +53,8 @@ impl Buffer {
         }
     }
 
-    /// Makes room for `n` more bytes. It is refused only if there was less room.
+    /// Makes room for `n` more bytes. Returns an error only if there was less room and there is not enough memory; the bytes are then as
+    /// before.
     pub fn reserve(&mut self, n: usize) -> Result<(), AllocError>
         ensures ok { OnOk result (n ≤ self.new.room) }
         ensures bytes { self.new.bytes ≡ self.old.bytes }
@@ -64,7 +65,7 @@ impl Buffer {
         self.bytes.reserve(n)
     }
 
-    /// Takes a piece for which there is room.
+    /// Appends a piece for which there is room.
     pub fn append(&mut self, piece: &[u8])
         requires { length piece.now ≤ self.old.room }
         ensures bytes { self.new.bytes ≡ self.old.bytes ++ piece.now }
@@ -73,14 +74,14 @@ impl Buffer {
         append_within(&mut self.bytes, piece);
     }
 
-    /// What stands at the front.
+    /// Returns what stands at the front of the buffer.
     pub fn next(&self) -> Next
         ensures { IsNext self.now.bytes result }
     {
         next_in(&self.bytes[self.start..])
     }
 
-    /// The line of `n` bytes at the front, without one carriage return at its end.
+    /// Returns the line of `n` bytes at the front, without one carriage return at its end.
     pub fn line(&self, n: usize) -> &[u8]
         requires { n < length self.now.bytes }
         ensures line { result.now ≡ without_return (take n self.now.bytes) }
@@ -89,7 +90,7 @@ impl Buffer {
         without_return(&self.bytes[self.start..self.start + n])
     }
 
-    /// Drops the line of `n` bytes at the front, and its line feed.
+    /// Removes the line of `n` bytes at the front, and its line feed.
     pub fn skip(&mut self, n: usize)
         requires { n < length self.old.bytes }
         ensures bytes { self.new.bytes ≡ drop (n + 1) self.old.bytes }
@@ -98,7 +99,7 @@ impl Buffer {
         self.start = self.start + n + 1;
     }
 
-    /// Drops all that came, and gives its memory back.
+    /// Removes all bytes, and gives their memory back.
     pub fn clear(&mut self)
         ensures { self.new ≡ record { bytes = []; room = 0 } }
     {
@@ -107,21 +108,21 @@ impl Buffer {
         self.start = 0;
     }
 
-    /// The bytes that no line has used.
+    /// Returns the bytes that no line has used.
     pub fn as_slice(&self) -> &[u8]
         ensures { result.now ≡ self.now.bytes }
     {
         &self.bytes[self.start..]
     }
 
-    /// How many bytes no line has used.
+    /// Returns how many bytes no line has used.
     pub fn len(&self) -> usize
         ensures { result ≡ length self.now.bytes }
     {
         self.bytes.len() - self.start
     }
 
-    /// Whether lines have used each byte.
+    /// Returns whether lines have used each byte.
     pub fn is_empty(&self) -> bool
         ensures { result ≡ (length self.now.bytes == 0) }
     {
@@ -168,7 +169,8 @@ fn append_within(bytes: &mut Vec<u8>, piece: &[u8])
     };
 }
 
-/// What stands at the front of the bytes: a line of at most 8192 bytes and its line feed, less than a line, or more bytes than a line may have.
+/// Returns what stands at the front of the bytes: a line of at most 8192 bytes and its line feed, less than a line, or more bytes than a
+/// line may have.
 pub fn next_in(bytes: &[u8]) -> Next
     ensures { IsNext bytes.now result }
 {
@@ -180,7 +182,7 @@ pub fn next_in(bytes: &[u8]) -> Next
     }
 }
 
-/// The line without one carriage return at its end.
+/// Returns the line without one carriage return at its end.
 pub fn without_return(line: &[u8]) -> &[u8]
     ensures line { result.now ≡ without_return line.now }
     ensures short { length result.now ≤ length line.now }

@@ -10,7 +10,7 @@ const MAX_DEADLINE: usize = 12;
 /// A number has at most this many digits.
 const MAX_NUMBER: usize = 20;
 
-/// The number that at most twelve digits write.
+/// Returns the number that at most twelve digits write, or `None` if the word is not of this form.
 pub fn milliseconds(word: &[u8]) -> Option<u64>
     ensures said { result
         ≡ (if is_numeral 12 word.now then Some (digits_value 10 word.now) else None) }
@@ -29,7 +29,7 @@ pub fn milliseconds(word: &[u8]) -> Option<u64>
     Some(value)
 }
 
-/// The number that at most twenty digits write, if it is at most 2^64 - 1.
+/// Returns the number that at most twenty digits write, or `None` if the word is not of this form or the number is above 2^64 - 1.
 pub fn number(word: &[u8]) -> Option<u64>
     ensures { result ≡ number_in word.now }
 {

@@ -14,58 +14,81 @@ use memchr::{memchr, memchr2};
 /// A key has at most this many bytes.
 const MAX_KEY: usize = 250;
 
-/// A line that was read, with its words as they are in the line, or its first fault.
+/// A line that was read, with its words as they are in the line, or its first fault. Deadlines are in milliseconds.
 #[derive(Clone, Copy)]
 pub enum Request<'a> {
+    /// `SET`, with `None` for a deadline of `-`.
     Set {
         key: &'a [u8],
         deadline: Option<u64>,
         value: &'a [u8],
     },
+    /// `GET`.
     Get {
         key: &'a [u8],
     },
+    /// `HAS`.
     Has {
         key: &'a [u8],
     },
+    /// `LOAD`.
     Load {
         key: &'a [u8],
     },
+    /// `DEL`.
     Del {
         key: &'a [u8],
     },
+    /// `ADD`, with `None` for a deadline of `-`.
     Add {
         key: &'a [u8],
         deadline: Option<u64>,
         number: u64,
     },
+    /// `CLEAR`.
     Clear,
+    /// `DROPIF`.
     DropIf {
         prefix: &'a [u8],
     },
+    /// `KEYS`.
     Keys,
+    /// `SYNC`.
     Sync,
+    /// `QUIT`.
     Quit,
+    /// A line that cannot be parsed, by its first fault.
     Fault(LineError),
 }
 
-/// A command's word.
+/// The word of a command, with which its line begins.
 #[derive(Clone, Copy)]
 pub enum Word {
+    /// `SET`.
     Set,
+    /// `GET`.
     Get,
+    /// `HAS`.
     Has,
+    /// `LOAD`.
     Load,
+    /// `DEL`.
     Del,
+    /// `ADD`.
     Add,
+    /// `CLEAR`.
     Clear,
+    /// `DROPIF`.
     DropIf,
+    /// `KEYS`.
     Keys,
+    /// `SYNC`.
     Sync,
+    /// `QUIT`.
     Quit,
 }
 
-/// What a line says.
+/// Returns what a line says, which has neither its line feed nor a carriage return before it.
 pub fn read_line<'a>(config: &Config, line: &'a [u8]) -> Request<'a>
     ensures said { said result ≡ reading config.now line.now }
     ensures fit { IsFit config.now line.now result }

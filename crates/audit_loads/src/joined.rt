@@ -5,14 +5,14 @@ ghost use Rattle.audit_loads.specs.Underway.{load_of};
 use std::alloc::AllocError;
 use std::collections::BTreeMap;
 
-/// The load that a connection waits for.
+/// Returns the number of the load that a connection waits for, or `None` if it waits for none.
 pub fn load_of(joined: &BTreeMap<u64, u64>, conn: u64) -> Option<u64>
     ensures { result ≡ load_of conn joined.now }
 {
     joined.get(&conn).copied()
 }
 
-/// Has a connection wait for a load.
+/// Makes a connection wait for a load. Returns an error if there is not enough memory; then nothing has changed.
 pub fn put_waiting(
     joined: &mut BTreeMap<u64, u64>,
     conn: u64,
@@ -26,7 +26,7 @@ pub fn put_waiting(
     Ok(())
 }
 
-/// A connection waits no more; which load it waited for.
+/// Makes a connection wait no more, and returns the number of the load that it waited for, or `None`.
 pub fn take_waiting(joined: &mut BTreeMap<u64, u64>, conn: u64) -> Option<u64>
     ensures found { result ≡ load_of conn joined.old }
     ensures rest { (q : ℕ) → load_of q joined.new ≡ cond (conn == q) None (load_of q joined.old) }

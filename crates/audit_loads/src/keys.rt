@@ -6,14 +6,14 @@ ghost use Rattle.audit_loads.specs.Underway.{number_at};
 use std::alloc::AllocError;
 use std::collections::BTreeMap;
 
-/// The number at a key.
+/// Returns the number at a key, or `None` if there is none.
 pub fn number_at(keys: &BTreeMap<Vec<u8>, u64>, key: &[u8]) -> Option<u64>
     ensures { result ≡ number_at key.now keys.now }
 {
     keys.get(key).copied()
 }
 
-/// Puts a number at a key.
+/// Puts a number at a key. Returns an error if there is not enough memory; then nothing has changed.
 pub fn put_key(
     keys: &mut BTreeMap<Vec<u8>, u64>,
     key: Vec<u8>,
@@ -27,7 +27,7 @@ pub fn put_key(
     Ok(())
 }
 
-/// Takes a key out.
+/// Removes a key.
 pub fn remove_key(keys: &mut BTreeMap<Vec<u8>, u64>, key: &[u8])
     ensures { (q : List ℕ) → number_at q keys.new
         ≡ cond (same key.now q) None (number_at q keys.old) }

@@ -26,7 +26,7 @@ impl Model for Key {
 }
 
 impl Key {
-    /// Creates a key without bytes, with room for this many.
+    /// Creates a key without bytes, with room for this many. Returns an error if there is not enough memory.
     pub fn with_capacity(alloc: Global, room: usize) -> Result<Key, AllocError>
         ensures { IfOk result (λ made. made ≡ []) }
     {
@@ -41,14 +41,14 @@ impl Key {
         self.bytes.as_slice()
     }
 
-    /// Replaces the bytes of the key. This allocates nothing if there is room for them.
+    /// Replaces the bytes of the key. Returns an error if there is not enough memory, which is not needed if there is room for the bytes.
     pub fn fill(&mut self, bytes: &[u8]) -> Result<(), AllocError>
         ensures { OnOk result (self.new ≡ bytes.now) }
     {
         refill(&mut self.bytes, bytes)
     }
 
-    /// Returns its bytes, moved out.
+    /// Returns the bytes of the key, moved out.
     pub fn into_vec(self) -> Vec<u8>
         ensures { result.items ≡ self }
     {

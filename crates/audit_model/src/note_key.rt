@@ -16,8 +16,8 @@ enum KeyBytes {
 
 /// The key of a note. Contracts see its bytes.
 ///
-/// It owns its bytes, or shares the key with the store that reported the note, so that a store reports a note, and returns it, without
-/// allocating.
+/// A note's key owns its bytes, or shares the key with the store that reported the note, so that a store reports a note, and returns it,
+/// without allocating.
 #[derive(Drop)]
 pub struct NoteKey {
     bytes: KeyBytes,

@@ -7,7 +7,7 @@ use crate::waiters::Waiters;
 use audit_loads::take_waiting;
 use std::collections::BTreeMap;
 
-/// None of these connections waits any more.
+/// Makes each of these connections wait no more.
 pub fn remove_all(joined: &mut BTreeMap<u64, u64>, conns: &Waiters)
     ensures { (q : ℕ) → load_of q joined.new
         ≡ cond (list_any (λ n. n == q) conns.now) None (load_of q joined.old) }

@@ -17,8 +17,11 @@ const MAX: usize = 8192;
 /// Whether a connection runs lines, holds one back, or waits with a `LOAD`.
 #[derive(Drop)]
 pub enum LinkStanding {
+    /// The connection runs lines.
     Ready,
+    /// The connection holds this line back.
     Held(Bytes),
+    /// The connection waits with this `LOAD`.
     Waiting(Bytes),
 }
 
@@ -46,7 +49,7 @@ impl Model for Link {
 }
 
 impl Link {
-    /// A connection that nothing has come to.
+    /// Creates a connection to which no byte has come.
     pub fn new(alloc: Global, number: u64) -> Link
         ensures { result ≡ record { number = number; unread = []; standing = Ready; waited = 0 } }
     {
@@ -58,21 +61,21 @@ impl Link {
         }
     }
 
-    /// Its number.
+    /// Returns the connection's number.
     pub fn number(&self) -> u64
         ensures { result ≡ self.now.number }
     {
         self.number
     }
 
-    /// How often its `LOAD` that has no reply yet began to wait.
+    /// Returns how often the connection's `LOAD` that has no reply yet began to wait.
     pub fn waited(&self) -> u64
         ensures { result ≡ self.now.waited }
     {
         self.waited
     }
 
-    /// Whether it runs lines.
+    /// Returns whether the connection runs lines.
     pub fn is_ready(&self) -> bool
         ensures { result ≡ is_ready self.now.standing }
     {
@@ -83,7 +86,7 @@ impl Link {
         }
     }
 
-    /// Whether it holds a line back.
+    /// Returns whether the connection holds a line back.
     pub fn is_holding(&self) -> bool
         ensures { result ≡ is_holding self.now.standing }
     {
@@ -94,7 +97,7 @@ impl Link {
         }
     }
 
-    /// Whether its `LOAD` waits.
+    /// Returns whether the connection's `LOAD` waits.
     pub fn is_waiting(&self) -> bool
         ensures { result ≡ is_waiting_now self.now.standing }
     {
@@ -105,7 +108,7 @@ impl Link {
         }
     }
 
-    /// The line that it holds back or waits with.
+    /// Returns the line that the connection holds back or waits with, or `None` if it runs lines.
     pub fn kept_line(&self) -> Option<&[u8]>
         ensures { option_map (λ l. l.now) result ≡ kept_line self.now.standing }
     {
@@ -116,14 +119,14 @@ impl Link {
         }
     }
 
-    /// Its unread bytes.
+    /// Returns the connection's unread bytes.
     pub fn unread(&self) -> &[u8]
         ensures { result.now ≡ self.now.unread }
     {
         self.unread.as_slice()
     }
 
-    /// Takes a piece of its bytes.
+    /// Appends a piece to the connection's unread bytes. Returns an error if there is not enough memory.
     pub fn feed(&mut self, piece: &[u8]) -> Result<(), AllocError>
         ensures fed { OnOk result
             (self.new ≡ record self.old { unread = self.old.unread ++ piece.now }) }
@@ -134,7 +137,7 @@ impl Link {
         Ok(())
     }
 
-    /// Reads its first line off.
+    /// Removes the connection's first line from its unread bytes.
     pub fn read_off(&mut self)
         ensures { self.new ≡ record self.old { unread = behind_lines 1 self.old.unread } }
     {
@@ -144,7 +147,7 @@ impl Link {
         }
     }
 
-    /// Leaves it as a step of its own does.
+    /// Sets how the connection stands after a step of its own, and how often its `LOAD` began to wait.
     pub fn settle(&mut self, standing: LinkStanding, waited: u64)
         ensures { self.new
             ≡ record self.old { standing = shown_standing standing; waited = waited } }
@@ -163,7 +166,7 @@ fn end_of_line(bytes: &[u8]) -> Option<usize>
     memchr(b'\n', bytes)
 }
 
-/// The first line, once its line feed has come.
+/// Returns the first line, or `None` if its line feed has not come.
 pub fn first_line(bytes: &[u8]) -> Option<&[u8]>
     ensures { option_map (λ l. l.now) result ≡ first_line bytes.now }
 {
@@ -183,7 +186,7 @@ fn is_long(bytes: &[u8]) -> bool
     }
 }
 
-/// Whether it closes for too long a line, or for too many bytes behind its waiting `LOAD`.
+/// Returns whether a connection closes, for too long a line or for too many bytes behind its waiting `LOAD`.
 pub fn is_overlong(link: &Link) -> bool
     ensures { result ≡ is_overlong link.now }
 {
@@ -191,16 +194,16 @@ pub fn is_overlong(link: &Link) -> bool
     (link.is_ready() && is_long(unread)) || (link.is_waiting() && unread.len() > MAX)
 }
 
-/// What a step of a connection does to it.
+/// What a step of a connection does to the connection.
 #[derive(Clone, Copy)]
 pub struct Moving<'a> {
-    /// It reads its first line off.
+    /// Whether the step reads the connection's first line off.
     pub reads: bool,
-    /// It is held back.
+    /// Whether the step is held back.
     pub holds: bool,
-    /// It has a reply.
+    /// Whether the step has a reply.
     pub replies: bool,
-    /// Its line.
+    /// The step's line.
     pub line: &'a [u8],
 }
 
@@ -246,7 +249,7 @@ fn read_where(link: &mut Link, reads: bool)
     }
 }
 
-/// Does to a connection what its own step does.
+/// Does to a connection what its own step does. Returns an error if there is not enough memory.
 pub fn move_on(alloc: Global, link: &mut Link, moving: Moving<'_>) -> Result<(), AllocError>
     ensures moved { OnOk result (link.new ≡ moved_as moving.entry link.old) }
     ensures number { link.new.number ≡ link.old.number }
@@ -265,7 +268,7 @@ fn closes(link: &Link, quits: bool) -> bool
     quits || is_overlong(link)
 }
 
-/// Feeds a connection, and returns whether it has to close.
+/// Feeds a connection, and returns whether it has to close. Returns an error if there is not enough memory.
 pub fn feed_link(link: &mut Link, piece: &[u8]) -> Result<bool, AllocError>
     ensures closes { IfOk result (λ b. b ≡ is_overlong (fed_with piece.now link.old)) }
     ensures fed { OnOk result (link.new ≡ fed_with piece.now link.old) }
@@ -275,7 +278,7 @@ pub fn feed_link(link: &mut Link, piece: &[u8]) -> Result<bool, AllocError>
     Ok(is_overlong(link))
 }
 
-/// Does to a connection what its own step does, and returns whether it closes.
+/// Does to a connection what its own step does, and returns whether the connection closes. Returns an error if there is not enough memory.
 pub fn move_link(
     alloc: Global,
     link: &mut Link,

@@ -34,7 +34,7 @@ impl Model for Links {
 }
 
 impl Links {
-    /// No connections.
+    /// Creates an empty table of connections.
     pub fn new(alloc: Global) -> Links
         ensures { result ≡ [] }
     {
@@ -44,14 +44,15 @@ impl Links {
         }
     }
 
-    /// The connection of that number.
+    /// Returns the connection of that number, or `None` if it is not open.
     pub fn get(&self, conn: u64) -> Option<&Link>
         ensures { option_map (λ l. l.now) result ≡ find (λ c. c.number == conn) self.now }
     {
         self.table.get(&conn)
     }
 
-    /// Adds a connection, as the last one. An `Err` is a lack of memory, or its number is not above the earlier ones.
+    /// Adds a connection, as the last one. Returns an error if there is not enough memory, or if the connection's number is not above the
+    /// earlier ones.
     pub fn add(&mut self, link: Link) -> Result<(), AllocError>
         ensures { OnOk result (self.new ≡ self.old ++ link ∷ []) }
     {
@@ -64,14 +65,14 @@ impl Links {
         Ok(())
     }
 
-    /// Leaves a connection out.
+    /// Removes a connection.
     pub fn remove(&mut self, conn: u64)
         ensures { self.new ≡ without_number conn self.old }
     {
         self.table.swap_remove(&conn);
     }
 
-    /// Feeds a connection, and returns whether it has to close.
+    /// Feeds a connection, and returns whether it has to close. Returns an error if there is not enough memory.
     pub fn feed(&mut self, conn: u64, piece: &[u8]) -> Result<bool, AllocError>
         ensures closes { IfOk result
             (λ b. b ≡ option_map_or (λ c. is_overlong (fed_with piece.now c))
@@ -85,7 +86,8 @@ impl Links {
         }
     }
 
-    /// Does to a connection what its own step does, and returns whether it closes.
+    /// Does to a connection what its own step does, and returns whether the connection closes. Returns an error if there is not enough
+    /// memory.
     pub fn move_on(
         &mut self,
         alloc: Global,

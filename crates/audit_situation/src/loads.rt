@@ -47,7 +47,7 @@ fn new_load(alloc: Global, number: u64, key: &[u8], conn: u64) -> Result<Pending
 }
 
 impl LoadTable {
-    /// No loads.
+    /// Creates an empty table of loads.
     pub fn new(alloc: Global) -> LoadTable
         ensures { result ≡ [] }
     {
@@ -60,14 +60,14 @@ impl LoadTable {
         }
     }
 
-    /// The load of that number.
+    /// Returns the load of that number, or `None` if it is not under way.
     pub fn get(&self, number: u64) -> Option<&Pending>
         ensures { option_map (λ p. p.now) result ≡ find (λ p. p.number == number) self.now }
     {
         self.table.get(number)
     }
 
-    /// The load of a key.
+    /// Returns the load of a key, or `None` if none is under way.
     pub fn of_key(&self, key: &[u8]) -> Option<&Pending>
         ensures { option_map (λ p. p.now) result ≡ find (λ p. same p.key key.now) self.now }
     {
@@ -77,8 +77,8 @@ impl LoadTable {
         }
     }
 
-    /// Adds a load of a key, for which a connection waits. An `Err` is a lack of memory, or the number is not above the earlier ones, or
-    /// the key has a load, or the connection waits for one.
+    /// Adds a load of a key, for which a connection waits. Returns an error if there is not enough memory, the number is not above the
+    /// earlier ones, the key has a load, or the connection waits for one.
     pub fn send(&mut self, number: u64, key: &[u8], conn: u64) -> Result<(), AllocError>
         ensures { OnOk result
             (self.new ≡ record { number = number; key = key.now; waiting = conn ∷ [] } ∷ self.old) }
@@ -97,8 +97,8 @@ impl LoadTable {
         self.table.add(load)
     }
 
-    /// Makes a connection join those that wait for the load of a key, if there is one. An `Err` is a lack of memory, or the connection
-    /// waits for a load.
+    /// Makes a connection join those that wait for the load of a key, if there is one. Returns an error if there is not enough memory, or
+    /// the connection waits for a load.
     pub fn join(&mut self, conn: u64, key: &[u8]) -> Result<(), AllocError>
         ensures { OnOk result (self.new ≡ map (with_waiting conn key.now) self.old) }
     {
@@ -112,7 +112,7 @@ impl LoadTable {
         self.table.join(number, conn)
     }
 
-    /// A connection waits for no load any more.
+    /// Makes a connection wait for no load.
     pub fn leave(&mut self, conn: u64)
         ensures { self.new ≡ map (without_waiting conn) self.old }
     {
@@ -121,7 +121,7 @@ impl LoadTable {
         }
     }
 
-    /// Leaves a load out.
+    /// Removes a load.
     pub fn remove(&mut self, number: u64)
         ensures { self.new ≡ filter (λ p. not (p.number == number)) self.old }
     {

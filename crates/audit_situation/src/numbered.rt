@@ -29,7 +29,7 @@ impl Model for Numbered {
 }
 
 impl Numbered {
-    /// No loads.
+    /// Creates an empty table of loads.
     pub fn new(alloc: Global) -> Numbered
         ensures { result ≡ [] }
     {
@@ -38,14 +38,14 @@ impl Numbered {
         }
     }
 
-    /// The load of that number.
+    /// Returns the load of that number, or `None` if there is none.
     pub fn get(&self, number: u64) -> Option<&Pending>
         ensures { option_map (λ p. p.now) result ≡ find (λ p. p.number == number) self.now }
     {
         self.table.get(&number)
     }
 
-    /// Adds a load, as the first one.
+    /// Adds a load, as the first one. Returns an error if there is not enough memory; then nothing has changed.
     pub fn add(&mut self, load: Pending) -> Result<(), AllocError>
         requires { list_all (λ p. nat_lt p.number load.number) self.old ≡ true }
         ensures added { OnOk result (self.new ≡ load ∷ self.old) }
@@ -55,7 +55,7 @@ impl Numbered {
         Ok(())
     }
 
-    /// Takes the load of that number.
+    /// Removes the load of that number, and returns it, or `None` if there is none.
     pub fn take(&mut self, number: u64) -> Option<Pending>
         ensures found { result ≡ find (λ p. p.number == number) self.old }
         ensures rest { self.new ≡ filter (λ p. not (p.number == number)) self.old }
@@ -63,7 +63,7 @@ impl Numbered {
         self.table.swap_remove(&number)
     }
 
-    /// A connection waits no more for the load of that number.
+    /// Makes a connection wait no more for the load of that number.
     pub fn leave(&mut self, number: u64, conn: u64)
         ensures { self.new ≡ map (changed_at (λ p. p.number) number (without_waiting conn))
             self.old }
@@ -73,7 +73,8 @@ impl Numbered {
         }
     }
 
-    /// A connection joins those that wait for the load of that number.
+    /// Makes a connection join those that wait for the load of that number. Returns an error if there is not enough memory; then nothing
+    /// has changed.
     pub fn join(&mut self, number: u64, conn: u64) -> Result<(), AllocError>
         ensures joined { OnOk result (self.new ≡ map (changed_at (λ p. p.number) number
             (λ p. record p { waiting = p.waiting ++ conn ∷ [] })) self.old) }

@@ -24,7 +24,7 @@ impl Model for Pending {
 }
 
 impl Pending {
-    /// A load of a key, for which these connections wait.
+    /// Creates a load of a key, for which these connections wait.
     pub fn new(number: u64, key: Bytes, waiting: Waiters) -> Pending
         ensures { result ≡ record { number = number; key = key; waiting = waiting } }
     {
@@ -35,42 +35,44 @@ impl Pending {
         }
     }
 
-    /// Its number.
+    /// Returns the load's number.
     pub fn number(&self) -> u64
         ensures { result ≡ self.now.number }
     {
         self.number
     }
 
-    /// Its key.
+    /// Returns the load's key.
     pub fn key(&self) -> &[u8]
         ensures { result.now ≡ self.now.key }
     {
         self.key.as_slice()
     }
 
-    /// The connections that wait for it.
+    /// Returns the connections that wait for the load.
     pub fn waiters(&self) -> &Waiters
         ensures { result.now ≡ self.now.waiting }
     {
         &self.waiting
     }
 
-    /// The connections that wait for it, in the order in which they joined.
+    /// Returns the numbers of the connections that wait for the load, in the order in which they joined. Returns an error if there is not
+    /// enough memory.
     pub fn waiting(&self, alloc: Global) -> Result<Vec<u64>, AllocError>
         ensures { IfOk result (λ conns. conns.items ≡ self.now.waiting) }
     {
         self.waiting.to_vec(alloc)
     }
 
-    /// A connection waits for it no more.
+    /// Makes a connection wait for the load no more.
     pub fn leave(&mut self, conn: u64)
         ensures { self.new ≡ without_waiting conn self.old }
     {
         self.waiting.remove(conn);
     }
 
-    /// A connection joins those that wait for it. An `Err` is a lack of memory, or it is already among them.
+    /// Makes a connection join those that wait for the load. Returns an error if there is not enough memory, or if the connection is
+    /// already among them; then nothing has changed.
     pub fn join(&mut self, conn: u64) -> Result<(), AllocError>
         ensures joined { OnOk result
             (self.new ≡ record self.old { waiting = self.old.waiting ++ conn ∷ [] }) }

@@ -20,16 +20,23 @@ use std::alloc::{AllocError, Global};
 /// loads under way, the values held, oldest first, and whether a `DROPIF` was accepted.
 #[derive(Drop)]
 pub struct State {
+    /// The latest moment, in nanoseconds.
     pub latest: u64,
+    /// How many connections were opened.
     pub opened: u64,
+    /// How many loads were sent.
     pub sent: u64,
+    /// The open connections.
     pub connections: Links,
+    /// The loads under way.
     pub pending: LoadTable,
+    /// The values held.
     pub held: Holding,
+    /// Whether a `DROPIF` was accepted.
     pub dropped: bool,
 }
 
-/// The situation of a namespace that was made at that moment, in nanoseconds.
+/// Creates the situation of a namespace that was made at that moment, in nanoseconds. Returns an error if there is not enough memory.
 pub fn begin(alloc: Global, made: u64) -> Result<State, AllocError>
     ensures { IfOk result (λ s. shown_situation s ≡ empty_situation made) }
 {
@@ -44,14 +51,14 @@ pub fn begin(alloc: Global, made: u64) -> Result<State, AllocError>
     })
 }
 
-/// The open connection of that number.
+/// Returns the open connection of that number, or `None` if it is not open.
 pub fn find_link(links: &Links, conn: u64) -> Option<&Link>
     ensures { option_map (λ l. l.now) result ≡ find (λ c. c.number == conn) links.now }
 {
     links.get(conn)
 }
 
-/// Whether a connection's next line may run.
+/// Returns whether a connection's next line may run.
 pub fn may_run(s: &State, conn: u64) -> bool
     ensures { result ≡ may_run_in (shown_situation s.now) conn }
 {
@@ -61,7 +68,7 @@ pub fn may_run(s: &State, conn: u64) -> bool
     }
 }
 
-/// Whether a connection holds a line back.
+/// Returns whether a connection holds a line back.
 pub fn is_holding(s: &State, conn: u64) -> bool
     ensures { result ≡ is_holding_in (shown_situation s.now) conn }
 {
@@ -71,7 +78,7 @@ pub fn is_holding(s: &State, conn: u64) -> bool
     }
 }
 
-/// How often a connection's `LOAD` that has no reply yet began to wait.
+/// Returns how often a connection's `LOAD` that has no reply yet began to wait.
 pub fn waited(s: &State, conn: u64) -> u64
     ensures { result ≡ option_map_or (λ c. c.waited) (connection_in conn (shown_situation s.now))
         0 }
@@ -82,21 +89,21 @@ pub fn waited(s: &State, conn: u64) -> u64
     }
 }
 
-/// The load under way of a key.
+/// Returns the load under way of a key, or `None` if there is none.
 pub fn find_load<'a>(pending: &'a LoadTable, key: &[u8]) -> Option<&'a Pending>
     ensures { option_map (λ p. p.now) result ≡ find (λ p. same p.key key.now) pending.now }
 {
     pending.of_key(key)
 }
 
-/// The load under way of that number.
+/// Returns the load under way of that number, or `None` if there is none.
 pub fn find_pending(pending: &LoadTable, number: u64) -> Option<&Pending>
     ensures { option_map (λ p. p.now) result ≡ find (λ p. p.number == number) pending.now }
 {
     pending.get(number)
 }
 
-/// Opens a connection, with the next number.
+/// Opens a connection, with the next number. Returns an error if there is not enough memory.
 pub fn open(alloc: Global, s: &mut State, conn: u64) -> Result<(), AllocError>
     ensures { OnOk result (shown_situation s.new ≡ record (shown_situation s.old) {
       opened = conn;
@@ -108,7 +115,7 @@ pub fn open(alloc: Global, s: &mut State, conn: u64) -> Result<(), AllocError>
     Ok(())
 }
 
-/// Closes a connection; its load stays under way.
+/// Closes a connection. The load that it waits for stays under way.
 pub fn close(s: &mut State, conn: u64)
     ensures { shown_situation s.new ≡ without_connection conn (shown_situation s.old) }
 {
@@ -116,7 +123,7 @@ pub fn close(s: &mut State, conn: u64)
     s.pending.leave(conn);
 }
 
-/// Takes a piece for a connection.
+/// Appends a piece to the bytes of a connection. Returns an error if there is not enough memory.
 pub fn feed(s: &mut State, conn: u64, piece: &[u8]) -> Result<(), AllocError>
     requires { IsTrue (have_numbers_apart s.old.connections) }
     ensures { OnOk result (shown_situation s.new ≡ fed_to conn piece.now (shown_situation s.old)) }
@@ -143,7 +150,8 @@ fn send(s: &mut State, conn: u64, key: &[u8], number: u64) -> Result<(), AllocEr
     Ok(())
 }
 
-/// What a step does to the loads: a `LOAD` that waits joins its key's load, or the load that it sent.
+/// Does to the loads what a step does: a `LOAD` that waits joins its key's load, or the load that it sent. Returns an error if there is not
+/// enough memory.
 pub fn join(
     s: &mut State,
     conn: u64,
@@ -164,16 +172,18 @@ pub fn join(
     }
 }
 
-/// What a step of a connection does.
+/// What a step of a connection does to the connection and the loads.
 #[derive(Clone, Copy)]
 pub struct Moved<'a> {
+    /// The number of the connection.
     pub conn: u64,
+    /// What the step does to the connection.
     pub moving: Moving<'a>,
-    /// It is a `QUIT`.
+    /// Whether the step is a `QUIT`.
     pub quits: bool,
-    /// The key of its `LOAD`.
+    /// The key of the step's `LOAD`.
     pub key: Option<&'a [u8]>,
-    /// The load that it sent.
+    /// The number of the load that the step sent.
     pub load: Option<u64>,
 }
 
@@ -184,7 +194,7 @@ fn waits(moving: Moving<'_>) -> bool
     !moving.replies && !moving.holds
 }
 
-/// Does to the connection of a step, and to the loads, what the step does.
+/// Does to the connection of a step, and to the loads, what the step does. Returns an error if there is not enough memory.
 pub fn pass(alloc: Global, s: &mut State, moved: Moved<'_>) -> Result<(), AllocError>
     requires { IsTrue (have_numbers_apart s.old.connections) }
     ensures { OnOk result (shown_situation s.new ≡ moved_by moved.entry (shown_situation s.old)) }
@@ -217,7 +227,7 @@ fn move_in(
     Ok(())
 }
 
-/// A load is settled at a moment.
+/// Settles a load at a moment, in nanoseconds.
 pub fn settle(s: &mut State, number: u64, moment: u64)
     ensures { shown_situation s.new ≡ without_load number moment (shown_situation s.old) }
 {

@@ -23,7 +23,7 @@ impl Model for Waiters {
 }
 
 impl Waiters {
-    /// No connections.
+    /// Creates an empty list of connections.
     pub fn new(alloc: Global) -> Waiters
         ensures { result ≡ [] }
     {
@@ -32,7 +32,7 @@ impl Waiters {
         }
     }
 
-    /// The connections in their order.
+    /// Returns the numbers of the connections, in their order.
     pub fn iter(&self) -> Iter<'_, u64>
         ensures rest { result ≡ self.now }
         ensures runs { ShowsInOrder (deref {X = ℕ}) }
@@ -40,7 +40,8 @@ impl Waiters {
         self.conns.iter()
     }
 
-    /// Adds a connection, as the last one. An `Err` is a lack of memory, or it is already there.
+    /// Adds a connection, as the last one. Returns an error if there is not enough memory, or if the connection is already there; then
+    /// nothing has changed.
     pub fn push(&mut self, conn: u64) -> Result<(), AllocError>
         ensures added { OnOk result (self.new ≡ self.old ++ conn ∷ []) }
         ensures unchanged { OnErr result (self.new ≡ self.old) }
@@ -52,14 +53,14 @@ impl Waiters {
         Ok(())
     }
 
-    /// Takes a connection out; the others keep their order.
+    /// Removes a connection. The others keep their order.
     pub fn remove(&mut self, conn: u64)
         ensures { self.new ≡ filter (λ n. not (n == conn)) self.old }
     {
         self.conns.shift_remove(&conn);
     }
 
-    /// The connections in their order.
+    /// Returns the numbers of the connections, in their order. Returns an error if there is not enough memory.
     pub fn to_vec(&self, alloc: Global) -> Result<Vec<u64>, AllocError>
         ensures { IfOk result (λ conns. conns.items ≡ self.now) }
     {

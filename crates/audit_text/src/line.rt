@@ -9,7 +9,7 @@ use crate::words::{
 use audit_model::{Accepted, Bytes, Config, Event, Instant, Note, Outcome, Step};
 use std::alloc::AllocError;
 
-/// Appends the line `config` with the settings of a namespace. Fails only without memory.
+/// Appends the line `config` with the settings of a namespace. Returns an error if there is not enough memory.
 pub fn put_config(text: &mut Vec<u8>, config: &Config) -> Result<(), AllocError>
     ensures { OnOk result (text.new.items ≡ text.old.items ++ line (config_words config.now)) }
 {
@@ -57,7 +57,7 @@ fn put_number_setting(
     Ok(())
 }
 
-/// Appends the line `made` with the moment of creation, in nanoseconds. Fails only without memory.
+/// Appends the line `made` with the moment of creation, in nanoseconds. Returns an error if there is not enough memory.
 pub fn put_made(text: &mut Vec<u8>, made: Instant) -> Result<(), AllocError>
     ensures { OnOk result (text.new.items ≡ text.old.items ++ line (made_words made.nanos)) }
 {
@@ -66,7 +66,7 @@ pub fn put_made(text: &mut Vec<u8>, made: Instant) -> Result<(), AllocError>
     Ok(())
 }
 
-/// Appends the line of an event. Fails only without memory.
+/// Appends the line of an event. Returns an error if there is not enough memory.
 pub fn put_event(text: &mut Vec<u8>, event: &Event) -> Result<(), AllocError>
     ensures { OnOk result (text.new.items ≡ text.old.items ++ line (event_words event.now)) }
 {
@@ -96,7 +96,7 @@ fn put_open(text: &mut Vec<u8>, conn: u64) -> Result<(), AllocError>
     Ok(())
 }
 
-/// Appends the line `close` of a connection. Fails only without memory.
+/// Appends the line `close` of a connection. Returns an error if there is not enough memory.
 pub fn put_close(text: &mut Vec<u8>, conn: u64) -> Result<(), AllocError>
     ensures { OnOk result
         (text.new.items ≡ text.old.items ++ line (codes "close" ∷ decimal conn ∷ [])) }
@@ -106,7 +106,7 @@ pub fn put_close(text: &mut Vec<u8>, conn: u64) -> Result<(), AllocError>
     Ok(())
 }
 
-/// Appends the line `feed` of a connection: the moment, in nanoseconds, and the bytes. Fails only without memory.
+/// Appends the line `feed` of a connection: the moment, in nanoseconds, and the bytes. Returns an error if there is not enough memory.
 pub fn put_feed(
     text: &mut Vec<u8>,
     conn: u64,
@@ -123,7 +123,7 @@ pub fn put_feed(
     Ok(())
 }
 
-/// Appends the line `answer` of a load: the moment, in nanoseconds, and the outcome. Fails only without memory.
+/// Appends the line `answer` of a load: the moment, in nanoseconds, and the outcome. Returns an error if there is not enough memory.
 pub fn put_answer(
     text: &mut Vec<u8>,
     load: u64,
@@ -169,7 +169,7 @@ fn put_fault(text: &mut Vec<u8>, fault: &Bytes) -> Result<(), AllocError>
     Ok(())
 }
 
-/// Appends the line `giveup` of a load, with the moment, in nanoseconds. Fails only without memory.
+/// Appends the line `giveup` of a load, with the moment, in nanoseconds. Returns an error if there is not enough memory.
 pub fn put_give_up(text: &mut Vec<u8>, load: u64, moment: Instant) -> Result<(), AllocError>
     ensures { OnOk result (text.new.items ≡ text.old.items
         ++ line (codes "giveup" ∷ decimal load ∷ decimal moment.nanos ∷ [])) }
@@ -180,7 +180,7 @@ pub fn put_give_up(text: &mut Vec<u8>, load: u64, moment: Instant) -> Result<(),
     Ok(())
 }
 
-/// Appends the line `own` with the part that took an answer's value, if one did. Fails only without memory.
+/// Appends the line `own` with the part that took an answer's value, if one did. Returns an error if there is not enough memory.
 pub fn put_own(text: &mut Vec<u8>, own: Option<Accepted>) -> Result<(), AllocError>
     ensures { OnOk result (text.new.items ≡ text.old.items ++ own_text own) }
 {
@@ -199,7 +199,7 @@ fn put_own_part(text: &mut Vec<u8>, part: u64) -> Result<(), AllocError>
     Ok(())
 }
 
-/// Appends the line of a note: `note` or `ownnote`, cause, key and value. Fails only without memory.
+/// Appends the line of a note: `note` or `ownnote`, cause, key and value. Returns an error if there is not enough memory.
 pub fn put_note(text: &mut Vec<u8>, word: &[u8], note: &Note) -> Result<(), AllocError>
     ensures { OnOk result (text.new.items ≡ text.old.items ++ note_line word.now note.now) }
 {
@@ -210,7 +210,7 @@ pub fn put_note(text: &mut Vec<u8>, word: &[u8], note: &Note) -> Result<(), Allo
     Ok(())
 }
 
-/// Appends the line `step` of a step, without its notes. Fails only without memory.
+/// Appends the line `step` of a step, without its notes. Returns an error if there is not enough memory.
 pub fn put_step(text: &mut Vec<u8>, step: &Step) -> Result<(), AllocError>
     ensures { OnOk result (text.new.items ≡ text.old.items ++ line (step_words step.now)) }
 {

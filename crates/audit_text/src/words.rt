@@ -14,7 +14,7 @@ fn hex_digit(n: u8) -> u8
     if n < 10 { b'0' + n } else { b'a' - 10 + n }
 }
 
-/// The word of a policy.
+/// Returns the word of a policy.
 pub fn policy_word(policy: EvictionPolicy) -> &'static [u8]
     ensures { result.now ≡ policy_word policy }
 {
@@ -24,7 +24,7 @@ pub fn policy_word(policy: EvictionPolicy) -> &'static [u8]
     }
 }
 
-/// The word of a weight.
+/// Returns the word of a weight.
 pub fn weight_word(weight: Weight) -> &'static [u8]
     ensures { result.now ≡ weight_word weight }
 {
@@ -34,21 +34,21 @@ pub fn weight_word(weight: Weight) -> &'static [u8]
     }
 }
 
-/// The word of whether a step was held back.
+/// Returns the word of whether a step was held back.
 pub fn held_word(held: bool) -> &'static [u8]
     ensures { result.now ≡ held_word held }
 {
     if held { b"held" } else { b"run" }
 }
 
-/// The word of yes or no.
+/// Returns the word of yes or no.
 pub fn flag_word(flag: bool) -> &'static [u8]
     ensures { result.now ≡ flag_word flag }
 {
     if flag { b"1" } else { b"0" }
 }
 
-/// Writes a word.
+/// Appends a word. Returns an error if there is not enough memory.
 pub fn put(text: &mut Vec<u8>, word: &[u8], end: u8) -> Result<(), AllocError>
     ensures { OnOk result (text.new.items ≡ text.old.items ++ (word.now ++ end ∷ [])) }
 {
@@ -57,7 +57,7 @@ pub fn put(text: &mut Vec<u8>, word: &[u8], end: u8) -> Result<(), AllocError>
     Ok(())
 }
 
-/// Writes a number in decimal.
+/// Appends a number in decimal. Returns an error if there is not enough memory.
 pub fn put_number(text: &mut Vec<u8>, number: u64, end: u8) -> Result<(), AllocError>
     ensures { OnOk result (text.new.items ≡ text.old.items ++ (decimal number ++ end ∷ [])) }
 {
@@ -65,7 +65,7 @@ pub fn put_number(text: &mut Vec<u8>, number: u64, end: u8) -> Result<(), AllocE
     put(text, digits.format(number).as_bytes(), end)
 }
 
-/// Writes a number in decimal, or `-` for none.
+/// Appends a number in decimal, or `-` for none. Returns an error if there is not enough memory.
 pub fn put_number_or_none(
     text: &mut Vec<u8>,
     number: Option<u64>,
@@ -80,7 +80,7 @@ pub fn put_number_or_none(
     }
 }
 
-/// Writes bytes as digits.
+/// Appends bytes as digits. Returns an error if there is not enough memory.
 pub fn put_bytes(text: &mut Vec<u8>, bytes: &[u8], end: u8) -> Result<(), AllocError>
     ensures { OnOk result (text.new.items ≡ text.old.items ++ (bytes_word bytes.now ++ end ∷ [])) }
 {

@@ -7,7 +7,7 @@ use crate::line::{put_config, put_event, put_made, put_note, put_own, put_step};
 use audit_model::{Config, Note, Record, Step, Transcript};
 use std::alloc::{AllocError, Global};
 
-/// The text of a transcript with its configuration. Fails only without memory, and then there is no text.
+/// Returns the text of a transcript with its configuration. Returns an error if there is not enough memory.
 pub fn write_transcript(
     alloc: Global,
     config: &Config,
@@ -60,7 +60,7 @@ fn put_steps(text: &mut Vec<u8>, steps: &[Step]) -> Result<(), AllocError>
     Ok(())
 }
 
-/// Writes a step with its notes.
+/// Appends a step with its notes. Returns an error if there is not enough memory.
 pub fn put_whole_step(text: &mut Vec<u8>, step: &Step) -> Result<(), AllocError>
     ensures { OnOk result (text.new.items ≡ text.old.items ++ step_text step.now) }
 {

@@ -7,7 +7,7 @@ use std::fmt::Display;
 use std::io::Write;
 use std::time::{Clock, SystemTime, UNIX_EPOCH};
 
-/// Writes messages, each on a line of its own with the time.
+/// A writer of messages, each on a line of its own with the time.
 #[derive(Drop)]
 pub struct Alarms<R: Clock + Copy, E: Write + Drop> {
     rt: R,
@@ -16,7 +16,7 @@ pub struct Alarms<R: Clock + Copy, E: Write + Drop> {
 }
 
 impl<R: Clock + Copy, E: Write + Drop> Alarms<R, E> {
-    /// Messages go to this writer.
+    /// Creates a writer of messages to `writer`.
     pub fn new(rt: R, alloc: Global, writer: E) -> Alarms<R, E> {
         Alarms {
             rt,

@@ -25,7 +25,7 @@ const VERSION: &[u8] = b"bivrangd 0.1.0\n";
 /// The command that lists all that is wrong with a configuration file.
 const CHECK: &str = "bivrangd --check";
 
-/// What the program is told by its threads, and how they tell it.
+/// The two ends of the channel by which threads report to the program.
 pub type Orders = (Sender<Told, Global>, Receiver<Told, Global>);
 
 /// The text of a fault.
@@ -40,8 +40,8 @@ fn text_of(fault: Fault) -> &'static str {
     }
 }
 
-/// The program, with its arguments and streams. Returns its status: 0 after it was told to stop, 1 after an error, 2 if the arguments are
-/// wrong.
+/// Runs the program with its arguments and streams. Returns its status: 0 after it was told to stop, 1 after an error, 2 if the
+/// arguments are wrong.
 pub fn bivrangd<S: AsStr, I, O: Write, E: Write + Drop, W: Shown, V: Shown, R>(
     rt: R,
     alloc: Global,
@@ -192,7 +192,8 @@ where
     Ok(())
 }
 
-/// Serves what the text of a configuration file says, until it is told to stop.
+/// Serves what the text of a configuration file says, until it is told to stop. Returns as an error why the server ends, if the file is not
+/// accepted or something fails.
 pub fn serve_text<E: Write + Drop, W: Shown, V: Shown, R: Machine + Files>(
     rt: R,
     alloc: Global,

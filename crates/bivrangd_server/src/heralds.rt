@@ -9,12 +9,16 @@ use std::alloc::{AllocError, Global};
 use std::sync::{Arc, Mutex, Wait};
 use std::time::Clock;
 
-/// Counts what leaves a namespace, and tells as much of it as the configuration says.
+/// A teller, which counts what leaves a namespace, and reports as much of it as the configuration says.
 #[derive(Drop)]
 pub struct Herald<R: Clock + Wait + Copy> {
+    /// Where notes go, and the namespace.
     pub site: Site<R>,
+    /// The allocator.
     pub alloc: Global,
+    /// How much of each note is reported.
     pub notices: Notices,
+    /// What was counted.
     pub departures: Arc<Mutex<Departures>>,
 }
 

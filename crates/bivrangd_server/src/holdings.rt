@@ -15,21 +15,23 @@ const REPLY_BYTES: usize = 4096;
 /// Where a namespace is served.
 #[derive(Drop)]
 pub enum Place {
-    /// At an address of the network.
+    /// At this address of the network.
     Address(SocketAddr),
-    /// At a path.
+    /// At this path.
     Path(String),
 }
 
 /// How many values are held, and how much they weigh.
 #[derive(Clone, Copy, Drop)]
 pub struct Holding {
+    /// How many values are held.
     pub values: u64,
+    /// What the values weigh together.
     pub weight: u64,
 }
 
 impl Place {
-    /// Where a configuration says that a namespace is served.
+    /// Returns where a configuration says that a namespace is served. Returns an error if there is not enough memory.
     pub fn of(
         alloc: Global,
         space: &HostedNamespace,
@@ -42,7 +44,7 @@ impl Place {
         }
     }
 
-    /// Asks as a client what is held, by a protocol. `None` if there is no answer within a second.
+    /// Asks as a client what is held, by a protocol. Returns `None` if there is no answer within a second.
     pub fn ask<R: Machine>(&self, rt: &R, protocol: Protocol) -> Option<Holding> {
         let second = Duration::from_secs(1);
         match self {

@@ -47,6 +47,7 @@ pub struct House<R> {
     alloc: Global,
     begun: time::Instant,
     ending: Sender<Told, Global>,
+    /// Where notes go.
     pub outlet: Arc<Outlet>,
 }
 
@@ -67,7 +68,8 @@ fn make_service<R: Machine>(rt: &R, alloc: Global, config: Config) -> Result<Ser
 }
 
 impl<R: Machine> House<R> {
-    /// Without namespaces. Its clock begins now.
+    /// Creates a house without namespaces, whose clock begins now. Returns an error if the clock cannot be read or there is not enough
+    /// memory.
     pub fn new(rt: R, alloc: Global, ending: Sender<Told, Global>) -> Result<House<R>, Ending> {
         let begun = match time::Instant::now(&rt) {
             Ok(begun) => begun,
@@ -82,7 +84,7 @@ impl<R: Machine> House<R> {
         })
     }
 
-    /// Serves all namespaces, until all loops have ended.
+    /// Serves all namespaces, until all loops have ended. Returns an error if something that it needs cannot be had.
     pub fn serve<E: Write + Drop>(
         &self,
         spaces: Vec<HostedNamespace>,

@@ -77,13 +77,13 @@ fn address_of(port: u16) -> SocketAddr {
     SocketAddr::from((Ipv4Addr::LOCALHOST, port))
 }
 
-/// A listener for the metrics.
+/// Listens for the metrics at a port of 127.0.0.1. Returns the system's error.
 pub fn listen_for_metrics<R: Machine>(rt: &R, port: u16) -> std::io::Result<TcpListener> {
     TcpListener::bind(rt, address_of(port))
 }
 
 impl Metrics {
-    /// Starts to serve the metrics of these namespaces.
+    /// Starts to serve the metrics of these namespaces. Returns an error if the thread cannot be started.
     pub fn start<R: Machine>(
         rt: R,
         alloc: Global,
@@ -102,7 +102,7 @@ impl Metrics {
         })
     }
 
-    /// Ends it.
+    /// Ends the thread.
     pub fn end<R: Machine>(self, rt: &R) {
         self.is_over.store(true, Ordering::SeqCst);
         // It looks whether it is over at the next connection.

@@ -16,14 +16,14 @@ use std::{fs, io, net};
 /// A listener of a namespace, which its loops share.
 #[derive(Drop)]
 pub enum Listener {
-    /// At an address of the network.
+    /// A listener at an address of the network.
     Tcp(net::TcpListener),
-    /// At a path.
+    /// A listener at a path.
     Unix(StdUnixListener),
 }
 
 impl Listener {
-    /// Another owner of the same listener, for a loop.
+    /// Returns another owner of the same listener, for a loop. Returns the system's error.
     pub fn doorway(&self) -> io::Result<Doorway> {
         match self {
             Listener::Tcp(listener) => {
@@ -39,13 +39,18 @@ impl Listener {
 /// The namespaces of a configuration, each with its listener, and the port of the metrics with theirs.
 #[derive(Drop)]
 pub struct Opened {
+    /// The namespaces, in the file's order.
     pub spaces: Vec<HostedNamespace>,
+    /// How each namespace is served, in the same order.
     pub hostings: Vec<Hosting>,
+    /// The listener of each namespace, in the same order.
     pub listeners: Vec<Listener>,
+    /// The port of the metrics and their listener, or `None` if they are not served.
     pub metrics: Option<(u16, net::TcpListener)>,
 }
 
-/// Reads the text of a configuration file, and listens where it says.
+/// Reads the text of a configuration file, and listens where it says. Returns an error if the file is not accepted, a listener cannot be
+/// had, or there is not enough memory.
 pub fn open_all<R: Machine + Files>(rt: &R, alloc: Global, text: &str) -> Result<Opened, Ending> {
     let Hosted {
         spaces,
@@ -122,7 +127,8 @@ fn address_of(space: &HostedNamespace, hosting: &Hosting) -> Option<SocketAddr> 
     Some(SocketAddr::from((address, space.port)))
 }
 
-/// Writes where the namespaces are served, and returns the writer.
+/// Writes where the namespaces are served, and returns the writer. Returns an error if that cannot be written or there is not enough
+/// memory.
 pub fn announce_all<W: Shown>(
     alloc: Global,
     opened: &Opened,

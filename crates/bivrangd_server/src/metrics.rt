@@ -190,7 +190,7 @@ impl Page {
 /// The bounds of turns (`cache_loop::TURN_BOUNDS`) in seconds, and the one above all.
 const BOUND_TEXTS: [&str; 6] = ["0.00001", "0.0001", "0.001", "0.01", "0.1", "+Inf"];
 
-/// The numbers of all namespaces.
+/// Returns the numbers of all namespaces, as text for Prometheus. Returns an error if there is not enough memory.
 pub fn show_metrics<R: Machine>(
     rt: &R,
     alloc: Global,

@@ -11,30 +11,35 @@ use std::sync::{Arc, Mutex, Wait};
 /// Where the numbers of a namespace are.
 #[derive(Drop)]
 pub struct Source {
+    /// The name of the namespace.
     pub name: String,
+    /// The port of the namespace.
     pub port: u16,
     place: Place,
     protocol: Protocol,
     /// How many connections are open.
     pub open: Arc<AtomicU64>,
-    /// What has left, as far as its heralds count that.
+    /// How many values have left, by cause, as far as the heralds of the namespace count that.
     pub departures: Arc<Mutex<Departures>>,
-    /// What each of its loops has counted.
+    /// What each loop of the namespace has counted.
     pub counts: Vec<Arc<Mutex<Counts>>>,
 }
 
 /// The numbers of a namespace, at some moment each.
 #[derive(Clone, Copy, Drop)]
 pub struct Reading {
+    /// How many connections were open.
     pub open: u64,
+    /// How many values had left, by cause.
     pub departures: Departures,
+    /// What the loops had counted together.
     pub counts: Counts,
-    /// Unknown if the namespace does not answer.
+    /// What was held, or `None` if the namespace did not answer.
     pub holding: Option<Holding>,
 }
 
 impl Source {
-    /// A namespace without loops.
+    /// Creates the source of a namespace without loops. Returns an error if there is not enough memory.
     pub fn new(
         alloc: Global,
         space: &HostedNamespace,
@@ -51,7 +56,7 @@ impl Source {
         })
     }
 
-    /// A place for the counts of one more loop.
+    /// Adds the counts of one more loop, and returns them. Returns an error if there is not enough memory.
     pub fn add_loop(&mut self, alloc: Global) -> Result<Arc<Mutex<Counts>>, AllocError> {
         let counts = Arc::new(alloc, Mutex::new(Counts::new()))?;
         let own = Arc::try_clone(&counts)?;
@@ -59,7 +64,7 @@ impl Source {
         Ok(counts)
     }
 
-    /// What its loops have counted.
+    /// Returns what the loops of the namespace have counted together.
     pub fn counts<R: Wait>(&self, rt: &R) -> Counts {
         let mut counts = Counts::new();
         for counted in &self.counts {
@@ -69,7 +74,7 @@ impl Source {
         counts
     }
 
-    /// Reads the numbers.
+    /// Reads the numbers of the namespace.
     pub fn read<R: Machine>(&self, rt: &R) -> Reading {
         let holding = self.place.ask(rt, self.protocol);
         let counts = self.counts(rt);

@@ -20,10 +20,10 @@ use std::{io, thread};
 /// The namespace: it is the only one of its service.
 const NAMESPACE: u64 = 0;
 
-/// What the program is told by its threads.
+/// What the threads report to the program.
 #[derive(Clone, Copy, Drop)]
 pub enum Told {
-    /// To stop.
+    /// The program is to stop.
     Stop,
     /// A loop has ended.
     Ended,
@@ -34,8 +34,11 @@ pub enum Told {
 /// The threads of all namespaces, the wakers by which they are stopped, and where their numbers are.
 #[derive(Drop)]
 pub struct Loops {
+    /// The threads.
     pub threads: Vec<JoinHandle<()>>,
+    /// The wakers by which the threads are stopped.
     pub stoppers: Vec<Waker>,
+    /// Where the numbers of each namespace are.
     pub sources: Vec<Source>,
 }
 
@@ -167,7 +170,7 @@ where
     C: Shareable + Send + 'static,
     R: Machine,
 {
-    /// Starts a loop of the namespace with this number by each gear, with a seat.
+    /// Starts a loop of the namespace with this number by each gear, each with a seat. Returns an error if a loop cannot be started.
     pub fn start(
         &self,
         gears: Vec<Gear>,

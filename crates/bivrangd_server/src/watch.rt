@@ -24,7 +24,7 @@ pub struct Watch {
 }
 
 impl Watch {
-    /// So many loops run.
+    /// Creates what is known of so many running loops. Returns an error if there is not enough memory.
     pub fn new(alloc: Global, running: usize, sources: &[Source]) -> Result<Watch, AllocError> {
         Ok(Watch {
             running,

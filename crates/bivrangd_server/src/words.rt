@@ -4,21 +4,21 @@ use std::alloc::{AllocError, Global};
 use std::convert::AsStr;
 use std::io::ErrorKind;
 
-/// What the words ask for.
+/// What the arguments ask for.
 #[derive(Clone, Copy, Drop)]
 pub enum Asked<'a> {
-    /// To serve what the configuration file at this path says.
+    /// Serve what the configuration file at this path says.
     Config(&'a str),
-    /// To say what is wrong with the configuration file at this path.
+    /// Say what is wrong with the configuration file at this path.
     Check(&'a str),
-    /// To say which version it is.
+    /// Say the version of the program.
     Version,
-    /// To say how it is used.
+    /// Say how the program is used.
     Help,
 }
 
 impl<'a> Asked<'a> {
-    /// The path of the file that is asked for; empty if none is.
+    /// Returns the path of the file that is asked for, or an empty text if none is.
     pub fn path(self) -> &'a str {
         match self {
             Asked::Config(path) | Asked::Check(path) => path,
@@ -27,8 +27,8 @@ impl<'a> Asked<'a> {
     }
 }
 
-/// Takes the arguments: exactly one of `--config FILE`, `--check FILE`, `--version` and `--help`. The first is the program's name. The error
-/// is `OutOfMemory`, or `InvalidInput` for others.
+/// Takes the arguments: exactly one of `--config FILE`, `--check FILE`, `--version` and `--help`. The first is the program's name. Returns
+/// `OutOfMemory` if there is not enough memory, and `InvalidInput` for other arguments.
 pub fn take_words<'a, S: AsStr>(alloc: Global, words: &'a [S]) -> Result<Asked<'a>, ErrorKind> {
     match match_words(alloc, words) {
         Ok(matches) => asked_by(&matches).ok_or(ErrorKind::InvalidInput),

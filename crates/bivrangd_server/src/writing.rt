@@ -16,7 +16,7 @@ pub struct Writing {
 }
 
 impl Writing {
-    /// Starts to write what an outlet takes in.
+    /// Starts to write what an outlet takes in. Returns an error if the thread cannot be started.
     pub fn start<W: Shown, V: Shown, R: Machine>(
         rt: R,
         alloc: Global,
@@ -33,7 +33,7 @@ impl Writing {
         Ok(Writing { thread, ended })
     }
 
-    /// Waits until all that the outlet took in is written, a second at most: nobody may read it.
+    /// Waits until all that the outlet took in is written, but a second at most: nobody may read it.
     pub fn end<R: Machine>(self, rt: &R, outlet: &Outlet) {
         outlet.end(rt);
         if self.ended.recv_timeout(rt, Duration::from_secs(1)).is_ok() {

@@ -11,7 +11,8 @@ use cache_store::Store;
 use itoa::Buffer;
 use std::alloc::AllocError;
 
-/// Replies to a `HAS`, which is not a use of the value.
+/// Appends the reply to a `HAS`, which is not a use of the value, to `output`. Returns an error if there is not enough memory; then nothing
+/// is written.
 pub fn has<S: Store>(store: &S, key: &Key, now: u64, output: &mut Vec<u8>) -> Result<(), AllocError>
     requires { IsMoment (S.view store.now) now }
     ensures ok { OnOk result (IsAnswered now (Ok (says.Has key.now)) None (S.view store.now)
@@ -25,7 +26,7 @@ pub fn has<S: Store>(store: &S, key: &Key, now: u64, output: &mut Vec<u8>) -> Re
     }
 }
 
-/// Replies to a `KEYS`.
+/// Appends the reply to a `KEYS` to `output`. Returns an error if there is not enough memory; then nothing is written.
 pub fn keys<S: Store>(store: &S, now: u64, output: &mut Vec<u8>) -> Result<(), AllocError>
     requires { IsMoment (S.view store.now) now }
     ensures ok { OnOk result (IsAnswered now (Ok says.Keys) None (S.view store.now)
@@ -53,7 +54,7 @@ fn write_number_of_keys(output: &mut Vec<u8>, number: usize)
     write_line(output, b"KEYS ", digits.format(number).as_bytes());
 }
 
-/// Replies to a `QUIT`.
+/// Appends the reply to a `QUIT` to `output`. Returns an error if there is not enough memory; then nothing is written.
 pub fn quit<S: Store>(store: &S, output: &mut Vec<u8>) -> Result<(), AllocError>
     ensures ok { OnOk result ((now : ℕ) → IsMoment (S.view store.now) now → IsAnswered now
         (Ok says.Quit) None (S.view store.now) (S.view store.now) output.old.items

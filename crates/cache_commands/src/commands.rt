@@ -14,10 +14,10 @@ use cache_store::{Counts, Store, StoreError};
 use itoa::Buffer;
 use std::alloc::AllocError;
 
-/// Room for each text of a reply that has no value and no key in it.
+/// The room in bytes for each text of a reply that has no value and no key in it.
 pub const SHORT: usize = 96;
 
-/// Replies to a `GET`.
+/// Runs a `GET`, and appends its reply to `output`. Returns an error if there is not enough memory; then nothing has changed.
 pub fn get<S: Store>(
     store: &mut S,
     key: &Key,
@@ -68,7 +68,8 @@ pub(crate) fn write_short(output: &mut Vec<u8>, text: &[u8]) -> Result<(), Alloc
     Ok(())
 }
 
-/// Replies to a `SET`, and returns which part took the value; none at capacity 0.
+/// Runs a `SET`, appends its reply to `output`, and returns the part that took the value, or `None` at capacity 0. Returns `OutOfMemory` if
+/// there is not enough memory, and `UsedUp` if a 64-bit number is used up; then nothing has changed.
 pub fn set<S: Store>(
     store: &mut S,
     key: &Key,
@@ -97,14 +98,15 @@ pub fn set<S: Store>(
     Ok(Some(Accepted { part }))
 }
 
-/// Whether values are accepted at that capacity.
+/// Returns whether values are accepted at that capacity.
 pub fn accepts(capacity: Option<u64>) -> bool
     ensures { result ≡ accepts_values capacity }
 {
     !matches!(capacity, Some(0))
 }
 
-/// Replies to a `DEL`.
+/// Runs a `DEL`, and appends its reply to `output`. Returns `OutOfMemory` if there is not enough memory, and `UsedUp` if a 64-bit number is
+/// used up; then nothing has changed.
 pub fn del<S: Store>(
     store: &mut S,
     key: &Key,
@@ -125,7 +127,7 @@ pub fn del<S: Store>(
     Ok(())
 }
 
-/// Replies to a `SYNC`.
+/// Runs a `SYNC`, and appends its reply to `output`. Returns an error if there is not enough memory; then nothing has changed.
 pub fn sync<S: Store>(store: &mut S, now: u64, output: &mut Vec<u8>) -> Result<(), AllocError>
     requires { IsMoment (S.view store.old) now }
     ensures ok { OnOk result (IsAnswered now (Ok says.Sync) None (S.view store.old)
@@ -153,7 +155,7 @@ fn write_counts(output: &mut Vec<u8>, counts: Counts)
     write_line(output, b" ", weight.format(counts.weight).as_bytes());
 }
 
-/// Replies to a line that cannot be read.
+/// Appends the reply to a line that cannot be parsed to `output`. Returns an error if there is not enough memory; then nothing is written.
 pub fn fault<S: Store>(store: &S, error: LineError, output: &mut Vec<u8>) -> Result<(), AllocError>
     ensures ok { OnOk result ((now : ℕ) → IsMoment (S.view store.now) now → IsAnswered now
         (Err error) None (S.view store.now) (S.view store.now) output.old.items output.new.items) }

@@ -9,7 +9,8 @@ use crate::commands::SHORT;
 use crate::writing::write;
 use cache_store::{Store, StoreError};
 
-/// Replies to a `CLEAR`.
+/// Runs a `CLEAR`, and appends its reply to `output`. Returns `OutOfMemory` if there is not enough memory, and `UsedUp` if a 64-bit number
+/// is used up; then nothing has changed.
 pub fn clear<S: Store>(store: &mut S, now: u64, output: &mut Vec<u8>) -> Result<(), StoreError>
     requires { IsMoment (S.view store.old) now }
     ensures ok { OnOk result (IsAnswered now (Ok says.Clear) None (S.view store.old)
@@ -25,7 +26,8 @@ pub fn clear<S: Store>(store: &mut S, now: u64, output: &mut Vec<u8>) -> Result<
     Ok(())
 }
 
-/// Replies to a `DROPIF`: `ERR id` if one part drew 1000 identifiers and each was registered there.
+/// Runs a `DROPIF`, and appends its reply to `output`: `ERR id` if one part drew 1000 identifiers and each was registered there. Returns
+/// `OutOfMemory` if there is not enough memory, and `UsedUp` if a 64-bit number is used up; then nothing has changed.
 pub fn drop_prefix<S: Store>(
     store: &mut S,
     prefix: &[u8],

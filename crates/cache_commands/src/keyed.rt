@@ -16,7 +16,7 @@ use std::marker::Model;
 /// The longest key, in bytes.
 const MAX_KEY: usize = 250;
 
-/// A store with a place for the key of the line that runs, so that look-ups take no memory. Contracts see the store alone.
+/// A store with a place for the key of the line that runs, so that look-ups allocate nothing. Contracts see the store alone.
 #[derive(Drop)]
 pub struct Keyed<S: Store> {
     pub(crate) store: S,
@@ -30,7 +30,7 @@ impl<S: Store> Model for Keyed<S> {
 }
 
 impl<S: Store> Keyed<S> {
-    /// A store that lines run over.
+    /// Creates a store over which lines run. Returns an error if there is not enough memory.
     pub fn new(alloc: Global, store: S) -> Result<Keyed<S>, AllocError>
         ensures { IfOk result (λ made. made ≡ store) }
     {
@@ -38,21 +38,21 @@ impl<S: Store> Keyed<S> {
         Ok(Keyed { store, key })
     }
 
-    /// The store.
+    /// Returns the store.
     pub fn store(&self) -> &S
         ensures { result.now ≡ self.now }
     {
         &self.store
     }
 
-    /// What is true of every store. It does nothing.
+    /// Does nothing. Its contract says what is true of every store.
     pub fn sound(&self)
         ensures { IsSoundStore (S.view self.now) }
     {
         self.store.sound();
     }
 
-    /// Takes the note that was reported first.
+    /// Takes the note that was reported first, or returns `None` if there is none.
     pub fn next_notice(&mut self) -> Option<Note>
         ensures taken { TakesFirstNote (S.view self.old).untaken (S.view self.new).untaken result }
         ensures gives { GivesNote (S.view self.old) (S.view self.new) }

@@ -15,8 +15,8 @@ use audit_model::{Accepted, Key, Outcome};
 use cache_store::{Store, StoreError};
 use std::alloc::AllocError;
 
-/// Replies to a `LOAD` if it finds a live value, which is a use of it, and returns whether it found one. If it found none, nothing has
-/// changed and nothing was written.
+/// Runs a `LOAD` if it finds a live value, which is a use of the value: appends its reply to `output`, and returns true. If it finds none,
+/// returns false, and nothing has changed. Returns an error if there is not enough memory; then nothing has changed.
 pub fn load<S: Store>(
     store: &mut S,
     key: &Key,
@@ -64,8 +64,9 @@ fn write_live(output: &mut Vec<u8>, found: Option<&[u8]>) -> Result<(), Unanswer
 }
 
 impl<S: Store> Keyed<S> {
-    /// Stores the value of a load's outcome under the load's key, and returns which part took it; none at capacity 0, and if the outcome is
-    /// not a value. An `Err` changes nothing.
+    /// Stores the value of a load's outcome under the load's key, and returns the part that took it, or `None` at capacity 0 and if the
+    /// outcome is not a value. Returns `OutOfMemory` if there is not enough memory, and `UsedUp` if a 64-bit number is used up; then
+    /// nothing has changed.
     pub fn store_outcome(
         &mut self,
         key: &[u8],

@@ -19,14 +19,15 @@ use cache_store::{Store, StoreError};
 /// What a line did besides its reply.
 #[derive(Clone, Copy, Drop)]
 pub enum Ran {
-    /// It was answered, and that part took its value.
+    /// The line was answered, and that part, if any, took its value.
     Answered(Option<Accepted>),
-    /// It is a `LOAD` of a key that has no live value, and did nothing.
+    /// The line is a `LOAD` of a key that has no live value, and did nothing.
     Misses,
 }
 
 impl<S: Store> Keyed<S> {
-    /// Runs a request: its reply stands behind `reply`. An `Err` changes nothing.
+    /// Runs a request, and appends its reply to `reply`. Returns `OutOfMemory` if there is not enough memory, and `UsedUp` if a 64-bit
+    /// number is used up; then nothing has changed.
     pub fn run(
         &mut self,
         request: Request,

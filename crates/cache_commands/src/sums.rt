@@ -15,7 +15,8 @@ use audit_model::{Accepted, Key};
 use cache_store::{Store, StoreError};
 use itoa::Buffer;
 
-/// Replies to an `ADD`, and returns which part took the sum; none at capacity 0, and if there is no sum.
+/// Runs an `ADD`, appends its reply to `output`, and returns the part that took the sum, or `None` at capacity 0 and if there is no sum.
+/// Returns `OutOfMemory` if there is not enough memory, and `UsedUp` if a 64-bit number is used up; then nothing has changed.
 pub fn add<S: Store>(
     store: &mut S,
     key: &Key,

@@ -22,9 +22,9 @@ use std::alloc::{AllocError, Global};
 /// What an answer's own step did.
 #[derive(Drop)]
 pub struct Stored {
-    /// The part that took the value, if any.
+    /// The part that took the value, if one did.
     pub accepted: Option<Accepted>,
-    /// What storing it reported, if records are kept.
+    /// The notes that storing the value reported, if records are kept.
     pub notes: Vec<Note>,
 }
 
@@ -85,7 +85,8 @@ fn store_noted<S: Store>(
 }
 
 impl<S: Store, T: Tape> Interior<S, T> {
-    /// Makes room for all that an answer cannot do without, stores its value under the load's key, and begins its record.
+    /// Makes room for all that an answer cannot do without, stores its value under the load's key, and begins its record. Returns an error
+    /// if there is not enough memory.
     pub fn begin_answer(
         &mut self,
         alloc: Global,
@@ -130,8 +131,8 @@ impl<S: Store, T: Tape> Interior<S, T> {
         }
     }
 
-    /// Removes the load whose answer was stored: its outcome is delivered to those that wait for it, in order, and then their lines run in the
-    /// same order.
+    /// Removes the load whose answer was stored: its outcome is delivered to those that wait for it, in order, and then their lines run in
+    /// the same order.
     pub fn hand_out(&mut self, now: u64, load: u64, outcome: &Outcome)
         requires amid { IsAmid S.view T.view now self.old.base self.old.connections (lines_for load
             (under_way self.old.base.loads)) }

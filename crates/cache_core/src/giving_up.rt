@@ -14,7 +14,8 @@ use cache_lines::{Base, Tape};
 use cache_store::Store;
 use std::alloc::AllocError;
 
-/// Begins the record of a give-up, with room to answer each `LOAD` that waits for good, and to hold back a line behind it.
+/// Begins the record of a give-up, with room to answer each `LOAD` that waits for good, and to hold back a line behind it. Returns an error
+/// if there is not enough memory; then there is no record.
 pub fn begin_give_up<S: Store, T: Tape>(base: &mut Base<S, T>, load: u64) -> Result<(), AllocError>
     requires rests { IsAtRest (T.view base.old.tape) }
     requires under { is_some (load_numbered load (loads_pending base.old.loads)) ≡ true }
@@ -32,7 +33,7 @@ pub fn begin_give_up<S: Store, T: Tape>(base: &mut Base<S, T>, load: u64) -> Res
 }
 
 impl<S: Store, T: Tape> Interior<S, T> {
-    /// Takes the load out: those that wait for it run their `LOAD`s again.
+    /// Removes the load. The connections that wait for it run their `LOAD`s again.
     pub fn settle_give_up(&mut self, now: u64, load: u64)
         requires amid { IsAmid S.view T.view now self.old.base self.old.connections (lines_for load
             (under_way self.old.base.loads)) }

@@ -6,6 +6,8 @@ use cache_store::Store;
 /// The connections of a namespace, and what their lines run over.
 #[derive(Drop)]
 pub struct Interior<S: Store, T: Tape> {
+    /// What lines run over.
     pub base: Base<S, T>,
+    /// The connections.
     pub connections: Connections,
 }

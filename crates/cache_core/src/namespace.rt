@@ -46,7 +46,8 @@ impl<S: Store, T: Tape> Model for Namespace<S, T> {
 }
 
 impl<S: Store, T: Tape> Namespace<S, T> {
-    /// A namespace without connections, over a store whose latest moment that is.
+    /// Creates a namespace without connections, over a store whose latest moment is `latest`, in nanoseconds. Returns an error if there is
+    /// not enough memory.
     pub fn new(
         alloc: Global,
         namespace: u64,
@@ -75,7 +76,7 @@ impl<S: Store, T: Tape> Namespace<S, T> {
         })
     }
 
-    /// Opens a connection, and returns its number. An `Err` changes nothing.
+    /// Opens a connection, and returns its number. Returns an error if there is not enough memory; then nothing has changed.
     pub fn open(&mut self) -> Result<u64, AllocError>
         ensures turned { IfOk result (λ number. (number ≡ length self.old.closings + 1)
             × Turns S.view T.view self.old self.new (event.Open number) false) }
@@ -94,7 +95,9 @@ impl<S: Store, T: Tape> Namespace<S, T> {
         Ok(number)
     }
 
-    /// Takes a piece of a connection's bytes, and returns whether its last command is held back. An `Err` changes nothing.
+    /// Takes a piece of a connection's bytes, and returns whether its last command is held back. Returns `NoConnection`, `Closed` or
+    /// `Moment` (above 2^63 - 1 nanoseconds), in this order, and otherwise `OutOfMemory`, or `HeldAgain` if there is still not enough
+    /// memory for the command that is held back; then nothing has changed.
     pub fn feed(&mut self, number: u64, piece: &[u8], moment: Instant) -> Result<bool, ServiceError>
         ensures turned { IfOk result (λ is_held.
             Turns S.view T.view self.old self.new (feeding number piece.now moment.nanos) is_held) }
@@ -122,7 +125,8 @@ impl<S: Store, T: Tape> Namespace<S, T> {
         }
     }
 
-    /// Closes a connection, and drops the bytes that were not used. It allocates nothing but the record, and an `Err` changes nothing.
+    /// Closes a connection, and drops the bytes that no line has used. Returns `NoConnection` or `Closed`, in this order, and otherwise
+    /// `OutOfMemory` if there is no memory for the record; then nothing has changed. The call allocates nothing else.
     pub fn close(&mut self, number: u64) -> Result<(), ServiceError>
         ensures turned { OnOk result
             (Turns S.view T.view self.old self.new (event.Close number) false) }
@@ -147,7 +151,8 @@ impl<S: Store, T: Tape> Namespace<S, T> {
     }
 
     /// Answers a load under way: its value is stored, those that wait receive the outcome in order, and then their lines run in the same
-    /// order. An `Err` returns the outcome, and changes nothing.
+    /// order. Returns the outcome with `NoLoad`, `Moment` (above 2^63 - 1 nanoseconds), `LineEnd`, `TooLong` or `Deadline`, in this order,
+    /// and otherwise with `OutOfMemory`; then nothing has changed.
     pub fn answer(
         &mut self,
         load: u64,
@@ -185,8 +190,9 @@ impl<S: Store, T: Tape> Namespace<S, T> {
     }
 
     /// Gives a load under way up: each `LOAD` that waits for it runs again as a whole command, in order, followed by its connection's
-    /// lines; one that finds no memory is held back, and at its 200th give-up it is abandoned. It allocates nothing that it needs except
-    /// the record, and an `Err` changes nothing.
+    /// lines. A line for which there is no memory is held back, and a `LOAD` at its 200th give-up is abandoned. Returns `NoLoad` or
+    /// `Moment` (above 2^63 - 1 nanoseconds), in this order, and otherwise `OutOfMemory` if there is no memory for the record; then nothing
+    /// has changed.
     pub fn give_up(&mut self, load: u64, moment: Instant) -> Result<(), ServiceError>
         ensures turned { OnOk result
             (Happens S.view T.view self.old self.new (giving_up load moment.nanos)) }
@@ -214,7 +220,8 @@ impl<S: Store, T: Tape> Namespace<S, T> {
         Ok(())
     }
 
-    /// The reply bytes of a connection since the last taking, moved out. This allocates nothing.
+    /// Returns the reply bytes of a connection since they were last taken, moved out. The call allocates nothing. Returns `NoConnection` if
+    /// the connection was never opened; then nothing has changed.
     pub fn take_output(&mut self, number: u64) -> Result<Vec<u8>, ServiceError>
         ensures taken { IfOk result (λ text. (text.items ≡ output_in self.old number) × (self.new
             ≡ record self.old { outputs = slice_set self.old.outputs (number - 1) [] })) }
@@ -226,7 +233,7 @@ impl<S: Store, T: Tape> Namespace<S, T> {
         Ok(take_at(self.alloc, &mut self.interior.connections, index))
     }
 
-    /// The loads that went out and were not taken, moved out, in the order after those that were taken before. This allocates nothing.
+    /// Returns the loads that went out and were not taken, moved out, in the order in which they were sent. The call allocates nothing.
     pub fn take_loads(&mut self) -> Vec<(LoadId, Bytes)>
         ensures taken { (result.items ≡ self.old.outgoing)
             × (self.new ≡ record self.old { outgoing = [] }) }
@@ -237,7 +244,7 @@ impl<S: Store, T: Tape> Namespace<S, T> {
         self.interior.base.loads.take(self.alloc)
     }
 
-    /// The note that was reported first. This allocates nothing.
+    /// Takes the note that was reported first, or returns `None` if there is none. The call allocates nothing.
     pub fn next_notice(&mut self) -> Option<Note>
         ensures taken { TakesFirstNote (S.view self.old.store).untaken
             (S.view self.new.store).untaken result }
@@ -247,7 +254,7 @@ impl<S: Store, T: Tape> Namespace<S, T> {
         self.interior.base.store.next_notice()
     }
 
-    /// Why a connection is closed, if it is.
+    /// Returns why a connection is closed, or `None` while it is open. Returns `NoConnection` if the connection was never opened.
     pub fn closed(&self, number: u64) -> Result<Option<Closing>, ServiceError>
         ensures closing { IfOk result (λ closing. closing ≡ closing_in self.now number) }
         ensures refused { IsErr result ↔ (was_opened self.now number ≡ false) }
@@ -257,7 +264,7 @@ impl<S: Store, T: Tape> Namespace<S, T> {
         Ok(self.interior.connections.closing(index))
     }
 
-    /// Whether a `LOAD` of a connection waits.
+    /// Returns whether a `LOAD` of a connection waits. Returns `NoConnection` if the connection was never opened.
     pub fn waiting(&self, number: u64) -> Result<bool, ServiceError>
         ensures waits { IfOk result
             (λ waits. waits ≡ is_waiting_in (situation_with S.view self.now []) number) }
@@ -268,35 +275,36 @@ impl<S: Store, T: Tape> Namespace<S, T> {
         Ok(waits_at_place(&self.interior.connections, index))
     }
 
-    /// How many loads are under way: sent, and neither answered nor given up, whether they were taken or not.
+    /// Returns how many loads are under way: sent, and neither answered nor given up, whether they were taken or not.
     pub fn loads_open(&self) -> u64
         ensures { result ≡ length self.now.pending }
     {
         self.interior.base.loads.count() as u64
     }
 
-    /// The tape of its records, moved out. This allocates nothing.
+    /// Returns the tape of the namespace's records, moved out. The call allocates nothing.
     pub fn into_tape(self) -> T
         ensures { result ≡ self.tape }
     {
         self.interior.base.tape
     }
 
-    /// The tape of its records.
+    /// Returns the tape of the namespace's records.
     pub fn tape(&self) -> &T
         ensures { result.now ≡ self.now.tape }
     {
         &self.interior.base.tape
     }
 
-    /// The store.
+    /// Returns the namespace's store.
     pub fn store(&self) -> &S
         ensures { result.now ≡ self.now.store }
     {
         self.interior.base.store.store()
     }
 
-    /// What is true of every namespace: it stands for a situation, is in order, and its parts suit one another. It does nothing.
+    /// Does nothing. Its contract says what is true of every namespace: there is a situation (of the definitions) that it agrees with, its
+    /// connections and loads are in order, and its store, connections and loads agree with each other.
     pub fn sound(&self)
         ensures stands { (s : Situation) × StandsFor S.view self.now s }
         ensures order { IsInOrder S.view T.view self.now }

@@ -15,7 +15,7 @@ use cache_lines::ReplyBuffer;
 use std::alloc::Global;
 use std::mem;
 
-/// The number of the connection at a place.
+/// Returns the number of the connection at an index.
 pub fn number_at(connections: &Connections, index: usize) -> u64
     requires { index < length connections.now }
     ensures { result ≡ index + 1 }
@@ -25,7 +25,7 @@ pub fn number_at(connections: &Connections, index: usize) -> u64
     index as u64 + 1
 }
 
-/// The place of an open connection.
+/// Returns the index of an open connection. Returns `NoConnection` if the connection was never opened, and `Closed` if it is closed.
 pub fn find_open(connections: &Connections, number: u64) -> Result<usize, ServiceError>
     ensures place { IfOk result (λ index. (number ≡ index + 1) × (index < length connections.now)) }
     ensures open { IfOk result (λ index. closing_at connections.now index ≡ None) }
@@ -39,7 +39,7 @@ pub fn find_open(connections: &Connections, number: u64) -> Result<usize, Servic
     }
 }
 
-/// Removes the connection at a place from those that wait, if it is closed.
+/// Removes the connection at an index from those that wait, if it is closed.
 pub fn leave_closed(loads: &mut Loads, number: u64, connections: &Connections, index: usize)
     requires { index < length connections.now }
     ensures left { under_way loads.new
@@ -51,7 +51,7 @@ pub fn leave_closed(loads: &mut Loads, number: u64, connections: &Connections, i
     }
 }
 
-/// Closes the open connection at a place.
+/// Closes the open connection at an index.
 pub fn close_at(connections: &mut Connections, index: usize)
     requires inside { index < length connections.old }
     requires open { closing_at connections.old index ≡ None }
@@ -64,7 +64,7 @@ pub fn close_at(connections: &mut Connections, index: usize)
     connections.put(index, connection);
 }
 
-/// The place of a connection that was opened.
+/// Returns the index of a connection that was opened. Returns `NoConnection` if the connection was never opened.
 pub fn find_opened(connections: &Connections, number: u64) -> Result<usize, ServiceError>
     ensures place { IfOk result (λ index. (number ≡ index + 1) × (index < length connections.now)) }
     ensures refused { IsErr result
@@ -77,7 +77,7 @@ pub fn find_opened(connections: &Connections, number: u64) -> Result<usize, Serv
     Ok((number - 1) as usize)
 }
 
-/// Whether a `LOAD` of the connection at a place waits.
+/// Returns whether a `LOAD` of the connection at an index waits.
 pub fn waits_at_place(connections: &Connections, index: usize) -> bool
     requires { index < length connections.now }
     ensures { result ≡ waits_at connections.now index }
@@ -113,7 +113,7 @@ fn take_text(alloc: Global, connection: &mut Connection) -> Vec<u8>
     mem::replace(&mut connection.output.text, Vec::new(alloc))
 }
 
-/// Moves out the replies of the connection at a place, of which little stays if it has closed.
+/// Returns the replies of the connection at an index, moved out. Of a connection that has closed little is kept.
 pub fn take_at(alloc: Global, connections: &mut Connections, index: usize) -> Vec<u8>
     requires { index < length connections.old }
     ensures rest { IsTakenAt connections.old connections.new index }

@@ -28,8 +28,8 @@ fn copy_where(alloc: Global, keeps: bool, piece: &[u8]) -> Result<Bytes, AllocEr
     Ok(Seq::from_vec(Vec::from_slice(alloc, piece)?))
 }
 
-/// Begins the record of a feed: makes room for the piece, and for a line that is held back, and returns the event. An `Err` changes
-/// nothing.
+/// Begins the record of a feed: makes room for the piece, and for a line that is held back, and returns the event. If the call is refused,
+/// nothing has changed.
 fn begin_feed<S: Store, T: Tape>(
     base: &mut Base<S, T>,
     number: u64,
@@ -58,7 +58,8 @@ fn begin_feed<S: Store, T: Tape>(
     })
 }
 
-/// Takes a piece of an open connection's bytes, and returns whether a line is held back then. An `Err` changes nothing.
+/// Takes a piece of an open connection's bytes, and returns whether a line is held back then. Returns `OutOfMemory`, or `HeldAgain` if
+/// there is still not enough memory for the line that is held back; then nothing has changed.
 pub fn feed_recorded<S: Store, T: Tape>(
     base: &mut Base<S, T>,
     now: u64,
@@ -95,7 +96,8 @@ pub fn feed_recorded<S: Store, T: Tape>(
 }
 
 impl<S: Store, T: Tape> Interior<S, T> {
-    /// Takes a piece of the bytes of the open connection at a place, and returns whether a line is held back then. An `Err` changes nothing.
+    /// Takes a piece of the bytes of the open connection at an index, and returns whether a line is held back then. Returns `OutOfMemory`,
+    /// or `HeldAgain` if there is still not enough memory for the line that is held back; then nothing has changed.
     pub fn feed_at(
         &mut self,
         now: u64,

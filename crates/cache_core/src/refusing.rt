@@ -65,7 +65,8 @@ fn refuse_outcome(config: &Config, outcome: &Outcome) -> Option<ServiceError>
 }
 
 impl<S: Store, T: Tape> Interior<S, T> {
-    /// Why a load is not settled: it is not under way, or the moment is too late.
+    /// Returns why a load cannot be settled, or `None` if it can: it is not under way (`NoLoad`), or the moment is above `MAX_MOMENT`
+    /// nanoseconds (`Moment`).
     pub fn refuse_load(&self, load: u64, moment: u64) -> Option<ServiceError>
         ensures { result ≡ refusal_of (S.view self.now.base.store).frame.config
             (known_of_loads (loads_pending self.now.base.loads)) (giving_up load moment) }
@@ -79,7 +80,7 @@ impl<S: Store, T: Tape> Interior<S, T> {
         None
     }
 
-    /// Why a load is not answered, apart from a lack of memory.
+    /// Returns why a load cannot be answered with this outcome, apart from a lack of memory, or `None` if it can.
     pub fn refuse_answer(&self, load: u64, outcome: &Outcome, moment: u64) -> Option<ServiceError>
         ensures { result ≡ refusal_of (S.view self.now.base.store).frame.config
             (known_of_loads (loads_pending self.now.base.loads))

@@ -46,7 +46,8 @@ fn reserve_at(connections: &mut Connections, number: u64, size: usize) -> Result
     reserve_there(connections, index, size)
 }
 
-/// Makes room for this many more bytes of replies of each of these connections. An `Err` changes nothing that can be seen.
+/// Makes room for this many more bytes of replies of each of these connections. Returns an error if there is not enough memory; then
+/// nothing that can be seen has changed.
 pub fn reserve_all(
     connections: &mut Connections,
     waiting: &[u64],

@@ -51,7 +51,7 @@ impl<S: Store, T: Tape> Interior<S, T> {
         self.connections.put(index, connection);
     }
 
-    /// Runs the lines of the connection at a place, if it is open and runs lines.
+    /// Runs the lines of the connection at an index, if it is open and runs lines.
     pub fn resume_at(&mut self, now: u64, index: usize)
         requires amid { IsAmid S.view T.view now self.old.base self.old.connections 1 }
         requires inside { index < length self.old.connections }

@@ -15,8 +15,8 @@ pub use listing::write_keys;
 pub use making::{bits_of, settings_of};
 use std::collections::VecDeque;
 
-/// The front, whose keys this hashes.
+/// The front of a store, which hashes its keys with `S`.
 pub type Front<S> = LentState<Key, StoredValue, S, Weight, Segmented>;
 
-/// Notes of what a front told.
+/// Notes of what a front reported, the oldest first.
 pub type Notes = VecDeque<WaitingNote>;

@@ -10,7 +10,7 @@ use audit_model::{Accepted, Note};
 use cache_commands::{Keyed, push_within};
 use cache_store::Store;
 
-/// How many notes a line or an answer tells at most.
+/// Returns how many notes a line or an answer reports at most.
 pub fn most_notes<S: Store>(store: &Keyed<S>) -> usize
     ensures { result ≡ (S.view store.now).count + 1 }
 {
@@ -18,7 +18,7 @@ pub fn most_notes<S: Store>(store: &Keyed<S>) -> usize
     store.store().len() + 1
 }
 
-/// Takes all notes that the store has, for which there is room; nothing else changes.
+/// Takes all notes that the store has, for which there is room. Nothing else changes.
 pub fn drain<S: Store>(store: &mut Keyed<S>, notes: &mut Vec<Note>)
     requires { vec_len notes.old + length (S.view store.old).untaken ≤ vec_capacity notes.old }
     ensures drained { notes.new.items ≡ notes.old.items ++ (S.view store.old).untaken }
@@ -30,7 +30,7 @@ pub fn drain<S: Store>(store: &mut Keyed<S>, notes: &mut Vec<Note>)
     }
 }
 
-/// If a record is made, adds the step of the line for which there is room, with what was written as its reply, and the notes that wait. If
+/// Adds the step of the line, for which there is room, with what was written as its reply, and the notes that wait, if a record is made. If
 /// none is made, both stay where they are.
 pub fn end_step<S: Store, T: Tape>(
     store: &mut Keyed<S>,

@@ -31,8 +31,8 @@ fn reserve_room(text: &mut Vec<u8>, spare: &mut Vec<u8>) -> Result<(), AllocErro
     Ok(())
 }
 
-/// Has a connection wait for the load of a key, whose line's step has its room, with room for the reply to a load that is given up for
-/// good: now, and when the output is taken. An `Err` changes nothing.
+/// Makes a connection wait for the load of a key. The line's step has its room. There is room then for the reply to a load that is given up
+/// for good, now and when the output is taken. Returns an error if there is not enough memory; then nothing has changed.
 pub fn join_load<T: Tape>(
     loads: &mut Loads,
     tape: &mut T,

@@ -64,7 +64,7 @@ fn run_first<S: Store, T: Tape>(
     }
 }
 
-/// What stands behind the first `used` bytes.
+/// Returns what stands behind the first `used` bytes.
 pub fn behind(bytes: &[u8], used: usize) -> &[u8]
     requires { used ≤ length bytes.now }
     ensures { result.now ≡ drop used bytes.now }
@@ -72,8 +72,8 @@ pub fn behind(bytes: &[u8], used: usize) -> &[u8]
     &bytes[used..]
 }
 
-/// Runs the lines in these bytes, one after another, and returns how many bytes those that ran have, not counting a `QUIT`, and how they
-/// ended.
+/// Runs the lines in these bytes, one after another, and returns how many bytes the lines that ran have, not counting a `QUIT`, and how the
+/// lines ended.
 pub fn run_bytes<S: Store, T: Tape>(
     base: &mut Base<S, T>,
     now: u64,

@@ -22,8 +22,9 @@ fn drop_used(unread: &mut Buffer, used: usize)
     }
 }
 
-/// Runs the lines of a connection that is ready, and of a piece behind them for which there is room, straight from the piece where nothing
-/// stands before it; what is left is kept. A line for which memory was wanted is held back, in the room for one that the tape has.
+/// Runs the lines of a connection that is ready, and of a piece behind them for which there is room, straight from the piece if nothing
+/// stands before it. What is left is kept. A line for which there was not enough memory is held back, in the room for one that the tape
+/// has.
 pub fn run_lines<S: Store, T: Tape>(
     base: &mut Base<S, T>,
     now: u64,

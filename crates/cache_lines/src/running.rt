@@ -24,11 +24,11 @@ use std::alloc::AllocError;
 /// What a line did.
 #[derive(Clone, Copy, PartialEq, Eq, Drop)]
 pub enum LineOutcome {
-    /// It was answered.
+    /// The line was answered.
     Stays,
-    /// It was answered, and closes its connection.
+    /// The line was answered, and closes its connection.
     Quits,
-    /// It is a `LOAD` of a key that has no live value, and waits.
+    /// The line is a `LOAD` of a key that has no live value, and waits.
     Waits,
 }
 
@@ -51,8 +51,8 @@ fn key_of<'a>(request: &Request<'a>) -> &'a [u8]
 }
 
 /// Runs a line, at a moment below 2^63 nanoseconds: its reply is appended to the others, or put into its step if a record is made, and so
-/// are its notes. A `LOAD` of a key that has no live value begins to wait. An `Err` changes nothing that can be seen; a number that is used
-/// up counts as a lack of memory.
+/// are its notes. A `LOAD` of a key that has no live value begins to wait. Returns an error if there is not enough memory, or a 64-bit
+/// number is used up; then nothing that can be seen has changed.
 pub fn run_line<S: Store, T: Tape>(
     base: &mut Base<S, T>,
     now: u64,

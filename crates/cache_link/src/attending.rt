@@ -66,7 +66,7 @@ fn settle_all<H: Host, O: Write, K: Clock, D: Loader>(
 }
 
 /// Looks for what the connection waits for, or else feeds a piece of what was read; then settles the loads that have gone out, until none
-/// is left. `Over` if others had closed the connection. What it is owed is written to a writer that does not wait.
+/// is left. Returns `Over` if others had closed the connection. What the connection is owed is written to a writer that does not wait.
 pub fn attend<H: Host, O: Write, K: Clock, D: Loader>(
     host: &mut H,
     place: &mut H::Place,

@@ -26,20 +26,20 @@ impl Model for Backlog {
 }
 
 impl Backlog {
-    /// These bytes, none of which was written.
+    /// Creates a backlog of these bytes, none of which was written.
     pub fn new(bytes: Vec<u8>) -> Backlog
         ensures { result ≡ bytes.items }
     {
         Backlog { bytes, written: 0 }
     }
 
-    /// The memory, whatever is in it.
+    /// Returns the memory of the backlog, whatever is in it.
     pub fn into_bytes(self) -> Vec<u8> {
         let Backlog { bytes, .. } = self;
         bytes
     }
 
-    /// Whether all was written.
+    /// Returns whether all was written.
     pub fn is_empty(&self) -> bool
         ensures { result ≡ (length self.now == 0) }
     {
@@ -61,7 +61,7 @@ impl Backlog {
         self.written += count;
     }
 
-    /// Writes as much as the writer takes at once. Returns whether that is all.
+    /// Writes as much as the writer takes at once, and returns whether that is all. Returns `Write` if the writer broke down.
     pub fn write_to<W: Write>(&mut self, writer: &mut Patient<W>) -> Result<bool, RunError>
         ensures sent { SentBut self.new self.old (W.contents (device writer.old))
             (W.contents (device writer.new)) }

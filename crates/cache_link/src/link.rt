@@ -21,22 +21,22 @@ use std::{io, mem};
 /// What a connection waits for.
 #[derive(Clone, Copy, Debug, PartialEq, Eq, Drop)]
 pub enum Next {
-    /// Nothing: it is to take another turn when the others have had theirs.
+    /// The connection waits for nothing: it is to take another turn when the others have had theirs.
     Turn,
-    /// Bytes to read.
+    /// The connection waits for bytes to read.
     Input,
-    /// Room to write.
+    /// The connection waits for room to write.
     Room,
-    /// A load that is requested from another connection's loader.
+    /// The connection waits for a load that is requested from another connection's loader.
     Load,
-    /// It is over: nothing more of it is fed, and all its replies were written.
+    /// The connection is over: nothing more of it is fed, and all its replies were written.
     Over,
 }
 
 /// What a connection's socket reported and was not read.
 #[derive(Clone, Copy, Debug, PartialEq, Eq, Drop)]
 pub enum Report {
-    /// Nothing.
+    /// The socket reported nothing.
     Nothing,
     /// There may be bytes to read.
     Bytes,
@@ -45,7 +45,7 @@ pub enum Report {
 }
 
 impl Report {
-    /// This, and what was reported after it.
+    /// Returns this report together with what was reported after it.
     pub fn with(self, is_readable: bool, is_ending: bool) -> Report
         ensures { result ≡ report_with self is_readable is_ending }
     {
@@ -61,8 +61,8 @@ impl Report {
         }
     }
 
-    /// What is left of this after a read that took some bytes. One that did not fill its room has taken all that there was; but the end that
-    /// came with the last bytes is not reported again.
+    /// What is left of this after a read that took some bytes. One that did not fill its room has taken all that there was; but the end
+    /// that came with the last bytes is not reported again.
     fn after_read(self, is_full: bool) -> Report
         ensures { result ≡ report_after self is_full }
     {
@@ -146,7 +146,7 @@ impl Link {
         self.session.conn
     }
 
-    /// Notes what its socket reported: that there are bytes to read, or that the input ends.
+    /// Notes what the connection's socket reported: that there are bytes to read, or that the input ends.
     pub fn wake(&mut self, is_readable: bool, is_ending: bool)
         ensures { self.new ≡ record self.old {
           report = report_with self.old.report is_readable is_ending;
@@ -235,7 +235,7 @@ impl Link {
         Ok(self.next())
     }
 
-    /// Closes the connection, unless it has closed; after an error the loads in hand are dropped, and those that have gone out. Returns
+    /// Closes the connection, unless it has closed. After an error the loads in hand are dropped, and those that have gone out. Returns
     /// `outcome`.
     pub fn close<H: Host, D: Loader>(
         self,

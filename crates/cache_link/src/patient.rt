@@ -11,14 +11,14 @@ use cache_run::Inbox;
 use std::io;
 use std::io::{ErrorKind, Read, Write};
 
-/// Whether a call failed only for now: it was interrupted, or would have had to wait.
+/// Returns whether a call failed only for now: it was interrupted, or would have had to wait.
 pub fn is_for_now(error: &io::Error) -> bool
     ensures { result ≡ is_for_now (error_kind error.now) }
 {
     matches!(error.kind(), ErrorKind::Interrupted | ErrorKind::WouldBlock)
 }
 
-/// Whether a call would have had to wait.
+/// Returns whether a call would have had to wait.
 pub fn would_wait(error: &io::Error) -> bool
     ensures { result ≡ would_wait (error_kind error.now) }
 {
@@ -50,7 +50,8 @@ impl<T> Patient<T> {
 }
 
 impl<R: Read> Patient<R> {
-    /// Reads once into an empty inbox, as many bytes as there is room for. Returns how many: none at the end of the input.
+    /// Reads once into an empty inbox, as many bytes as there is room for. Returns how many: none at the end of the input. An error is
+    /// passed on; then none was read.
     pub fn fill(&mut self, inbox: &mut Inbox) -> io::Result<usize>
         requires { inbox.old ≡ [] }
         ensures bytes { Obtains (R.remaining (device self.old)) (R.remaining (device self.new))
@@ -84,7 +85,7 @@ impl<R: Read> Patient<R> {
 }
 
 impl<W: Write> Patient<W> {
-    /// Writes a prefix of the bytes, and returns how many it took.
+    /// Writes a prefix of the bytes, and returns how many bytes were taken. An error is passed on.
     pub fn write(&mut self, bytes: &[u8]) -> io::Result<usize>
         ensures bound { WritesAtMost result bytes.now }
         ensures bytes { WriteAppends (W.contents (device self.old)) (W.contents (device self.new))

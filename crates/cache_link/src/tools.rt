@@ -17,7 +17,7 @@ pub struct Room {
 }
 
 impl Room {
-    /// None, which is made when it is needed.
+    /// Creates room that is made when it is needed.
     pub fn new(alloc: Global) -> Room {
         Room {
             alloc,
@@ -26,7 +26,7 @@ impl Room {
         }
     }
 
-    /// Takes an empty inbox with room for a piece.
+    /// Takes an empty inbox with room for a piece. Returns an error if there is not enough memory.
     pub fn take_inbox(&mut self) -> Result<Inbox, AllocError>
         ensures empty { IfOk result (λ inbox. inbox ≡ []) }
     {
@@ -53,7 +53,7 @@ impl Room {
         bytes
     }
 
-    /// Keeps room for replies that is not used any more, unless it is much, or less than there is.
+    /// Keeps room for replies that is not used any more, unless the room is much, or less than there is.
     pub fn give_bytes(&mut self, bytes: Vec<u8>) {
         let room = bytes.capacity();
         if room <= SPARE_BYTES && room > self.bytes.capacity() {
@@ -65,8 +65,11 @@ impl Room {
 /// What the connections of a loop use in turn: a clock, a loader, and room.
 #[derive(Drop)]
 pub struct Tools<K, D> {
+    /// The allocator.
     pub alloc: Global,
+    /// The clock.
     pub clock: K,
+    /// The loader.
     pub loader: D,
     pub(crate) room: Room,
 }

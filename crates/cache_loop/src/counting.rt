@@ -7,7 +7,9 @@ use cache_run::Loader;
 /// A loader, and how often it was asked: others may wait for what it was asked.
 #[derive(Drop)]
 pub struct Counting<D> {
+    /// The loader itself.
     pub inner: D,
+    /// How often the loader was asked.
     pub asked: u64,
 }
 

@@ -52,32 +52,32 @@ impl Departures {
 /// What a loop has counted since it began.
 #[derive(Clone, Copy, Drop)]
 pub struct Counts {
-    /// Connections that were accepted.
+    /// How many connections were accepted.
     pub accepted: u64,
-    /// Accepted connections for which there was no place.
+    /// How many accepted connections were closed because there was no place for them.
     pub refused: u64,
-    /// Connections that were closed because they were idle.
+    /// How many connections were closed because they were idle.
     pub idle: u64,
-    /// Accepts that failed for lack of descriptors or memory.
+    /// How many accepts failed for lack of descriptors or memory.
     pub starved: u64,
-    /// Bytes that were read.
+    /// How many bytes were read.
     pub read: u64,
-    /// Bytes that were written.
+    /// How many bytes were written.
     pub written: u64,
-    /// Replies that told a value, and replies that there is none.
+    /// How many replies told a value, and how many that there is none.
     pub found: Found,
-    /// What has left, as far as the steward counts that.
+    /// How many values have left, by cause, as far as the steward counts that.
     pub departures: Departures,
-    /// Loads that a loader was asked for.
+    /// How many loads a loader was asked for.
     pub loads: u64,
-    /// Turns within each of the bounds and above the one before, and those above the last.
+    /// How many turns were within each of the bounds and above the one before, and how many were above the last.
     pub turns: [u64; 6],
     /// How many nanoseconds all turns took.
     pub nanos: u64,
 }
 
 impl Counts {
-    /// Nothing was counted.
+    /// Creates counts of nothing.
     pub fn new() -> Counts {
         Counts {
             accepted: 0,
@@ -129,7 +129,7 @@ pub struct Metered<'a, T> {
 }
 
 impl<'a, T> Metered<'a, T> {
-    /// Adds the bytes of a device to a count.
+    /// Wraps a device whose bytes are added to a count.
     pub fn new(inner: T, bytes: &'a mut u64) -> Metered<'a, T> {
         Metered { inner, bytes }
     }
@@ -155,19 +155,19 @@ impl<T: Write> Write for Metered<'_, T> {
     }
 }
 
-/// Tells how much time has passed.
+/// A stopwatch of a machine's clock.
 #[derive(Drop)]
 pub struct Stopwatch {
     since: Option<Instant>,
 }
 
 impl Stopwatch {
-    /// It begins at its first lap.
+    /// Creates a stopwatch that begins at its first lap.
     pub fn new() -> Stopwatch {
         Stopwatch { since: None }
     }
 
-    /// How many nanoseconds have passed since the last lap; none if the clock cannot be read.
+    /// Returns how many nanoseconds have passed since the last lap: 0 at the first one, or if the clock cannot be read.
     pub fn lap<R: Clock>(&mut self, rt: &R) -> u64 {
         let Ok(now) = Instant::now(rt) else {
             return 0;

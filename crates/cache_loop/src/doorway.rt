@@ -13,14 +13,14 @@ const DROPPED_READS: usize = 32;
 /// Where connections come in.
 #[derive(Drop)]
 pub enum Doorway {
-    /// At an address of the network.
+    /// A listener at an address of the network.
     Tcp(TcpListener),
-    /// At a path.
+    /// A listener at a path.
     Unix(UnixListener),
 }
 
 impl Doorway {
-    /// The next connection, or `WouldBlock` if nobody waits.
+    /// Accepts the next connection. Returns `WouldBlock` if nobody waits, and otherwise the error of the accept.
     pub fn accept(&self) -> io::Result<Stream> {
         match self {
             Doorway::Tcp(listener) => {
@@ -36,7 +36,7 @@ impl Doorway {
         }
     }
 
-    /// Has a registry report under a token when somebody waits.
+    /// Makes a registry report under a token when somebody waits. Returns the registry's error.
     pub fn register(&mut self, registry: &Registry, token: Token) -> io::Result<()> {
         match self {
             Doorway::Tcp(listener) => registry.register(listener, token, Interest::READABLE),
@@ -48,14 +48,14 @@ impl Doorway {
 /// A connection's socket.
 #[derive(Drop)]
 pub enum Stream {
-    /// Of the network.
+    /// A connection over the network.
     Tcp(TcpStream),
-    /// Of a path.
+    /// A connection by a path.
     Unix(UnixStream),
 }
 
 impl Stream {
-    /// Has a registry report under a token when there are bytes to read.
+    /// Makes a registry report under a token when there are bytes to read. Returns the registry's error.
     pub fn register(&mut self, registry: &Registry, token: Token) -> io::Result<()> {
         match self {
             Stream::Tcp(stream) => registry.register(stream, token, Interest::READABLE),
@@ -63,7 +63,7 @@ impl Stream {
         }
     }
 
-    /// Writes a text, as much as is taken at once.
+    /// Writes as much of a text as is taken at once. What cannot be written is lost.
     pub fn tell(&mut self, text: &[u8]) {
         let _ = match self {
             Stream::Tcp(stream) => stream.write(text),
@@ -71,8 +71,8 @@ impl Stream {
         };
     }
 
-    /// Says that nothing more will come, and drops what has come in, unless it is much: closing a socket that has something to read takes
-    /// back what was written.
+    /// Tells the client that nothing more will come, and drops what has come in, unless it is much: closing a socket that has something to
+    /// read takes back what was written.
     pub fn wind_up(&mut self) {
         match self {
             Stream::Tcp(stream) => {
@@ -86,7 +86,7 @@ impl Stream {
         }
     }
 
-    /// Has a registry report in addition when there is room to write, also if there is some by now.
+    /// Makes a registry report in addition when there is room to write, also if there is some by now. Returns the registry's error.
     pub fn watch_room(&mut self, registry: &Registry, token: Token) -> io::Result<()> {
         let both = Interest::READABLE | Interest::WRITABLE;
         match self {

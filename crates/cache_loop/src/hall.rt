@@ -53,13 +53,16 @@ pub struct Hall<S: Steward> {
 /// What a wake-up of a loop works with.
 #[derive(Drop)]
 pub struct Round<'a, R> {
+    /// The handle by which the loop may wait, and read the clock.
     pub rt: &'a R,
+    /// The registry of the loop's sockets.
     pub registry: &'a Registry,
+    /// What the loop shares with others.
     pub crew: &'a Crew,
 }
 
 impl<S: Steward> Hall<S> {
-    /// Nobody is connected.
+    /// Creates a hall in which nobody is connected.
     pub fn new(alloc: Global, doorway: Doorway) -> Hall<S> {
         Hall {
             served: Slab::new(alloc),
@@ -75,13 +78,13 @@ impl<S: Steward> Hall<S> {
         }
     }
 
-    /// What was counted.
+    /// Returns what was counted.
     pub fn counts(&mut self, steward: &S) -> Counts {
         steward.tally(&mut self.counts);
         self.counts
     }
 
-    /// How long to wait for events; without end if there is nothing else to do.
+    /// Returns how long to wait for events, or `None`, without end, if there is nothing else to do.
     pub fn patience(&self) -> Option<Duration> {
         if !self.again.is_empty() || self.door == Door::Open {
             return Some(Duration::from_millis(0));
@@ -92,7 +95,7 @@ impl<S: Steward> Hall<S> {
         }
     }
 
-    /// Whether the loop ends.
+    /// Returns whether the loop ends.
     pub fn is_done(&self) -> bool {
         self.stops > 1 || (self.doorway.is_none() && self.served.is_empty())
     }
@@ -240,7 +243,7 @@ impl<S: Steward> Hall<S> {
         Some(())
     }
 
-    /// Gives each queued connection a turn, and then each that has more to do since its last one.
+    /// Gives each queued connection a turn, and then another one to each that has more to do.
     pub fn take_turns<R: time::Clock>(&mut self, steward: &mut S, round: &Round<'_, R>)
         requires { S.rests_on }
     {

@@ -87,8 +87,8 @@ impl<H: Host, K: Clock, D: Loader> Steward for LineSteward<'_, '_, '_, H, K, D> 
     }
 }
 
-/// Serves the connections that come in at a doorway by lines, until it is stopped. They are closed when it returns. An error is one of
-/// waiting for events, or of memory for the first of them.
+/// Serves the connections that come in at a doorway by lines, until it is stopped. The connections are closed when the call returns.
+/// Returns an error if waiting for events fails, or if there is no memory for the first of them.
 pub fn serve_all<H, K, D, R>(
     rt: &R,
     host: &mut H,

@@ -17,8 +17,8 @@ pub const LISTENER: Token = Token(usize::MAX);
 /// The token of a waker by which a loop is told that loads were settled for which its connections may wait. No connection has it.
 pub const LOADED: Token = Token(usize::MAX - 1);
 
-/// The token of a waker by which a loop is stopped. No connection has it. At its first wake nobody is accepted and nothing is read any more,
-/// and the loop ends when all that was read is answered and taken; at the second it ends at once.
+/// The token of a waker by which a loop is stopped. No connection has it. From its first wake on nobody is accepted and nothing is read any
+/// more, and the loop ends when all that was read is answered and taken; at the second it ends at once.
 pub const STOP: Token = Token(usize::MAX - 2);
 
 /// The maximum number of events of one wake-up.
@@ -30,20 +30,23 @@ const SECOND: u64 = 1_000_000_000;
 /// How connections are served.
 #[derive(Clone, Copy, Drop)]
 pub struct Rules {
-    /// So many connections are accepted in one wake-up: 1 if other loops accept too.
+    /// How many connections are accepted in one wake-up: 1 if other loops accept too.
     pub accepts: usize,
-    /// So many connections may be open at once. One more is told so (`Steward::refusal`), and closed.
+    /// How many connections may be open at once. One more is told so (`Steward::refusal`), and closed.
     pub connections: u64,
-    /// A connection from which nothing came, and to which nothing could be written, for more than so many seconds is closed.
+    /// For how many seconds a connection from which nothing came, and to which nothing could be written, may stay open, or `None` without a
+    /// limit.
     pub idle: Option<u64>,
 }
 
 /// What a loop shares with others.
 #[derive(Drop)]
 pub struct Crew {
+    /// The allocator.
     pub alloc: Global,
-    /// The namespace of its service that they serve.
+    /// The number of the namespace that the loops serve, in its service.
     pub namespace: u64,
+    /// How connections are served.
     pub rules: Rules,
     /// How many connections of the namespace are open.
     pub open: Arc<AtomicU64>,
@@ -97,7 +100,8 @@ impl Seconds {
     }
 }
 
-/// Serves the connections that come in at a doorway, until it is stopped. They are closed when it returns. An error is one of waiting for events, or of memory for the first of them.
+/// Serves the connections that come in at a doorway, until it is stopped. The connections are closed when the call returns. Returns an
+/// error if waiting for events fails, or if there is no memory for the first of them.
 pub fn serve_by<S: Steward, R: Wait + time::Clock>(
     rt: &R,
     steward: &mut S,

@@ -22,12 +22,14 @@ enum Begun {
 /// How many replies told a value, and how many told that there is none.
 #[derive(Clone, Copy, Drop)]
 pub struct Found {
+    /// How many replies told a value.
     pub hits: u64,
+    /// How many replies told that there is none.
     pub misses: u64,
 }
 
 impl Found {
-    /// None was read.
+    /// Creates counts of no replies.
     pub fn new() -> Found {
         Found { hits: 0, misses: 0 }
     }
@@ -39,7 +41,7 @@ impl Found {
     }
 }
 
-/// Reads the replies of a connection as they are written, in whatever pieces.
+/// A reader of a connection's replies as they are written, in whatever pieces.
 #[derive(Clone, Copy, Drop)]
 pub struct Replies {
     begun: Begun,
@@ -48,7 +50,7 @@ pub struct Replies {
 }
 
 impl Replies {
-    /// Nothing was written.
+    /// Creates a reader of replies of which nothing was written.
     pub fn new() -> Replies {
         Replies {
             begun: Begun::Nothing,
@@ -126,7 +128,7 @@ pub struct Overheard<'a, T> {
 }
 
 impl<'a, T> Overheard<'a, T> {
-    /// Reads what is written on a device, and counts.
+    /// Wraps a device: what is written on it is read, and counted.
     pub fn new(inner: T, replies: &'a mut Replies, found: &'a mut Found) -> Overheard<'a, T> {
         Overheard {
             inner,

@@ -10,20 +10,22 @@ use std::io::{Read, Write};
 /// A connection, its socket, and what the loop notes of it.
 #[derive(Drop)]
 pub struct Served<L: Drop> {
+    /// The connection's socket.
     pub stream: Stream,
+    /// The connection.
     pub link: L,
-    /// Whether it is queued for a turn.
+    /// Whether the connection is queued for a turn.
     pub is_queued: bool,
-    /// Whether it waits for a load that is requested from another connection's loader.
+    /// Whether the connection waits for a load that is requested from another connection's loader.
     pub is_waiting: bool,
-    /// Whether its socket reports room to write.
+    /// Whether the connection's socket reports room to write.
     pub tells_room: bool,
-    /// For how many seconds its socket has reported nothing.
+    /// For how many seconds the connection's socket has reported nothing.
     pub quiet: u64,
 }
 
 impl<L: Drop> Served<L> {
-    /// A connection that was opened.
+    /// Creates the record of a connection that was opened.
     pub fn new(stream: Stream, link: L) -> Served<L> {
         Served {
             stream,
@@ -35,7 +37,7 @@ impl<L: Drop> Served<L> {
         }
     }
 
-    /// Gives it a turn.
+    /// Gives the connection a turn, and returns what it waits for then, or the error with which it is to be closed.
     pub fn turn<S: Steward<Link = L>>(
         &mut self,
         steward: &mut S,

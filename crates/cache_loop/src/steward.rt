@@ -5,7 +5,7 @@ use cache_link::Next;
 use cache_run::RunError;
 use std::io::{Read, Write};
 
-/// Serves the connections of a loop: what it does depends on the protocol that they speak.
+/// Whoever serves the connections of a loop. What a steward does depends on the protocol that they speak.
 pub trait Steward: Drop {
     /// A connection between the wake-ups of its socket.
     type Link: Drop;
@@ -13,19 +13,19 @@ pub trait Steward: Drop {
     /// What is known of those that it serves by.
     ghost rests_on: { Type 0 };
 
-    /// What is written to a connection for which there is no place.
+    /// Returns what is written to a connection for which there is no place.
     fn refusal(&self) -> &'static [u8];
 
-    /// Opens a connection. `None`, and none was opened, if what it needs is not available.
+    /// Opens a connection. Returns `None`, and none was opened, if what it needs is not available.
     fn open(&mut self) -> Option<Self::Link>;
 
     /// Notes what a connection's socket reported: that there are bytes to read, or that the input ends.
     fn wake(&mut self, link: &mut Self::Link, is_readable: bool, is_ending: bool);
 
-    /// Notes that nothing more is to be read of a connection: once what was read is answered, it is over.
+    /// Notes that nothing more is to be read of a connection: once what was read is answered, the connection is over.
     fn stop(&mut self, link: &mut Self::Link);
 
-    /// Gives a connection a turn over its socket. Returns what it waits for then. After an error it is to be closed with that.
+    /// Gives a connection a turn over its socket. Returns what the connection waits for then, or the error with which it is to be closed.
     fn turn<I: Read + Drop, O: Write + Drop>(
         &mut self,
         link: &mut Self::Link,
@@ -34,13 +34,13 @@ pub trait Steward: Drop {
     ) -> Result<Next, RunError>
         requires { rests_on };
 
-    /// Closes a connection, after an error with that.
+    /// Closes a connection, with the error that its last turn returned, if one did.
     fn close(&mut self, link: Self::Link, outcome: Result<(), RunError>)
         requires { rests_on };
 
-    /// For how many loads the loader was asked since the last time. Others may wait for them.
+    /// Returns for how many loads the loader was asked since the last time. Others may wait for them.
     fn take_loads(&mut self) -> u64;
 
-    /// Puts what it has counted itself to what its loop counts.
+    /// Adds what the steward has counted itself to what its loop counts.
     fn tally(&self, counts: &mut Counts);
 }

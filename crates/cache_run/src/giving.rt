@@ -13,7 +13,8 @@ use crate::driver::Given;
 use audit_model::{Bytes, Closing, Conn, Instant, LoadId, ServiceError};
 use cache_spaces::{Fed, Service};
 
-/// Feeds a piece. Returns whether a command is held back for lack of memory.
+/// Feeds a piece, and returns whether a command is held back for lack of memory. Returns `Moment` if the moment is above 2^63 - 1
+/// nanoseconds, or `OutOfMemory`; then nothing has changed.
 pub fn feed_piece(
     service: &mut Service,
     conn: Conn,
@@ -49,7 +50,7 @@ fn take_replies(service: &mut Service, conn: Conn) -> Vec<u8>
     }
 }
 
-/// Takes the loads of its namespace that have gone out.
+/// Takes the loads of the connection's namespace that have gone out.
 pub fn take_sent(service: &mut Service, conn: Conn) -> Vec<(LoadId, Bytes)>
     requires known { IsThere conn service.old }
     ensures taken { At service.old service.new conn.namespace (GivesLoads result.items) }

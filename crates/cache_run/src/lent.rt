@@ -11,7 +11,7 @@ use crate::loads::settle;
 use audit_model::{Bytes, Conn, LoadId, Outcome};
 use cache_spaces::Service;
 
-/// Nobody else has the service.
+/// The host of a connection of a service that nobody else has.
 #[derive(Clone, Copy, Drop)]
 pub struct Lent;
 

@@ -69,7 +69,7 @@ fn answer(
 }
 
 /// Settles a load by what the loader returned: with its outcome, or by a give-up if there is none, or one that is refused for its bytes or
-/// its time.
+/// its time. Returns `Moment` if the moment is above 2^63 - 1 nanoseconds, or `OutOfMemory`; then nothing has changed.
 pub fn settle(
     service: &mut Service,
     conn: Conn,

@@ -14,9 +14,8 @@ use std::alloc::Global;
 use std::io::{Read, Write};
 
 /// Serves one connection of an existing namespace, from its opening to the end of its input, when it is closed, or until it has closed
-/// because of what was read. It reads up to 8192 bytes at a time, feeds them at the clock's reading, and writes the replies before it reads
-/// on.
-/// Notes are left to be taken.
+/// because of what was read. The call reads up to 8192 bytes at a time, feeds them at the clock's reading, and writes the replies before it
+/// reads on. Notes are left to be taken.
 ///
 /// Each load that goes out is requested from the loader by its key, and answered with what the loader returns; it is given up if the loader
 /// returns no outcome or one that is refused for its bytes or its time. After an error the connection is closed, and then loads that are

@@ -26,7 +26,7 @@ fn may_take_long(line: &[u8]) -> bool
         || line.starts_with(b"DROPIF")
 }
 
-/// Returns the length of a prefix of the bytes with at most this many lines. It ends after the last of these line ends, or earlier
+/// Returns the length of a prefix of the bytes with at most this many lines. The prefix ends after the last of these line ends, or earlier
 /// after a line that may take long, or with the bytes if they have fewer.
 pub fn length_of_cut(bytes: &[u8], lines: usize) -> usize
     requires { 0 < lines }

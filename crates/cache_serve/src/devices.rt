@@ -4,7 +4,7 @@ use cache_run::{Clock, Loader};
 use std::alloc::Global;
 use std::sync::Wait;
 
-/// Receives the notes of a connection's namespace, from the thread that serves it.
+/// A receiver of the notes of a connection's namespace, from the thread that serves the connection.
 pub trait Teller: Drop {
     /// Returns whether the teller receives notes. If not, the notes are left to be taken (`SharedService::next_notice`).
     fn is_told(&self) -> bool;
@@ -13,7 +13,7 @@ pub trait Teller: Drop {
     fn tell<R: Wait>(&mut self, rt: &R, notes: &[Note]);
 }
 
-/// Receives nothing: the notes are left to be taken (`SharedService::next_notice`).
+/// A teller that receives nothing: the notes are left to be taken (`SharedService::next_notice`).
 #[derive(Clone, Copy, Drop)]
 pub struct Untold;
 
@@ -25,7 +25,7 @@ impl Teller for Untold {
     fn tell<R: Wait>(&mut self, rt: &R, notes: &[Note]) {}
 }
 
-/// Creates what each connection that `host` serves needs.
+/// Whoever creates what each connection that `host` serves needs.
 pub trait Devices {
     /// The clock of a connection.
     type Clock: Clock + Drop + Send + 'static;
@@ -36,6 +36,6 @@ pub trait Devices {
     /// The teller of a connection.
     type Teller: Teller + Send + 'static;
 
-    /// Returns a clock, a loader and a teller for one connection. `None` closes only that connection.
+    /// Returns a clock, a loader and a teller for one connection, or `None` to close that connection, and only that.
     fn make(&self, alloc: Global) -> Option<(Self::Clock, Self::Loader, Self::Teller)>;
 }

@@ -18,13 +18,13 @@ pub struct Hosted<L: Seating> {
     /// The seats, in no order; one serves many connections, one after another. A seat for which there was no memory is missing, so that
     /// `SharedService::finish` then returns everything.
     pub seats: Vec<Seat<L>>,
-    /// Whether it ended early: an accept failed while nobody was connected, and not for lack of descriptors or memory, or there was no
+    /// Whether `host` ended early: an accept failed while nobody was connected, and not for lack of descriptors or memory, or there was no
     /// memory to begin with.
     pub failed: bool,
 }
 
-/// Serves the connections that a listener accepts as connections of an existing namespace, by `serve_and_tell`, each on a thread of its own with
-/// devices and a seat of its own, up to `limit` of them (2^64 - 1 without one), and then joins the threads.
+/// Serves the connections that a listener accepts as connections of an existing namespace, by `serve_and_tell`, each on a thread of its own
+/// with devices and a seat of its own, up to `limit` of them (2^64 - 1 without one), and then joins the threads.
 ///
 /// An accept whose client has already gone is tried again. After any other failure, for example if no descriptor is free, `host` waits
 /// until a connection has ended, and tries again. While nobody is connected, an accept that lacks descriptors or memory, which other

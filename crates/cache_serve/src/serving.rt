@@ -21,11 +21,11 @@ fn is_more(ended: &Result<Progress, RunError>) -> bool
     matches!(ended, Ok(Progress::More))
 }
 
-/// Serves one connection of an existing namespace, from its opening to the end of its input, when it is closed, or until it has
-/// closed. Each of its events is one hold of the lock, in which everything that the connection is owed afterwards is taken, and is counted
-/// by the seat.
-/// What was read at once is passed on in pieces of at most 64 lines, each of which ends after the first line that may take long (`KEYS`,
-/// `SYNC`, `CLEAR`, `DROPIF`), or of one line if more than 64 KiB of replies came before, so that others get the lock in between. While replies wait to be written, or a `LOAD` of the connection waits, nothing is passed on or read.
+/// Serves one connection of an existing namespace, from its opening to the end of its input, when it is closed, or until it has closed.
+/// Each of its events is one hold of the lock, in which everything that the connection is owed afterwards is taken, and is counted by the
+/// seat. What was read at once is passed on in pieces of at most 64 lines, each of which ends after the first line that may take long
+/// (`KEYS`, `SYNC`, `CLEAR`, `DROPIF`), or of one line if more than 64 KiB of replies came before, so that others get the lock in between.
+/// While replies wait to be written, or a `LOAD` of the connection waits, nothing is passed on or read.
 ///
 /// With its events it takes the loads of the namespace that have gone out, its own or those of other connections, and asks the loader for
 /// each by its key, without the lock. A load is answered with what the loader returns, and given up if the loader returns nothing or if the
@@ -84,8 +84,9 @@ pub fn serve<L: Seating, C: Shareable, I: Read, O: Write, K: Clock, D: Loader, R
     )
 }
 
-/// Like `serve`. In addition, after each piece that it passes on and each load that it settles, and before the replies of that are written,
-/// it takes the notes of the namespace, including those of other connections' events, and passes them to the teller.
+/// Does what `serve` does, and returns its errors. In addition, after each piece that it passes on and each load that it settles, and
+/// before the replies of that are written, it takes the notes of the namespace, including those of other connections' events, and passes
+/// them to the teller.
 pub fn serve_and_tell<
     L: Seating,
     C: Shareable,

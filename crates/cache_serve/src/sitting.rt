@@ -36,8 +36,8 @@ pub struct Sitting<'a, L: Seating, C: Shareable, T: Teller, R: Wait> {
 }
 
 impl<'a, L: Seating, C: Shareable, T: Teller, R: Wait> Sitting<'a, L, C, T, R> {
-    /// What a connection is served with, with room for notes if they are received. `waits` says whether it waits for loads that are requested
-    /// from other connections' loaders, or only looks.
+    /// Creates what a connection is served with, with room for notes if they are received. `waits` says whether the connection waits for
+    /// loads that are requested from other connections' loaders, or only looks. Returns an error if there is not enough memory.
     pub fn new(
         rt: &'a R,
         alloc: Global,
@@ -211,8 +211,8 @@ impl<'a, L: Seating, C: Shareable, T: Teller, R: Wait> Sitting<'a, L, C, T, R> {
         }
     }
 
-    /// Asks the loader for a load of a connection that has closed, and settles it at moment 0, which counts as the latest. An answer that is
-    /// refused is followed by a give-up.
+    /// Asks the loader for a load of a connection that has closed, and settles it at moment 0, which counts as the latest. An answer that
+    /// is refused is followed by a give-up.
     fn drop_load<D: Loader>(
         &mut self,
         seat: &mut Seat<L>,

@@ -10,7 +10,7 @@ use std::net::{TcpListener, TcpStream};
 use std::sync::{Arc, Condvar, Mutex, Wait};
 use std::thread::{JoinHandle, Threads};
 
-/// The places of threads that are done and were not joined.
+/// The indices of threads that are done and were not joined.
 #[derive(Drop)]
 pub struct Done {
     places: Mutex<Vec<usize>>,
@@ -26,7 +26,7 @@ impl Done {
         }
     }
 
-    /// Notes that the thread of a place is about to end. There must be room for it.
+    /// Notes that the thread of an index is about to end. There must be room for the note.
     pub fn tell(&self, rt: &impl Wait, place: usize) {
         let _ = self.places.lock(rt).push(place);
         self.told.notify_one();
@@ -57,7 +57,7 @@ fn is_of_want(error: &io::Error) -> bool {
     matches!(error.raw_os_error(), Some(12 | 23 | 24 | 105))
 }
 
-/// Threads that serve a connection each, by their places, and the seats that no thread has.
+/// Threads that serve a connection each, by their indices, and the seats that no thread has.
 #[derive(Drop)]
 pub struct Workers<L: Seating> {
     running: Slab<JoinHandle<Seat<L>>>,
@@ -66,7 +66,7 @@ pub struct Workers<L: Seating> {
 }
 
 impl<L: Seating + Send + Sync + 'static> Workers<L> {
-    /// No threads.
+    /// Creates an empty list of threads. Returns an error if there is not enough memory.
     pub fn new(alloc: Global) -> Result<Workers<L>, AllocError> {
         Ok(Workers {
             running: Slab::new(alloc),
@@ -75,7 +75,8 @@ impl<L: Seating + Send + Sync + 'static> Workers<L> {
         })
     }
 
-    /// Makes room for one more thread, its seat and its end. Returns its place, and where it notes its end.
+    /// Makes room for one more thread, its seat and its end. Returns the thread's index, and where the thread notes its end. Returns an
+    /// error if there is not enough memory.
     pub fn reserve(&mut self, rt: &impl Wait) -> Result<(usize, Arc<Done>), AllocError> {
         self.running.reserve(1)?;
         let threads = self.running.len().saturating_add(1);
@@ -85,7 +86,7 @@ impl<L: Seating + Send + Sync + 'static> Workers<L> {
         Ok((self.running.vacant_key(), done))
     }
 
-    /// Returns a free seat, or else a new one; `None` if the service has no more.
+    /// Returns a free seat, or else a new one, or `None` if the service has no more.
     pub fn take_seat<C: Shareable>(
         &mut self,
         rt: &impl Wait,
@@ -94,7 +95,7 @@ impl<L: Seating + Send + Sync + 'static> Workers<L> {
         self.seats.pop().or_else(|| shared.seat(rt).ok())
     }
 
-    /// Adds a thread, at the place that `reserve` returned last.
+    /// Adds a thread, at the index that `reserve` returned last.
     pub fn add(&mut self, thread: JoinHandle<Seat<L>>) {
         let _ = self.running.insert(thread);
     }
@@ -107,8 +108,8 @@ impl<L: Seating + Send + Sync + 'static> Workers<L> {
     }
 
     /// Returns the next connection; in the meantime threads that are done are joined. If descriptors or memory are lacking, waits until a
-    /// connection ends, or, while nobody is connected, a millisecond: others have them then. `None` if accepting fails otherwise while
-    /// nobody is connected.
+    /// connection ends, or, while nobody is connected, a millisecond: others have them then. Returns `None` if accepting fails otherwise
+    /// while nobody is connected.
     pub fn accept<R: Threads + Wait>(
         &mut self,
         rt: &R,

@@ -40,7 +40,7 @@ pub struct Finished<C: Shareable> {
 }
 
 impl<L: Seating, C: Shareable> BookedService<L, C> {
-    /// A service without seats, over a service without inputs. Its ledger is cut into `parts`, one for each seat.
+    /// Creates a service without seats, over a service without inputs. Its ledger is cut into `parts`, one for each seat.
     pub fn new(core: C, blank: Blank, parts: u64) -> BookedService<L, C>
         requires empty { StandsAfter C.KEEPS L.configs C.spaces C.journals 0 core }
         requires name { blank.name ≡ L.name }
@@ -57,7 +57,7 @@ impl<L: Seating, C: Shareable> BookedService<L, C> {
         }
     }
 
-    /// Returns a seat, or `UsedUp` if the ledger has no part left. This allocates nothing.
+    /// Returns a seat, or `UsedUp` if the ledger has no part left. The call allocates nothing.
     pub fn seat(&mut self, alloc: Global) -> Result<Seat<L>, ServiceError>
         ensures seat { IfOk result (λ seat. (seat.count ≡ 0) × (seat.receipts.items ≡ [])) }
         ensures core { self.new.core ≡ self.old.core }
@@ -75,8 +75,8 @@ impl<L: Seating, C: Shareable> BookedService<L, C> {
     /// Takes an input for a seat. If it is accepted, the seat counts one more, and, if the service keeps journals, has one more receipt,
     /// of this input and its output.
     ///
-    /// A refused input is returned, and leaves no receipt and no count; then nothing has changed. In addition to the service's
-    /// refusals, `OutOfMemory` if there is no memory for the receipt, and `UsedUp` if the seat's count is used up.
+    /// A refused input is returned, and leaves no receipt and no count; then nothing has changed. In addition to the service's errors, the
+    /// call returns `OutOfMemory` if there is no memory for the receipt, and `UsedUp` if the seat's count is at 2^64 - 1.
     pub fn step(
         &mut self,
         alloc: Global,
@@ -197,7 +197,7 @@ impl<L: Seating, C: Shareable> BookedService<L, C> {
         Ok(output)
     }
 
-    /// Whether these are all seats that were made.
+    /// Returns whether these are all seats that were made.
     pub fn are_all(&self, seats: &Vec<Seat<L>>) -> bool
         ensures all { result ≡ true → vec_len seats.now + self.now.left ≡ self.now.parts }
         ensures missing { result ≡ false → vec_len seats.now + self.now.left ≢ self.now.parts }
@@ -205,8 +205,8 @@ impl<L: Seating, C: Shareable> BookedService<L, C> {
         seats.len() as u64 == self.parts - self.left
     }
 
-    /// Returns whether the receipts of these seats stand in the journals, each of whose records has one. If there is not enough memory,
-    /// `false`.
+    /// Returns whether the receipts of these seats stand in the journals, each of whose records has one. Returns false if there is not
+    /// enough memory.
     pub fn agrees(&self, alloc: Global, seats: &[Seat<L>]) -> bool
         ensures { result ≡ true
             → AgreeAll (C.journals self.now.core) (λ seat. seat.receipts.items) seats.now }
@@ -224,7 +224,7 @@ impl<L: Seating, C: Shareable> BookedService<L, C> {
         false
     }
 
-    /// Takes the service out, with the receipts of all seats that were made.
+    /// Returns the service, moved out, with the receipts of all seats that were made.
     pub fn close(self, seats: Vec<Seat<L>>, mut receipts: Vec<Vec<Vec<Receipt>>>) -> Finished<C>
         requires ledger { L.all ≡ L.parts }
         requires all { vec_len seats + self.left ≡ self.parts }
@@ -252,7 +252,9 @@ impl<L: Seating, C: Shareable> BookedService<L, C> {
         }
     }
 
-    /// Returns the reply bytes of a connection since they were last taken, moved out.
+    /// Returns the reply bytes of a connection since they were last taken, moved out. Returns `NoNamespace` if there is no such namespace,
+    /// `NoConnection` if the connection was never opened, and `OutOfMemory` if the service copies replies and has no memory for the copy;
+    /// then nothing has changed.
     pub fn take_output(&mut self, conn: Conn) -> Result<Vec<u8>, ServiceError>
         ensures all { IfOk result (λ text. MovesReplies C.spaces C.untaken C.untold self.old.core
             self.new.core conn text.items) }
@@ -265,7 +267,8 @@ impl<L: Seating, C: Shareable> BookedService<L, C> {
         self.core.take_output(conn)
     }
 
-    /// Returns the loads of a namespace that went out and were not taken, moved out.
+    /// Returns the loads of a namespace that went out and were not taken, moved out. Returns `NoNamespace` if there is no such namespace;
+    /// then nothing has changed.
     pub fn take_loads(&mut self, namespace: u64) -> Result<Vec<(LoadId, Bytes)>, ServiceError>
         ensures all { IfOk result (λ loads. MovesLoads C.spaces C.untaken C.untold self.old.core
             self.new.core namespace loads.items) }

@@ -8,8 +8,8 @@ use audit_laws::{Receipt, are_of, receipts_stand};
 use audit_model::Transcript;
 use std::alloc::Global;
 
-/// Returns whether the receipts of these seats stand in a namespace's journal, each of whose records has one. If there is not enough
-/// memory, `false`.
+/// Returns whether the receipts of these seats stand in a namespace's journal, each of whose records has one. Returns false if there is not
+/// enough memory.
 pub fn agree<L: Seating>(
     alloc: Global,
     namespace: u64,

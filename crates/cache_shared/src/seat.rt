@@ -38,15 +38,15 @@ pub struct Seat<L: Seating> {
 }
 
 impl<L: Seating> Seat<L> {
-    /// Returns how many of its inputs were accepted, at most 2^64 - 1.
+    /// Returns how many of the seat's inputs were accepted, at most 2^64 - 1.
     pub fn count(&self) -> u64
         ensures { result ≡ self.now.count }
     {
         self.count
     }
 
-    /// Returns its receipts of a namespace, counted from 0, in the order in which the inputs were accepted; none if the service keeps no
-    /// journals, or if there is no such namespace.
+    /// Returns the seat's receipts of a namespace, counted from 0, in the order in which the inputs were accepted; none if the service
+    /// keeps no journals, or if there is no such namespace.
     pub fn receipts(&self, namespace: u64) -> &[Receipt]
         ensures { result.now ≡ receipts_at self.now.receipts.items namespace }
     {
@@ -55,7 +55,7 @@ impl<L: Seating> Seat<L> {
     }
 }
 
-/// Makes empty lists up to that of this namespace. An `Err` leaves the same receipts.
+/// Appends empty lists, up to that of this namespace. Returns an error if there is not enough memory; then the receipts are the same.
 pub fn make_lists(
     alloc: Global,
     lists: &mut Vec<Vec<Receipt>>,

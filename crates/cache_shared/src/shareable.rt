@@ -30,11 +30,12 @@ pub trait Shareable: Drop {
     /// Whether it keeps journals, and seats keep receipts.
     ghost KEEPS: { Bool };
 
+    /// Whether the service keeps journals.
     const KEEPS: bool;
 
     /// Takes an input: its event happens, and the output is that of the event.
     ///
-    /// A refused input is returned; then nothing has changed.
+    /// A refused input is returned with the error that the call of its kind returns; then nothing has changed.
     fn step(&mut self, input: Input) -> Result<Output, Refusal>
         ensures taken { IfOk result
             (λ output. TakesInput spaces untaken untold input output self.old self.new) }
@@ -45,7 +46,8 @@ pub trait Shareable: Drop {
         ensures unchanged { OnErr result (self.new ≡ self.old) }
         ensures back { IfErr result (λ refusal. refusal.input ≡ input) };
 
-    /// Returns the journal of a namespace: a record for each input that it accepted. Returns `NoNamespace` if it has none.
+    /// Returns the journal of a namespace: a record for each input that it accepted. Returns `NoNamespace` if there is no such namespace,
+    /// or the service keeps no journals.
     fn journal(&self, namespace: u64) -> Result<&Transcript, ServiceError>
         ensures journal { IfOk result
             (λ journal. slice_get (journals self.now) namespace ≡ Some journal.now) }
@@ -53,8 +55,9 @@ pub trait Shareable: Drop {
         ensures refused { KEEPS ≡ true → OnErr result (length (spaces self.now) ≤ namespace) }
         ensures none { IfErr result (λ e. length (journals self.now) ≤ namespace) };
 
-    /// Returns the reply bytes of a connection since they were last taken, moved out. Returns `NoNamespace`, then `NoConnection`, then
-    /// `OutOfMemory` if taking the replies needs memory that there is not: the replies then come the next time.
+    /// Returns the reply bytes of a connection since they were last taken, moved out. Returns `NoNamespace` if there is no such namespace,
+    /// `NoConnection` if the connection was never opened, and `OutOfMemory` if taking the replies needs memory that there is not: the
+    /// replies then come the next time.
     fn take_output(&mut self, conn: Conn) -> Result<Vec<u8>, ServiceError>
         ensures taken { IfOk result
             (λ text. MovesReplies spaces untaken untold self.old self.new conn text.items) }
@@ -63,8 +66,8 @@ pub trait Shareable: Drop {
         ensures unchanged { OnErr result (self.new ≡ self.old) }
         ensures standing { KeepsStanding spaces journals self.old self.new };
 
-    /// Returns the oldest note of a namespace that was reported and not taken; `None` if there is none. Returns `NoNamespace`, then
-    /// `OutOfMemory` if taking the note needs memory that there is not: the note then comes the next time.
+    /// Returns the oldest note of a namespace that was reported and not taken; `None` if there is none. Returns `NoNamespace` if there is
+    /// no such namespace, and `OutOfMemory` if taking the note needs memory that there is not: the note then comes the next time.
     fn next_notice(&mut self, namespace: u64) -> Result<Option<Note>, ServiceError>
         ensures note { IfOk result
             (λ note. MovesNote spaces untaken untold self.old self.new namespace note) }
@@ -83,15 +86,16 @@ pub trait Shareable: Drop {
         ensures unchanged { OnErr result (self.new ≡ self.old) }
         ensures standing { KeepsStanding spaces journals self.old self.new };
 
-    /// Returns why a connection is closed; `None` while it is open. Returns `NoNamespace`, then `NoConnection`.
+    /// Returns why a connection is closed; `None` while it is open. Returns `NoNamespace` if there is no such namespace, and `NoConnection`
+    /// if the connection was never opened.
     fn closed(&self, conn: Conn) -> Result<Option<Closing>, ServiceError>
         ensures closing { IfOk result (λ closing. InSpace (spaces self.now) conn.namespace
             (λ space. closing ≡ closing_of space conn.number)) }
         ensures refused { IfErr result (λ e.
             Refuses (spaces self.now) conn.namespace e (λ space. IsUnknown space conn.number e)) };
 
-    /// Returns whether a `LOAD` of a connection waits for its load, so that no later line runs. Returns `NoNamespace`, then
-    /// `NoConnection`.
+    /// Returns whether a `LOAD` of a connection waits for its load, so that no later line runs. Returns `NoNamespace` if there is no such
+    /// namespace, and `NoConnection` if the connection was never opened.
     fn waiting(&self, conn: Conn) -> Result<bool, ServiceError>
         ensures waits { IfOk result (λ waits. InSpace (spaces self.now) conn.namespace
             (λ space. waits ≡ is_waiting_for space conn.number)) }

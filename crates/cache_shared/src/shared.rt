@@ -47,8 +47,8 @@ impl<L: Seating, C: Shareable> Clone for SharedService<L, C> {
 }
 
 impl<L: Seating, C: Shareable> SharedService<L, C> {
-    /// Makes a service without inputs shared, over a new ledger with this many parts, one for each possible seat. If there is not enough
-    /// memory, service and ledger are returned.
+    /// Makes a service without inputs shared, over a new ledger with this many parts, one for each possible seat. Returns service and
+    /// ledger as the error if there is not enough memory.
     pub fn new(
         alloc: Global,
         core: C,
@@ -81,7 +81,7 @@ impl<L: Seating, C: Shareable> SharedService<L, C> {
         }
     }
 
-    /// Returns a seat for one thread, or `UsedUp` if the ledger has no part left. This allocates nothing.
+    /// Returns a seat for one thread, or `UsedUp` if the ledger has no part left. The call allocates nothing.
     pub fn seat(&self, rt: &impl Wait) -> Result<Seat<L>, ServiceError>
         ensures seat { IfOk result (λ seat. (seat.count ≡ 0) × (seat.receipts.items ≡ [])) }
         ensures refused { IfErr result (λ e. e ≡ ServiceError.UsedUp) }
@@ -92,9 +92,8 @@ impl<L: Seating, C: Shareable> SharedService<L, C> {
     /// Takes one input for a seat, in one hold of the lock. If it is accepted, the seat counts one more, and, if the service keeps
     /// journals, has one more receipt, of this input and its output.
     ///
-    /// A refused input is returned, and leaves no receipt and no count; then nothing has changed. It is refused as the service under
-    /// the lock refuses it, with `OutOfMemory` also if there is no memory for the receipt, and with `UsedUp` if the seat's count is at
-    /// 2^64 - 1.
+    /// A refused input is returned, and leaves no receipt and no count; then nothing has changed. The error is that of the service under
+    /// the lock, `OutOfMemory` also if there is no memory for the receipt, and `UsedUp` if the seat's count is at 2^64 - 1.
     pub fn step(&self, rt: &impl Wait, seat: &mut Seat<L>, input: Input) -> Result<Output, Refusal>
         ensures counted { IfOk result (λ output. Counts C.KEEPS input output seat.old.count
             seat.new.count seat.old.receipts.items seat.new.receipts.items) }
@@ -115,10 +114,10 @@ impl<L: Seating, C: Shareable> SharedService<L, C> {
     }
 
     /// Returns the service with each seat's receipts, if this is the last clone, all seats that were made are passed, and there is enough
-    /// memory: one byte for each record of a namespace. Otherwise this clone and the seats are returned.
+    /// memory: one byte for each record of a namespace. Otherwise this clone and the seats are returned as the error.
     ///
-    /// Then the service has accepted as many inputs as these seats count together, each seat's receipts of a namespace are in their order a
-    /// part of its journal, and over all seats each record has one receipt.
+    /// When the service is returned, it has accepted as many inputs as these seats count together, each seat's receipts of a namespace are
+    /// in their order a part of its journal, and over all seats each record has one receipt.
     pub fn finish(
         self,
         seats: Vec<Seat<L>>,
@@ -145,9 +144,9 @@ impl<L: Seating, C: Shareable> SharedService<L, C> {
 }
 
 impl<L: Seating, C: Shareable> SharedService<L, C> {
-    /// Returns the reply bytes of a connection since they were last taken, moved out, in one hold of the lock. This is not an event, and
-    /// leaves no receipt. Returns `NoNamespace`, then `NoConnection`, then `OutOfMemory` if the service under the lock copies replies and
-    /// has no memory for the copy: the replies then come the next time.
+    /// Returns the reply bytes of a connection since they were last taken, moved out, in one hold of the lock. The call is not an event,
+    /// and leaves no receipt. Returns `NoNamespace` if there is no such namespace, `NoConnection` if the connection was never opened, and
+    /// `OutOfMemory` if the service under the lock copies replies and has no memory for the copy: the replies then come the next time.
     pub fn take_output(&self, rt: &impl Wait, conn: Conn) -> Result<Vec<u8>, ServiceError>
         ensures all { IfOk result (λ text. HappenedAtSomeMoment L.configs C.spaces (λ old new.
             MovesReplies C.spaces C.untaken C.untold old new conn text.items)) }
@@ -160,10 +159,10 @@ impl<L: Seating, C: Shareable> SharedService<L, C> {
     }
 
     /// Takes one input for a seat, like `step`, and moves out what a connection is owed afterwards, in the same hold of the lock: its
-    /// replies, the loads of its namespace that went out, if requested, why it is closed and whether it waits. The namespace's oldest
-    /// notes are appended to those given, as many as there is room for.
+    /// replies, the loads of its namespace that went out, if requested, why it is closed and whether it waits. The namespace's oldest notes
+    /// are appended to those given, as many as there is room for.
     ///
-    /// Refused like `step`; then nothing has changed.
+    /// The call returns the errors of `step`; then nothing has changed.
     pub fn turn(
         &self,
         rt: &impl Wait,
@@ -199,9 +198,9 @@ impl<L: Seating, C: Shareable> SharedService<L, C> {
         turn
     }
 
-    /// Returns what a connection is owed, moved out in one hold of the lock; nothing if the connection is unknown. This is not an event,
-    /// and leaves no receipt. The loads of its namespace are included only if requested; the namespace's oldest notes are appended to those
-    /// given, as many as there is room for.
+    /// Returns what a connection is owed, moved out in one hold of the lock; nothing if the connection is unknown. The call is not an
+    /// event, and leaves no receipt. The loads of its namespace are included only if requested; the namespace's oldest notes are appended
+    /// to those given, as many as there is room for.
     pub fn take_owed(
         &self,
         rt: &impl Wait,
@@ -222,8 +221,8 @@ impl<L: Seating, C: Shareable> SharedService<L, C> {
     }
 
     /// Appends the oldest notes of a namespace that were reported and not taken, moved out in one hold of the lock, as many as there is
-    /// room for. This is not an event, and leaves no receipt. Returns `NoNamespace`, and `OutOfMemory` if the service under the lock copies
-    /// notes and has no memory for a copy: the notes before that one are then taken.
+    /// room for. The call is not an event, and leaves no receipt. Returns `NoNamespace` if there is no such namespace, and `OutOfMemory` if
+    /// the service under the lock copies notes and has no memory for a copy: the notes before that one are then taken.
     pub fn take_notices(
         &self,
         rt: &impl Wait,
@@ -239,7 +238,7 @@ impl<L: Seating, C: Shareable> SharedService<L, C> {
     }
 
     /// Returns the loads of a namespace that went out and were not taken, with their keys, in the order in which they were sent, moved out,
-    /// in one hold of the lock. This is not an event, and leaves no receipt. Returns `NoNamespace` if there is no such namespace.
+    /// in one hold of the lock. The call is not an event, and leaves no receipt. Returns `NoNamespace` if there is no such namespace.
     pub fn take_loads(
         &self,
         rt: &impl Wait,
@@ -254,9 +253,9 @@ impl<L: Seating, C: Shareable> SharedService<L, C> {
         self.inner().booked.lock(rt).take_loads(namespace)
     }
 
-    /// Returns the oldest note of a namespace that was reported and not taken, or `None`, in one hold of the lock. This is not an event,
-    /// and leaves no receipt. Returns `NoNamespace`, then `OutOfMemory` if the service under the lock copies notes and has no memory for
-    /// the copy: the note then comes the next time.
+    /// Returns the oldest note of a namespace that was reported and not taken, or `None`, in one hold of the lock. The call is not an
+    /// event, and leaves no receipt. Returns `NoNamespace` if there is no such namespace, and `OutOfMemory` if the service under the lock
+    /// copies notes and has no memory for the copy: the note then comes the next time.
     pub fn next_notice(&self, rt: &impl Wait, namespace: u64) -> Result<Option<Note>, ServiceError>
         ensures all { IfOk result (λ note. HappenedAtSomeMoment L.configs C.spaces (λ old new.
             MovesNote C.spaces C.untaken C.untold old new namespace note)) }
@@ -268,7 +267,8 @@ impl<L: Seating, C: Shareable> SharedService<L, C> {
         self.inner().booked.lock(rt).core.next_notice(namespace)
     }
 
-    /// Returns why a connection is closed, or `None` while it is open, in one hold of the lock. Returns `NoNamespace`, then `NoConnection`.
+    /// Returns why a connection is closed, or `None` while it is open, in one hold of the lock. Returns `NoNamespace` if there is no such
+    /// namespace, and `NoConnection` if the connection was never opened.
     pub fn closed(&self, rt: &impl Wait, conn: Conn) -> Result<Option<Closing>, ServiceError>
         ensures closing { IfOk result (λ closing. HeldAtSomeMoment L.configs C.spaces (λ spaces.
             InSpace spaces conn.namespace (λ space. closing ≡ closing_of space conn.number))) }
@@ -278,7 +278,8 @@ impl<L: Seating, C: Shareable> SharedService<L, C> {
         self.inner().booked.lock(rt).core.closed(conn)
     }
 
-    /// Returns whether a `LOAD` of a connection waits for its load, in one hold of the lock. Returns `NoNamespace`, then `NoConnection`.
+    /// Returns whether a `LOAD` of a connection waits for its load, in one hold of the lock. Returns `NoNamespace` if there is no such
+    /// namespace, and `NoConnection` if the connection was never opened.
     pub fn waiting(&self, rt: &impl Wait, conn: Conn) -> Result<bool, ServiceError>
         ensures waits { IfOk result (λ waits. HeldAtSomeMoment L.configs C.spaces (λ spaces.
             InSpace spaces conn.namespace (λ space. waits ≡ is_waiting_for space conn.number))) }
@@ -289,7 +290,7 @@ impl<L: Seating, C: Shareable> SharedService<L, C> {
     }
 
     /// Waits until no `LOAD` of a connection waits for its load. Each step of a seat lets those that wait look again. Nothing is promised
-    /// about when it returns; if the connection is unknown it returns at once.
+    /// about when the call returns; if the connection is unknown it returns at once.
     pub fn await_ready(&self, rt: &impl Wait, seat: &Seat<L>, conn: Conn) {
         let inner = self.inner();
         let mut guard = inner.booked.lock(rt);

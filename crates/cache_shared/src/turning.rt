@@ -32,13 +32,13 @@ pub struct Owed {
 pub struct Turn {
     /// The output of the input.
     pub output: Output,
-    /// What its connection is owed afterwards.
+    /// What the connection is owed afterwards.
     pub owed: Owed,
 }
 
 impl<L: Seating, C: Shareable> BookedService<L, C> {
     /// Takes an input for a seat, like `step`, and moves out what a connection is owed afterwards, and its namespace's oldest notes, as
-    /// many as there is room for.
+    /// many as there is room for. Returns the errors of `step`; then nothing has changed.
     pub fn turn(
         &mut self,
         alloc: Global,
@@ -72,8 +72,8 @@ impl<L: Seating, C: Shareable> BookedService<L, C> {
         Ok(Turn { output, owed })
     }
 
-    /// Returns what a connection is owed, and appends its namespace's oldest notes, as many as there is room for, moved out; nothing if it
-    /// is unknown.
+    /// Returns what a connection is owed, and appends its namespace's oldest notes, as many as there is room for, moved out; nothing if the
+    /// connection is unknown.
     pub fn take_owed(&mut self, conn: Conn, wants_loads: bool, notes: &mut Vec<Note>) -> Owed
         ensures all { MovesAll C.spaces C.untaken C.untold self.old.core self.new.core conn result
             notes.old.items notes.new.items }
@@ -124,8 +124,9 @@ impl<L: Seating, C: Shareable> BookedService<L, C> {
         }
     }
 
-    /// Appends the oldest notes of a namespace that were reported and not taken, moved out, as many as there is room for. If one is
-    /// refused, those before it were taken.
+    /// Appends the oldest notes of a namespace that were reported and not taken, moved out, as many as there is room for. Returns
+    /// `NoNamespace` if there is no such namespace, and `OutOfMemory` if the service copies notes and has no memory for a copy: the notes
+    /// before that one are then taken.
     pub fn take_notices(
         &mut self,
         namespace: u64,

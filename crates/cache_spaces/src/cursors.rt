@@ -12,12 +12,12 @@ use std::alloc::Global;
 pub struct Cursors {
     /// For each connection that was opened, in the order of their numbers, through how many records its replies were taken.
     pub replies: Vec<u64>,
-    /// The place of the first note that was not taken.
+    /// The position of the first note that was not taken.
     pub notes: Told,
 }
 
 impl Cursors {
-    /// Nothing was taken, and no connection was opened.
+    /// Creates the cursors of a namespace of which nothing was taken, and no connection was opened.
     pub fn new(alloc: Global) -> Cursors
         ensures replies { result.replies.items ≡ [] }
         ensures notes { result.notes ≡ record { entry = 0; list = 0; note = 0 } }
@@ -32,7 +32,7 @@ impl Cursors {
         }
     }
 
-    /// Through how many records the replies of a connection were taken.
+    /// Returns through how many records the replies of a connection were taken.
     pub fn replies_taken(&self, number: u64) -> u64
         requires { (0 < number) × (number ≤ length self.now.replies.items) }
         ensures { result ≡ taken_through (cursor_of self.now) number }
@@ -52,7 +52,8 @@ impl Cursors {
         self.replies[number as usize - 1] = count;
     }
 
-    /// Moves behind the first note in these records that was not taken, and returns the place from which it is the first.
+    /// Moves the cursor behind the first note in these records that was not taken, and returns the position from which that note is the
+    /// first.
     pub fn pass_note(&mut self, records: &[Record]) -> Told
         ensures was { result ≡ self.old.notes }
         ensures note { TakesFrom records.now self.old.notes self.new.notes

@@ -89,9 +89,9 @@ impl RecordedService {
     /// Takes an input, adds its record to its namespace's journal, and returns the output that the record describes. Replies and notes are
     /// read from the journal.
     ///
-    /// A refused input is returned, with the cause for which the call of that name refuses it; the definition's own causes come
-    /// before `OutOfMemory`, which is also possible for a closing and a give-up, if there is no memory for their records. Then nothing has
-    /// changed, and no record is added.
+    /// A refused input is returned, with the error that the call of its kind returns; any other error comes before `OutOfMemory`, which is
+    /// also possible for a closing and a give-up, if there is no memory for their records. Then nothing has changed, and no record is
+    /// added.
     pub fn step(&mut self, input: Input) -> Result<Output, Refusal>
         ensures performed { IfOk result (λ output. At self.old.spaces self.new.spaces
             (namespace_of input) (Performs kept_by input output)) }
@@ -132,7 +132,7 @@ impl RecordedService {
     }
 
     /// Returns the journal of a namespace: a record for each input that it took, in order. The journal obeys, and leads to where the
-    /// namespace stands. This allocates nothing. Returns `NoNamespace` if there is no such namespace.
+    /// namespace stands. The call allocates nothing. Returns `NoNamespace` if there is no such namespace.
     pub fn journal(&self, namespace: u64) -> Result<&Transcript, ServiceError>
         ensures journal { IfOk result
             (λ journal. slice_get (journals_of self.now.spaces) namespace ≡ Some journal.now) }
@@ -159,7 +159,8 @@ impl RecordedService {
     }
 
     /// Returns the replies of a connection since they were last taken, lent from the journal, even after it closed. The replies are not
-    /// taken. This allocates nothing. Returns `NoNamespace`, then `NoConnection`.
+    /// taken. The call allocates nothing. Returns `NoNamespace` if there is no such namespace, and `NoConnection` if the connection was
+    /// never opened.
     pub fn peek_output(&self, conn: Conn) -> Result<LentReplies<'_>, ServiceError>
         ensures replies { IfOk result (λ replies. lent_replies replies ≡ untaken_in self.now conn) }
         ensures known { OnOk result
@@ -172,7 +173,8 @@ impl RecordedService {
     }
 
     /// Returns the replies of a connection since they were last taken, lent from the journal, even after it closed. Each reply comes once.
-    /// This is not an event, and allocates nothing. Returns `NoNamespace`, then `NoConnection`.
+    /// The call is not an event, and allocates nothing. Returns `NoNamespace` if there is no such namespace, and `NoConnection` if the
+    /// connection was never opened.
     /// ```
     /// let replies = recorded.take_output(conn)?.to_vec(alloc)?;
     /// ```
@@ -189,7 +191,8 @@ impl RecordedService {
         Ok(self.replies_from(conn, count))
     }
 
-    /// Through how many records the replies of a connection were taken. Returns `NoNamespace`, then `NoConnection`.
+    /// Through how many records the replies of a connection were taken. Returns `NoNamespace` if there is no such namespace, and
+    /// `NoConnection` if the connection was never opened.
     fn replies_taken(&self, conn: Conn) -> Result<u64, ServiceError>
         ensures count { IfOk result
             (λ count. count ≡ taken_through (cursor_in self.now conn.namespace) conn.number) }
@@ -224,7 +227,7 @@ impl RecordedService {
     }
 
     /// Returns the loads of a namespace that went out and were not taken, with their keys, in the order in which they were sent, moved out,
-    /// so that each comes once. This is not an event, adds no record, and allocates nothing. Returns `NoNamespace` if there is no such
+    /// so that each comes once. The call is not an event, adds no record, and allocates nothing. Returns `NoNamespace` if there is no such
     /// namespace.
     pub fn take_loads(&mut self, namespace: u64) -> Result<Vec<(LoadId, Bytes)>, ServiceError>
         ensures taken { IfOk result (λ loads. At self.old.spaces self.new.spaces namespace
@@ -238,7 +241,7 @@ impl RecordedService {
     }
 
     /// Returns the oldest note of a namespace that was reported and not taken, lent from the journal; `None` if there is none. The note is
-    /// not taken. This allocates nothing. Returns `NoNamespace` if there is no such namespace.
+    /// not taken. The call allocates nothing. Returns `NoNamespace` if there is no such namespace.
     pub fn peek_notice(&self, namespace: u64) -> Result<Option<&Note>, ServiceError>
         ensures note { IfOk result
             (λ note. option_copied note ≡ slice_get (untold_in self.now namespace) 0) }
@@ -253,7 +256,7 @@ impl RecordedService {
     }
 
     /// Returns the oldest note of a namespace that was reported and not taken, lent from the journal; `None` if there is none. Each note
-    /// comes once. This is not an event, and allocates nothing. Returns `NoNamespace` if there is no such namespace.
+    /// comes once. The call is not an event, and allocates nothing. Returns `NoNamespace` if there is no such namespace.
     pub fn next_notice(&mut self, namespace: u64) -> Result<Option<&Note>, ServiceError>
         ensures* taken { sem 𝓛 (Rests the_row self.entry (LendsNote self.old namespace result)) }
         ensures note { IfOk result
@@ -293,7 +296,7 @@ impl RecordedService {
         Some(note)
     }
 
-    /// Returns the journals, in the order of the namespaces, moved out; the service ends. This allocates nothing.
+    /// Returns the journals, in the order of the namespaces, moved out. The service ends. The call allocates nothing.
     pub fn into_journals(self) -> Vec<Transcript>
         ensures { result.items ≡ journals_of self.spaces }
     {
@@ -343,7 +346,7 @@ fn new_cursors(alloc: Global, count: usize) -> Result<Vec<Cursors>, AllocError>
     Ok(read)
 }
 
-/// Opens a connection in a namespace, and adds its cursor. An `Err` changes nothing.
+/// Opens a connection in a namespace, and adds its cursor. If the call is refused, nothing has changed.
 fn open_in(core: &mut Core<Kept>, replies: &mut Vec<u64>, namespace: u64) -> Result<Output, Refusal>
     requires { namespace < length core.old }
     ensures performed { IfOk result (λ output.

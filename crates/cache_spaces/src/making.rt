@@ -19,7 +19,7 @@ const MOST: usize = 16;
 /// The number of bytes of a hasher's secret.
 const SECRET: usize = 16;
 
-/// Whether a service accepts these configurations.
+/// Returns whether a service accepts these configurations: 1 to 16 of them, each in range.
 pub fn are_taken(configs: &[Config]) -> bool
     ensures { result ≡ are_taken configs.now }
 {
@@ -38,7 +38,8 @@ fn are_served(configs: &[Config]) -> bool
     true
 }
 
-/// Creates namespaces with these configurations, in their order, each with a fork of the generator.
+/// Creates namespaces with these configurations, in their order, each with a fork of the generator. Returns `OutOfMemory` if there is not
+/// enough memory.
 pub fn new_spaces<T: NewTape>(
     alloc: Global,
     configs: &[Config],

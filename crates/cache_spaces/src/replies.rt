@@ -14,8 +14,8 @@ pub struct LentReplies<'a> {
 }
 
 impl LentReplies<'_> {
-    /// Appends a copy of the replies, with their line ends. This allocates only if there is no room for them. After an `Err` nothing has
-    /// changed.
+    /// Appends a copy of the replies, with their line ends. The call allocates only if there is no room for them. Returns an error if there
+    /// is not enough memory; then nothing has changed.
     pub fn copy_to(&self, text: &mut Vec<u8>) -> Result<(), AllocError>
         ensures copied { OnOk result (text.new.items ≡ text.old.items ++ lent_replies self.now) }
         ensures unchanged { OnErr result (text.new.items ≡ text.old.items) }
@@ -28,7 +28,7 @@ impl LentReplies<'_> {
         done
     }
 
-    /// Returns a copy of the replies, with their line ends. Returns an error if there is no memory for it.
+    /// Returns a copy of the replies, with their line ends. Returns an error if there is no memory for the copy.
     pub fn to_vec(&self, alloc: Global) -> Result<Vec<u8>, AllocError>
         ensures { IfOk result (λ text. text.items ≡ lent_replies self.now) }
     {
@@ -38,7 +38,7 @@ impl LentReplies<'_> {
     }
 }
 
-/// The records from this place on.
+/// Returns the records from this one on, counted from 0.
 pub fn records_from(records: &[Record], place: u64) -> &[Record]
     ensures { result.now ≡ drop place records.now }
 {

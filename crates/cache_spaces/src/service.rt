@@ -63,11 +63,11 @@ pub enum Fed {
     Held,
 }
 
-/// An outcome that `Core::answer` did not accept, returned with the reason. It converts to its `ServiceError` by `?`.
+/// An outcome that `Core::answer` did not accept, returned with the reason. The error converts to its `ServiceError` by `?`.
 #[derive(Debug, Drop, Error)]
 #[error("{error}")]
 pub struct AnswerError {
-    /// Why it was refused.
+    /// Why the outcome was refused.
     pub error: ServiceError,
     /// The outcome, unchanged.
     pub outcome: Outcome,
@@ -122,7 +122,7 @@ impl<T: NewTape> Core<T> {
 impl<T: Tape> Core<T> {
     /// Opens a connection in a namespace, and returns it: its number is the next one there, from 1 on.
     ///
-    /// Returns `NoNamespace`, then `OutOfMemory`. Then nothing has changed.
+    /// Returns `NoNamespace` if there is no such namespace, and `OutOfMemory` if there is not enough memory; then nothing has changed.
     pub fn open(&mut self, namespace: u64) -> Result<Conn, ServiceError>
         ensures taken { IfOk result (λ conn. (conn.namespace ≡ namespace)
             × At self.old self.new namespace (λ was is. OpensNext T.view was is conn.number)) }
@@ -216,7 +216,7 @@ impl<T: Tape> Core<T> {
     }
 
     /// Gives up a load under way at a moment: each `LOAD` that waits for it runs again, in order, as a whole command, followed by its
-    /// connection's lines. It waits again, for a new load, if its key has no live value; at its 200th give-up it is answered with
+    /// connection's lines. A `LOAD` waits again, for a new load, if its key has no live value; at its 200th give-up it is answered with
     /// `ERR abandoned`. An earlier moment counts as the namespace's latest.
     ///
     /// Returns `NoNamespace`, `NoLoad` or `Moment` (above 2^63 - 1 nanoseconds), in this order, and otherwise `OutOfMemory` if there is no
@@ -238,9 +238,8 @@ impl<T: Tape> Core<T> {
         space.give_up(load.number, moment)
     }
 
-    /// Returns the reply bytes of a connection since they were last taken, with their line ends, moved out, even after it closed. This
-    /// allocates nothing.
-    /// Returns `NoNamespace`, then `NoConnection`.
+    /// Returns the reply bytes of a connection since they were last taken, with their line ends, moved out, even after it closed. The call
+    /// allocates nothing. Returns `NoNamespace` if there is no such namespace, and `NoConnection` if the connection was never opened.
     pub fn take_output(&mut self, conn: Conn) -> Result<Vec<u8>, ServiceError>
         ensures taken { IfOk result (λ text. At self.old self.new conn.namespace
             (λ was is. TakesOutput was is conn.number text.items)) }
@@ -257,8 +256,7 @@ impl<T: Tape> Core<T> {
     }
 
     /// Returns the oldest note of a namespace that was reported and not taken, of a value that left; `None` if there is none. Each note
-    /// comes once.
-    /// This allocates nothing. Returns `NoNamespace` if there is no such namespace.
+    /// comes once. The call allocates nothing. Returns `NoNamespace` if there is no such namespace.
     /// ```
     /// while let Some(note) = service.next_notice(0)? {
     ///     log(note.cause, &note.key);
@@ -280,8 +278,8 @@ impl<T: Tape> Core<T> {
     }
 
     /// Returns the loads of a namespace that went out and were not taken, with their keys, in the order in which they were sent, moved out,
-    /// so that each comes once. Whoever takes one owes an `answer` or a `give_up`. This allocates nothing. Returns `NoNamespace` if there
-    /// is no such namespace.
+    /// so that each comes once. Whoever takes one owes an `answer` or a `give_up`. The call allocates nothing. Returns `NoNamespace` if
+    /// there is no such namespace.
     /// ```
     /// for (load, key) in service.take_loads(0)? {
     ///     service.answer(load, look_up(&key), moment)?;
@@ -302,7 +300,8 @@ impl<T: Tape> Core<T> {
         Ok(space.take_loads())
     }
 
-    /// Returns why a connection is closed; `None` while it is open. This allocates nothing. Returns `NoNamespace`, then `NoConnection`.
+    /// Returns why a connection is closed; `None` while it is open. The call allocates nothing. Returns `NoNamespace` if there is no such
+    /// namespace, and `NoConnection` if the connection was never opened.
     pub fn closed(&self, conn: Conn) -> Result<Option<Closing>, ServiceError>
         ensures closing { IfOk result (λ closing. InSpace self.now conn.namespace
             (λ space. IsOpened space conn.number × (closing ≡ closing_of space conn.number))) }
@@ -312,8 +311,8 @@ impl<T: Tape> Core<T> {
         self.space(conn.namespace)?.closed(conn.number)
     }
 
-    /// Returns whether a connection is open and its first line is a `LOAD` that waits for its load, so that no later line runs. This
-    /// allocates nothing. Returns `NoNamespace`, then `NoConnection`.
+    /// Returns whether a connection is open and its first line is a `LOAD` that waits for its load, so that no later line runs. The call
+    /// allocates nothing. Returns `NoNamespace` if there is no such namespace, and `NoConnection` if the connection was never opened.
     pub fn waiting(&self, conn: Conn) -> Result<bool, ServiceError>
         ensures waits { IfOk result (λ waits. InSpace self.now conn.namespace
             (λ space. IsOpened space conn.number × (waits ≡ is_waiting_for space conn.number))) }
@@ -323,8 +322,8 @@ impl<T: Tape> Core<T> {
         self.space(conn.namespace)?.waiting(conn.number)
     }
 
-    /// Returns how many loads of a namespace are under way: sent, and neither answered nor given up, whether they were taken or not. This
-    /// allocates nothing. Returns `NoNamespace` if there is no such namespace.
+    /// Returns how many loads of a namespace are under way: sent, and neither answered nor given up, whether they were taken or not. The
+    /// call allocates nothing. Returns `NoNamespace` if there is no such namespace.
     pub fn loads_open(&self, namespace: u64) -> Result<u64, ServiceError>
         ensures count { IfOk result
             (λ count. InSpace self.now namespace (λ space. count ≡ length space.pending)) }
@@ -334,8 +333,8 @@ impl<T: Tape> Core<T> {
         Ok(self.space(namespace)?.loads_open())
     }
 
-    /// Does nothing. Its contract says what is true of a namespace, if it exists: it stands for a situation, it is in order, and its parts
-    /// agree with each other.
+    /// Does nothing. Its contract says what is true of a namespace that exists: there is a situation (of the definitions) that it agrees
+    /// with, its connections and loads are in order, and its store, connections and loads agree with each other.
     pub fn sound(&self, namespace: u64)
         ensures { (space : Space T) → slice_get self.now namespace ≡ Some space
             → IsSound T.view space }

@@ -10,11 +10,11 @@ use audit_model::{Input, Instant, LoadId, Outcome, ServiceError};
 use cache_lines::Tape;
 use thiserror::Error;
 
-/// An input that was refused, returned with the reason. It converts to its `ServiceError` by `?`.
+/// An input that was refused, returned with the reason. The refusal converts to its `ServiceError` by `?`.
 #[derive(Debug, Drop, Error)]
 #[error("{error}")]
 pub struct Refusal {
-    /// Why it was refused.
+    /// Why the input was refused.
     pub error: ServiceError,
     /// The input, unchanged.
     pub input: Input,
@@ -41,7 +41,7 @@ impl From<Refusal> for ServiceError {
 impl<T: Tape> Core<T> {
     /// Takes an input, and returns the output of its event.
     ///
-    /// A refused input is returned, with the cause for which the call of that name refuses it; then nothing has changed.
+    /// A refused input is returned, with the error that the call of its kind returns; then nothing has changed.
     pub fn step(&mut self, input: Input) -> Result<Output, Refusal>
         ensures performed { IfOk result
             (λ output. At self.old self.new (namespace_of input) (Performs T.view input output)) }

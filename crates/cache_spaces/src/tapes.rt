@@ -12,7 +12,7 @@ pub trait NewTape: Tape {
     // what it keeps of a namespace that is created at this moment, if it keeps anything
     ghost blank: { Moment → Option Taped };
 
-    /// Creates a tape of a namespace that is created at this moment. This allocates nothing.
+    /// Creates a tape of a namespace that is created at this moment. The call allocates nothing.
     fn make(alloc: Global, made: Instant) -> Self
         ensures blank { Self.Tape.view result ≡ blank made }
         ensures rests { IsAtRest (Self.Tape.view result) };

@@ -5,16 +5,18 @@ ghost use Rattle.cache_spaces.specs.Cursors.{lists_of, notes_from, rest_in};
 use audit_model::{Note, Record, copy_bytes};
 use std::alloc::{AllocError, Global};
 
-/// The place of the first note that was not taken: the number of records before its own, of lists before its own in its record, and of
-/// notes before it in its list. A record's first list is that of an answer's value, and each step has one.
+/// The position of the first note that was not taken. A record's first list of notes is that of an answer's value, and each step has one.
 #[derive(Clone, Copy, Drop)]
 pub struct Told {
+    /// The number of records before the note's own.
     pub entry: usize,
+    /// The number of lists before the note's own in its record.
     pub list: usize,
+    /// The number of notes before it in its list.
     pub note: usize,
 }
 
-/// Returns the first note from there on, and the place after it.
+/// Returns the first note from that position on, and the position after it, or `None` if there is none.
 pub fn find_note(records: &[Record], told: Told) -> Option<(&Note, Told)>
     ensures first { MatchOption result (notes_from records.now told ≡ [])
         (λ found. notes_from records.now told ≡ found.0.now ∷ notes_from records.now found.1) }

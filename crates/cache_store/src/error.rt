@@ -7,7 +7,7 @@ use std::alloc::AllocError;
 /// Why a store refuses a call.
 #[derive(Clone, Copy, Debug, PartialEq, Eq, Drop)]
 pub enum StoreError {
-    /// There is no memory.
+    /// There is not enough memory.
     OutOfMemory,
     /// A 64-bit number that the call raises is used up.
     UsedUp,

@@ -6,13 +6,13 @@ ghost use Rattle.cached_config.specs.Good.{are_distinct, are_good, is_apart, is_
 
 use crate::listed::{HostedNamespace, Listed};
 
-/// The most namespaces.
+/// The maximum number of namespaces.
 pub const MOST: usize = 16;
 
-/// The most bytes of a value that is loaded.
+/// The maximum number of bytes of a value that loads find.
 pub const MOST_BYTES: usize = 8192;
 
-/// Whether a file may have these namespaces: 1 to 16, each valid, all names and all ports different.
+/// Returns whether a file may have these namespaces: 1 to 16, each valid, all names and all ports different.
 pub fn are_good(spaces: &[HostedNamespace]) -> bool
     ensures { result ≡ are_good spaces.now }
 {
@@ -64,7 +64,7 @@ fn is_good(space: &HostedNamespace) -> bool
         && are_loadable(&space.loads)
 }
 
-/// Whether a name has 1 to 32 bytes, each of which a name may have.
+/// Returns whether a name has 1 to 32 bytes, each of which a name may have: `a` to `z`, `0` to `9`, `-` and `_`.
 pub fn is_name(name: &[u8]) -> bool
     ensures { result ≡ is_name name.now }
 {
@@ -99,7 +99,7 @@ fn is_loadable(listed: &Listed) -> bool
     listed.value.len() <= MOST_BYTES && is_value(listed.value.as_slice())
 }
 
-/// Whether the bytes have no line end.
+/// Returns whether the bytes have no line end.
 pub fn is_value(bytes: &[u8]) -> bool
     ensures { result ≡ is_value bytes.now }
 {

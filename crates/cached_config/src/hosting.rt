@@ -32,7 +32,7 @@ fn is_bind(text: &str) -> bool {
     address.is_ok()
 }
 
-/// Where a table says that the namespace listens: 127.0.0.1 if it says nothing of it.
+/// Returns where a table says that the namespace listens, or 127.0.0.1 without the key. Returns what is wrong if the value is not allowed.
 pub fn bind_in(table: &Table) -> Result<&str, &'static str> {
     match at_key(table, "bind") {
         None => Ok("127.0.0.1"),
@@ -43,7 +43,8 @@ pub fn bind_in(table: &Table) -> Result<&str, &'static str> {
     }
 }
 
-/// The permissions that a table says, as a number; 660 if it says none.
+/// Returns the permissions that a table says, as a number, or those of 660 without the key. Returns what is wrong if the value is not
+/// allowed.
 pub fn mode_in(table: &Table) -> Result<u32, &'static str> {
     let Some(value) = at_key(table, "mode") else {
         return Ok(0o660);
@@ -61,12 +62,12 @@ pub fn mode_in(table: &Table) -> Result<u32, &'static str> {
     }
 }
 
-/// How many loops a table says, if it does.
+/// Returns how many loops a table says, or `None` without the key. Returns what is wrong if the value is not allowed.
 pub fn loops_in(table: &Table) -> Result<Option<u64>, &'static str> {
     number_at(table, "loops", 1, 64, LOOPS)
 }
 
-/// What a table says that notices have; values if it says nothing of it.
+/// Returns what a table says that notices have: values, without the key. Returns what is wrong if the value is not allowed.
 pub fn notices_in(table: &Table) -> Result<Notices, &'static str> {
     match at_key(table, "notices") {
         None => Ok(Notices::Values),
@@ -79,7 +80,8 @@ pub fn notices_in(table: &Table) -> Result<Notices, &'static str> {
     }
 }
 
-/// The port at which a document says that metrics are served, if it does.
+/// Returns the port at which a document says that metrics are served, or `None` without the key. Returns what is wrong if the value is not
+/// allowed.
 pub fn metrics_in(document: &Table) -> Result<Option<u16>, &'static str> {
     match at_key(document, "metrics") {
         None => Ok(None),
@@ -101,14 +103,15 @@ fn port_of_metrics(table: &Table) -> Result<Option<u16>, &'static str> {
     }
 }
 
-/// How many connections a table allows; 10,000 if it says nothing of it.
+/// Returns how many connections a table allows, or 10,000 without the key. Returns what is wrong if the value is not allowed.
 pub fn connections_in(table: &Table) -> Result<u64, &'static str> {
     let what = "is a number from 1 to 1000000";
     let said = number_at(table, "max_connections", 1, 1_000_000, what)?;
     Ok(said.unwrap_or(10_000))
 }
 
-/// After how many seconds a table has a connection closed that is idle, if it does.
+/// Returns after how many seconds a table says that an idle connection is closed, or `None` without the key. Returns what is wrong if the
+/// value is not allowed.
 pub fn idle_in(table: &Table) -> Result<Option<u64>, &'static str> {
     number_at(
         table,

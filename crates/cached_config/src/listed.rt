@@ -8,7 +8,9 @@ use std::alloc::AllocError;
 /// A key that loads find, with its value.
 #[derive(Drop)]
 pub struct Listed {
+    /// The key.
     pub key: Bytes,
+    /// The value that a load of the key finds.
     pub value: Bytes,
 }
 
@@ -19,6 +21,7 @@ pub struct HostedNamespace {
     pub name: Bytes,
     /// The namespace's port on 127.0.0.1, 1 to 65535.
     pub port: u16,
+    /// The configuration of the namespace.
     pub config: Config,
     /// What loads in the namespace find; a key that is not listed is not found.
     pub loads: Vec<Listed>,
@@ -27,16 +30,17 @@ pub struct HostedNamespace {
 /// How `bivrangd` serves a namespace.
 #[derive(Drop)]
 pub struct Hosting {
-    /// The IP address on which it listens, or the path of a Unix socket, which begins with `/`.
+    /// The IP address on which the namespace listens, or the path of a Unix socket, which begins with `/`.
     pub bind: String,
     /// The permissions of the socket at the path, as a number.
     pub mode: u32,
-    /// How many loops serve it, if the file says so.
+    /// How many loops serve the namespace, or `None` if the file does not say.
     pub loops: Option<u64>,
     /// How many connections may be open at once.
     pub connections: u64,
-    /// After so many seconds without a byte a connection is closed.
+    /// After how many seconds without a byte a connection is closed, or `None` without a limit.
     pub idle: Option<u64>,
+    /// What a notice of the namespace has.
     pub notices: Notices,
     pub protocol: Protocol,
 }
@@ -61,21 +65,21 @@ pub struct ItemLimits {
     pub item_size: u32,
 }
 
-/// What `bivrangd` tells of a value that leaves.
+/// What a notice of `bivrangd` has.
 #[derive(Clone, Copy, Debug, PartialEq, Eq, Drop)]
 pub enum Notices {
-    /// Its key and the value.
+    /// The key and the value.
     Values,
-    /// Its key.
+    /// The key.
     Keys,
-    /// Nothing.
+    /// Nothing: no notice is given.
     Off,
 }
 
 /// A fault of a configuration file, or a warning.
 #[derive(Debug, Drop)]
 pub struct ConfigFault {
-    /// The number of the line at fault, from 1 on.
+    /// The number of the line at fault, counted from 1.
     pub line: usize,
     /// What is wrong there, in words.
     pub what: String,
@@ -84,7 +88,7 @@ pub struct ConfigFault {
 /// What there is to say about a configuration file, in the order of its lines.
 #[derive(Debug, Drop)]
 pub struct ConfigReport {
-    /// Why the file is not accepted; empty if it is.
+    /// Why the file is not accepted, or nothing if it is.
     pub faults: Vec<ConfigFault>,
     /// What the file may say, and probably should not.
     pub warnings: Vec<ConfigFault>,

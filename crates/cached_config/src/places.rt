@@ -4,13 +4,13 @@ ghost use Rattle.std.specs.Prelude.{◌≡◌};
 /// Where a key is in the table of a namespace.
 #[derive(Clone, Copy, PartialEq, Eq, Drop)]
 pub enum Part {
-    /// In the table itself.
+    /// In the namespace's table itself.
     Own,
-    /// In its table `loads`.
+    /// In the namespace's table `loads`.
     Loads,
 }
 
-/// The line, from 1 on, of the header with which the table with this number begins; 1 if there is none.
+/// Returns the number of the line, counted from 1, with the header of the table of this number, or 1 if there is none.
 pub fn line_of_header(text: &str, place: usize) -> usize {
     let mut headers = text
         .lines()
@@ -20,7 +20,8 @@ pub fn line_of_header(text: &str, place: usize) -> usize {
     header.map_or(1, |(index, _)| index.saturating_add(1))
 }
 
-/// The line of a key in the table with this number; the line of the table's header if the key does not begin a line.
+/// Returns the number of the line, counted from 1, with a key in the table of this number, or that of the table's header if the key does
+/// not begin a line.
 pub fn line_of_key(text: &str, place: usize, part: Part, key: &str) -> usize {
     let mut begun = 0usize;
     let mut within = Part::Own;
@@ -37,13 +38,13 @@ pub fn line_of_key(text: &str, place: usize, part: Part, key: &str) -> usize {
     line_of_header(text, place)
 }
 
-/// The line of a key, or of a table of that name, outside all namespaces; 1 if there is none.
+/// Returns the number of the line, counted from 1, with a key, or a table of that name, outside all namespaces, or 1 if there is none.
 pub fn line_outside(text: &str, key: &str) -> usize {
     let stands = |line: &str| sets(line, key) || is_header(line.trim(), key);
     text.lines().position(stands).unwrap_or(0).saturating_add(1)
 }
 
-/// The line in which the byte of that number stands, from 1 on.
+/// Returns the number of the line, counted from 1, in which the byte of that number stands.
 pub fn line_at(text: &str, byte: usize) -> usize {
     let before = text.as_bytes().iter().take(byte);
     let ends = before.filter(|found| **found == b'\n');

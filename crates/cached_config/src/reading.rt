@@ -80,9 +80,11 @@ impl Program {
 /// The namespaces of a configuration file, and how each is hosted, in the same order.
 #[derive(Drop)]
 pub struct Hosted {
+    /// The namespaces, in the file's order.
     pub spaces: Vec<HostedNamespace>,
+    /// How `bivrangd` serves each namespace, in the same order.
     pub hostings: Vec<Hosting>,
-    /// The port of 127.0.0.1 at which metrics are served, if they are.
+    /// The port of 127.0.0.1 at which metrics are served, or `None` if they are not.
     pub metrics: Option<u16>,
 }
 
@@ -133,8 +135,8 @@ pub fn read_hosted(alloc: Global, text: &str) -> Result<Hosted, ConfigError>
     }
 }
 
-/// Returns the faults of the text of a configuration file, in the order of its lines, and its warnings; there are no faults if `read_config`
-/// accepts it.
+/// Returns the faults of the text of a configuration file, in the order of its lines, and its warnings; there are no faults if
+/// `read_config` accepts it. Returns an error if there is not enough memory.
 ///
 /// Of a text that is not TOML only the first fault is reported. A fault of a key is reported with the line of the key, or, if that is not
 /// found (as in a table on one line), with the line of its namespace's header. There is a warning for each namespace without a capacity.
@@ -148,7 +150,7 @@ pub fn check_config(alloc: Global, text: &str) -> Result<ConfigReport, AllocErro
     Ok(read_text(alloc, text, Program::Cached)?.report)
 }
 
-/// Like `check_config`, for what `read_hosted` accepts.
+/// Like `check_config`, for what `read_hosted` accepts. Returns an error if there is not enough memory.
 pub fn check_hosted(alloc: Global, text: &str) -> Result<ConfigReport, AllocError>
     ensures text { parse_document text.now ≡ None
         → IfOk result (λ report. report.faults.items ≢ []) }

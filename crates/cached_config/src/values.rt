@@ -16,7 +16,7 @@ const PORT: &str = "is a number from 1 to 65535";
 
 const PARTS: &str = "is a number from 1 to 256";
 
-/// The value at a key of a table.
+/// Returns the value at a key of a table, or `None` if the table does not have the key.
 pub fn at_key<'a>(table: &'a Table, key: &str) -> Option<&'a Value>
     ensures some { IfSome result
         (λ value. get_member key.now (table_view table.now) ≡ Some (view value.now)) }
@@ -25,7 +25,7 @@ pub fn at_key<'a>(table: &'a Table, key: &str) -> Option<&'a Value>
     table.get(key)
 }
 
-/// The name that a table says.
+/// Returns the name that a table says. Returns what is wrong if the value is not allowed.
 pub fn name_in(table: &Table) -> Result<&str, &'static str>
     ensures { IfOk result (λ name.
         get_member (codes "name") (table_view table.now) ≡ Some (string name.now)) }
@@ -39,7 +39,7 @@ pub fn name_in(table: &Table) -> Result<&str, &'static str>
     }
 }
 
-/// The port that a table says.
+/// Returns the port that a table says. Returns what is wrong if the value is not allowed.
 pub fn port_in(table: &Table) -> Result<u16, &'static str>
     ensures { IfOk result
         (λ port. get_member (codes "port") (table_view table.now) ≡ Some (whole_number port)) }
@@ -50,7 +50,7 @@ pub fn port_in(table: &Table) -> Result<u16, &'static str>
     }
 }
 
-/// The capacity that a table says, if it does.
+/// Returns the capacity that a table says, or `None` without the key. Returns what is wrong if the value is not allowed.
 pub fn capacity_in(table: &Table) -> Result<Option<u64>, &'static str>
     ensures { IfOk result (λ capacity.
         get_member (codes "capacity") (table_view table.now) ≡ option_map whole_number capacity) }
@@ -58,7 +58,7 @@ pub fn capacity_in(table: &Table) -> Result<Option<u64>, &'static str>
     number_at(table, "capacity", 0, u64::MAX, "is a number from 0 on")
 }
 
-/// The number of parts that a table says; 1 if it says none.
+/// Returns the number of parts that a table says, or 1 without the key. Returns what is wrong if the value is not allowed.
 pub fn parts_in(table: &Table) -> Result<u32, &'static str>
     ensures { IfOk result (λ parts.
         said_or (codes "parts") (whole_number 1) (table_view table.now) ≡ whole_number parts) }
@@ -69,7 +69,7 @@ pub fn parts_in(table: &Table) -> Result<u32, &'static str>
     }
 }
 
-/// The milliseconds that a table says at a key, if it does.
+/// Returns the milliseconds that a table says at a key, or `None` without the key. Returns what is wrong if the value is not allowed.
 pub fn time_in(table: &Table, key: &str) -> Result<Option<u64>, &'static str>
     ensures { IfOk result
         (λ time. get_member key.now (table_view table.now) ≡ option_map whole_number time) }
@@ -78,7 +78,8 @@ pub fn time_in(table: &Table, key: &str) -> Result<Option<u64>, &'static str>
     number_at(table, key, 1, 999_999_999_999, what)
 }
 
-/// The number that a table says at a key, if it does; an error if it is not within bounds.
+/// Returns the number that a table says at a key, or `None` without the key. Returns `what` as the error if the value is no number within
+/// the bounds.
 pub fn number_at(
     table: &Table,
     key: &str,
@@ -108,7 +109,7 @@ fn number_in(value: &Value) -> Option<u64>
     }
 }
 
-/// The policy that a table says; TinyLFU if it says none.
+/// Returns the policy that a table says: TinyLFU, without the key. Returns what is wrong if the value is not allowed.
 pub fn policy_in(table: &Table) -> Result<EvictionPolicy, &'static str>
     ensures { IfOk result (λ said. said_or (codes "policy") (policy_text policy.TinyLfu)
         (table_view table.now) ≡ policy_text said) }
@@ -123,7 +124,7 @@ pub fn policy_in(table: &Table) -> Result<EvictionPolicy, &'static str>
     }
 }
 
-/// What a table says that values weigh; one if it says nothing of it.
+/// Returns what a table says that values weigh: one, without the key. Returns what is wrong if the value is not allowed.
 pub fn weight_in(table: &Table) -> Result<Weight, &'static str>
     ensures { IfOk result (λ said. said_or (codes "weight") (weight_text weight.One)
         (table_view table.now) ≡ weight_text said) }
@@ -138,7 +139,8 @@ pub fn weight_in(table: &Table) -> Result<Weight, &'static str>
     }
 }
 
-/// Whether a table says that values have deadlines of their own; not if it says nothing of it.
+/// Returns whether a table says that values have deadlines of their own: no, without the key. Returns what is wrong if the value is not
+/// allowed.
 pub fn deadlines_in(table: &Table) -> Result<bool, &'static str>
     ensures { IfOk result (λ said.
         said_or (codes "deadlines") (boolean false) (table_view table.now) ≡ boolean said) }
@@ -152,7 +154,7 @@ pub fn deadlines_in(table: &Table) -> Result<bool, &'static str>
     }
 }
 
-/// The text that a load finds.
+/// Returns the text that a load finds. Returns what is wrong if the value is not allowed.
 pub fn load_in(value: &Value) -> Result<&str, &'static str>
     ensures { IfOk result (λ text. view value.now ≡ string text.now) }
 {

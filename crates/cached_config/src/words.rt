@@ -1,6 +1,6 @@
 //! Which word was probably meant.
 
-/// The word of a list that differs from this one by a letter, or by two neighbours that changed places.
+/// Returns the word of a list that differs from this one by a letter, or by two neighbours that changed places, or `None` if there is none.
 pub fn nearest<'a>(word: &str, known: &[&'a str]) -> Option<&'a str> {
     for other in known {
         if are_near(word.as_bytes(), other.as_bytes()) {

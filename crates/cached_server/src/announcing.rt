@@ -57,7 +57,7 @@ impl Outlet {
         outbox.put(name, note);
     }
 
-    /// Reports notes of a namespace.
+    /// Takes notes of a namespace, which are then written as lines.
     pub fn tell<R: Wait + time::Clock>(&self, rt: &R, name: &[u8], notes: &[Note]) {
         for note in notes {
             self.put(rt, name, note);
@@ -65,7 +65,7 @@ impl Outlet {
         self.filled.notify_one();
     }
 
-    /// Says that no more notes will come.
+    /// Notes that no more notes will come.
     pub fn end(&self, rt: &impl Wait) {
         self.outbox.lock(rt).end();
         self.filled.notify_one();
@@ -95,12 +95,16 @@ impl Outlet {
     }
 }
 
-/// What the connections of one namespace are served with. It tells the notes of that namespace.
+/// What the connections of one namespace are served with. A site takes the notes of that namespace.
 #[derive(Drop)]
 pub struct Site<R: time::Clock + Wait + Copy> {
+    /// The handle by which threads may wait, and read the clock.
     pub rt: R,
+    /// The moment from which the clock counts.
     pub start: Instant,
+    /// The namespace, with what its loads find.
     pub space: Arc<HostedNamespace>,
+    /// Where the notes go.
     pub outlet: Arc<Outlet>,
 }
 
@@ -160,7 +164,7 @@ impl<W: Write + Drop, E: Write + Drop> Scribe<W, E> {
         })
     }
 
-    /// Writes what an outlet takes in until no more will come, or it cannot be written.
+    /// Writes what an outlet takes in, until no more will come or the lines cannot be written.
     pub fn write_all(self, rt: &impl Wait, outlet: &Outlet) {
         let Scribe {
             mut lines,

@@ -14,9 +14,11 @@ use std::time::Instant;
 /// A clock that counts the nanoseconds from a start. No reading comes before an earlier one.
 #[derive(Drop)]
 pub struct StartClock<R: time::Clock + Copy> {
+    /// The machine's clock.
     pub rt: R,
+    /// The moment from which nanoseconds count.
     pub start: Instant,
-    /// The latest reading.
+    /// The latest reading, in nanoseconds.
     pub latest: u64,
 }
 
@@ -33,10 +35,12 @@ impl<R: time::Clock + Copy> Clock for StartClock<R> {
     }
 }
 
-/// A loader that finds what a configuration file lists for a namespace. Without memory it gives no answer.
+/// A loader that finds what a configuration file lists for a namespace. Without memory the loader gives a load up.
 #[derive(Drop)]
 pub struct ListLoader {
+    /// The allocator.
     pub alloc: Global,
+    /// The namespace, with what its loads find.
     pub space: Arc<HostedNamespace>,
 }
 

@@ -14,20 +14,20 @@ use std::io::Write;
 /// The command that lists all that is wrong with a configuration file.
 const CHECK: &str = "cached_check";
 
-/// What there is to say of a fault beside its text.
+/// What there is to say of a fault in addition to its text.
 #[derive(Debug, Drop)]
 pub enum Cause {
-    /// Nothing.
+    /// There is nothing to say.
     Unsaid,
     /// The configuration file cannot be read.
     File(Unread),
     /// The first fault of the file.
     Line(ConfigFault),
-    /// The port that cannot be listened at, and what the system says.
+    /// The port at which the program cannot listen, and what the system says.
     Port(u16, io::Error),
     /// What cannot be had of the machine, such as its clock, and what the system says.
     Machine(&'static str, io::Error),
-    /// What this line says, with its line end.
+    /// The cause is this line, with its line end.
     Said(String),
 }
 
@@ -60,12 +60,14 @@ fn line_of(
 /// Why a server ends.
 #[derive(Debug, Drop)]
 pub struct Ending {
+    /// Why the server ends.
     pub fault: Fault,
+    /// What there is to say of the fault.
     pub cause: Cause,
 }
 
 impl Ending {
-    /// A port that cannot be listened at.
+    /// Creates the ending of a server that cannot listen at a port.
     pub fn port(port: u16, error: io::Error) -> Ending
         ensures { result.fault ≡ Fault.CannotListen }
     {
@@ -75,7 +77,7 @@ impl Ending {
         }
     }
 
-    /// A machine that does not give this.
+    /// Creates the ending of a server to which the machine does not give what it needs, such as its clock.
     pub fn machine(what: &'static str, error: io::Error) -> Ending
         ensures { result.fault ≡ Fault.CannotListen }
     {
@@ -85,7 +87,7 @@ impl Ending {
         }
     }
 
-    /// A file that cannot be read. If there was no memory for it, that is the fault.
+    /// Creates the ending of a server whose file cannot be read. If there was no memory for the file, the fault is `OutOfMemory`.
     pub fn file(error: io::Error) -> Ending
         ensures { (result.fault ≡ Fault.BadConfiguration) ⊎ (result.fault ≡ Fault.OutOfMemory) }
     {
@@ -98,8 +100,8 @@ impl Ending {
         }
     }
 
-    /// Writes the text of the fault, and, on a line of its own, what caused it, for the file at a path. Returns the status after it. What
-    /// cannot be written is lost; without memory the second line is not written.
+    /// Writes the text of the fault, and, on a line of its own, what caused it, for the file at a path. Returns the status of the program.
+    /// What cannot be written is lost; without memory the second line is not written.
     pub fn tell<E: Write>(&self, alloc: Global, path: &str, errors: &mut Watched<E>) -> u8
         ensures status { result ≡ 1 }
         ensures told { (cause : List ℕ) × Tells (fault_message self.now.fault ++ cause)

@@ -30,10 +30,15 @@ const SEATS: u64 = 1 << 32;
 /// says, and where their notes go.
 #[derive(Drop)]
 pub struct Hall<R> {
+    /// The handle of the machine.
     pub rt: R,
+    /// The allocator.
     pub alloc: Global,
+    /// The moment from which clocks count.
     pub begun: time::Instant,
+    /// How many connections each namespace serves, or `None` without a limit.
     pub limit: Option<u64>,
+    /// Where notes go.
     pub outlet: Arc<Outlet>,
 }
 
@@ -143,7 +148,8 @@ fn make_core<R: Machine>(hall: &Hall<R>, spaces: &[HostedNamespace]) -> Result<S
     }
 }
 
-/// Serves namespaces at their listeners, and writes what they tell.
+/// Serves namespaces at their listeners, and writes their notes. Returns an error if a listener fails (`CannotListen`), or there is not
+/// enough memory (`OutOfMemory`).
 pub fn serve_spaces<W: Shown, E: Shown, R: Machine>(
     hall: Hall<R>,
     spaces: Vec<HostedNamespace>,

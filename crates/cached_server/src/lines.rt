@@ -33,7 +33,7 @@ impl<W: Write + Drop> Lines<W> {
         })
     }
 
-    /// Writes a text of whole lines. This allocates nothing. Returns `Write` if the writer fails, and in each later call.
+    /// Writes a text of whole lines. The call allocates nothing. Returns `Write` if the writer fails, and in each later call.
     pub fn send(&mut self, text: &[u8]) -> Result<(), RunError>
         ensures ok { OnOk result (Appends (W.contents (device self.old.writer))
             (W.contents (device self.new.writer)) text.now) }
@@ -44,7 +44,7 @@ impl<W: Write + Drop> Lines<W> {
         self.send_joined(&[text])
     }
 
-    /// Writes the line `listening NAME 127.0.0.1:PORT` in one piece. This allocates nothing, and fails as `send` does.
+    /// Writes the line `listening NAME 127.0.0.1:PORT` in one piece. The call allocates nothing, and returns the error of `send`.
     pub fn show(&mut self, name: &[u8], port: u16) -> Result<(), RunError>
         ensures ok { OnOk result (Appends (W.contents (device self.old.writer))
             (W.contents (device self.new.writer)) (listening_line name.now port)) }
@@ -57,7 +57,7 @@ impl<W: Write + Drop> Lines<W> {
         self.send_joined(&[b"listening ", name, b" 127.0.0.1:", port, b"\n"])
     }
 
-    /// Writes the line `cached: N notices lost` in one piece. This allocates nothing, and fails as `send` does.
+    /// Writes the line `cached: N notices lost` in one piece. The call allocates nothing, and returns the error of `send`.
     pub fn show_lost(&mut self, lost: u64) -> Result<(), RunError>
         ensures ok { OnOk result (Appends (W.contents (device self.old.writer))
             (W.contents (device self.new.writer)) (lost_line lost)) }

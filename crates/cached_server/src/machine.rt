@@ -6,17 +6,17 @@ use std::sync::Wait;
 use std::thread::Threads;
 use std::time::Clock;
 
-/// Threads, a clock and a random source, each of which may wait.
+/// A machine with threads, a clock and a random source, and with calls that may wait.
 pub trait Threaded: Clock + RandomSource + Threads + Wait + Copy + Send + Sync + 'static {}
 
 impl<R: Clock + RandomSource + Threads + Wait + Copy + Send + Sync + 'static> Threaded for R {}
 
-/// A machine with sockets beside those.
+/// A machine with sockets in addition.
 pub trait Machine: Threaded + Net<Listener = TcpListener, Stream = TcpStream> {}
 
 impl<R: Threaded + Net<Listener = TcpListener, Stream = TcpStream>> Machine for R {}
 
-/// A writer that a thread may have.
+/// A writer that a thread may own.
 pub trait Shown: Write + Drop + Send + 'static {}
 
 impl<W: Write + Drop + Send + 'static> Shown for W {}

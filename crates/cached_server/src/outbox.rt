@@ -8,7 +8,7 @@ use std::alloc::{AllocError, Global};
 use std::marker::Model;
 use std::mem;
 
-/// This many bytes of lines wait at most.
+/// The maximum number of bytes of lines that wait.
 pub const ROOM: usize = 1 << 20;
 
 /// The lines of notes that wait to be written, at most `ROOM` bytes, and how many notes found no room.
@@ -43,7 +43,7 @@ impl Model for Outbox {
 }
 
 impl Outbox {
-    /// Creates an outbox without lines, with the memory for all that may wait.
+    /// Creates an outbox without lines, with the memory for all that may wait. Returns an error if there is not enough memory.
     pub fn new(alloc: Global) -> Result<Outbox, AllocError>
         ensures { IfOk result (λ outbox. outbox ≡ no_lines) }
     {
@@ -56,14 +56,14 @@ impl Outbox {
         })
     }
 
-    /// Whether there is nothing to write or to report yet, and more will come.
+    /// Returns whether there is nothing to write or to report yet, and more will come.
     pub fn is_idle(&self) -> bool
         ensures { result ≡ is_idle self.now }
     {
         self.waiting.len() == 0 && self.lost == 0 && !self.is_over
     }
 
-    /// Whether no more will come.
+    /// Returns whether no more will come.
     pub fn is_over(&self) -> bool
         ensures { result ≡ self.now.is_over }
     {
@@ -77,7 +77,7 @@ impl Outbox {
         length <= ROOM - self.waiting.len()
     }
 
-    /// Whether the line of a note of a namespace has to wait for room: there is none, and lines are read.
+    /// Returns whether the line of a note of a namespace has to wait for room: there is none, and lines are read.
     pub fn waits_for_room(&self, name: &[u8], note: &Note) -> bool
         ensures { result ≡ waits_for_room (named_note_line name.now note.now) self.now }
     {

@@ -22,8 +22,8 @@ use std::net::{Ipv4Addr, Net, SocketAddr, TcpListener, TcpStream};
 use std::rt::Files;
 use std::time::Instant;
 
-/// The program, with its arguments and streams. Returns its status: 0 at the end of a script, 1 after an error, 2 if the arguments are
-/// wrong.
+/// Runs the program with its arguments and streams. Returns its status: 0 at the end of a script, 1 after an error, 2 if the arguments
+/// are wrong.
 ///
 /// `--script`: at 0 the replies to the script's lines are on `writer`, and its notes on `errors`. The text of an error follows the notes;
 /// what cannot be written to `errors` is lost.
@@ -61,8 +61,8 @@ where
     }
 }
 
-/// Serves what the configuration file at a path says, until that is no longer possible. Then it writes what was wrong and, on a second line,
-/// what caused it, as far as that is known; the status is 1.
+/// Serves what the configuration file at a path says, until that is no longer possible. Then it writes what was wrong and, on a second
+/// line, what caused it, as far as that is known; the status is 1.
 pub fn serve_config<E: Write, W: Shown, V: Shown, R: Machine + Files + AllocGlobal>(
     rt: R,
     alloc: Global,
@@ -97,8 +97,8 @@ fn serve_file<W: Shown, V: Shown, R: Machine + Files + AllocGlobal>(
 }
 
 /// Serves what the text of a configuration file says: without end, or until each namespace has served as many connections as the limit
-/// says. On the first of `shown` it writes where each namespace is served, and then notices; on the second, how many were lost. The clock
-/// of each connection counts from `begun` on.
+/// says. On the first of `shown` the call writes where each namespace is served, and then notices; on the second, how many were lost. The
+/// clock of each connection counts from `begun` on.
 pub fn serve_text<W: Shown, V: Shown, R: Machine>(
     rt: R,
     alloc: Global,

@@ -25,7 +25,7 @@ fn changed(now: Instant, answer: Expiration, before: Option<u64>) -> Option<u64>
     }
 }
 
-/// The entry of a key that is new.
+/// Returns the entry of a key that is new.
 pub fn first_entry<K: Eq + Hash, V, S: BuildHasher, R: Rules<K, V>>(
     tables: &Tables<K, V, S, R>,
     key: K,
@@ -49,7 +49,7 @@ pub fn first_entry<K: Eq + Hash, V, S: BuildHasher, R: Rules<K, V>>(
     }
 }
 
-/// The entry in a place after a write over it.
+/// Returns the entry in a place as it is after a write over it.
 pub fn next_entry<K: Eq + Hash, V, S: BuildHasher, R: Rules<K, V>>(
     tables: &Tables<K, V, S, R>,
     place: usize,
@@ -79,7 +79,8 @@ pub fn next_entry<K: Eq + Hash, V, S: BuildHasher, R: Rules<K, V>>(
     }
 }
 
-/// The own expiration of the entry in a place after a look-up that found it.
+/// Returns the moment in nanoseconds at which the entry in a place expires by itself after a look-up that found it, or `None` if it does
+/// not.
 pub fn expires_after_use<K: Eq + Hash, V, S: BuildHasher, R: Rules<K, V>>(
     tables: &Tables<K, V, S, R>,
     place: usize,
@@ -106,7 +107,7 @@ pub fn expires_after_use<K: Eq + Hash, V, S: BuildHasher, R: Rules<K, V>>(
     changed(now, answer, before)
 }
 
-/// What a write tells of the value in a place that it replaces, where removals are told.
+/// Returns the cause with which a write reports the value in a place that it replaces.
 pub fn cause_of_write<K: Eq + Hash, V, S: BuildHasher, R: Rules<K, V>>(
     tables: &Tables<K, V, S, R>,
     place: usize,
@@ -130,7 +131,7 @@ pub fn cause_of_write<K: Eq + Hash, V, S: BuildHasher, R: Rules<K, V>>(
     RemovalCause::Replaced
 }
 
-/// What a removal by key tells of an entry.
+/// Returns the cause with which a removal by key reports an entry.
 pub fn cause_of_removal<K, V>(settings: Settings, now: u64, entry: &Entry<K, V>) -> RemovalCause
     ensures { result ≡ (if has_come settings now entry.now then cause.Expired else cause.Explicit) }
 {
@@ -140,7 +141,7 @@ pub fn cause_of_removal<K, V>(settings: Settings, now: u64, entry: &Entry<K, V>)
     RemovalCause::Explicit
 }
 
-/// The entry in a place, whose key and value are these.
+/// Returns the entry in a place, of this key and value.
 pub fn entry_of<K: Eq + Hash, V, S: BuildHasher, R: Rules<K, V>>(
     tables: &Tables<K, V, S, R>,
     place: usize,

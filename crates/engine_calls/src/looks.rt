@@ -14,7 +14,7 @@ use engine_tables::Tables;
 use std::alloc::AllocError;
 use std::hash::{BuildHasher, Hash};
 
-/// The record of a key, if it is held.
+/// Returns the record of a key, or `None` if no record of the key is held.
 pub fn held<'a, K: Eq + Hash, V, S: BuildHasher, R: Rules<K, V>, Q: Names<K>>(
     tables: &'a Tables<K, V, S, R>,
     key: &Q,
@@ -43,7 +43,7 @@ fn is_seen_at<K: Eq + Hash, V, S: BuildHasher, R: Rules<K, V>>(
     !found.is_dead(tables.settings(), now) && !tables.is_over(found)
 }
 
-/// The place of the visible record of a key.
+/// Returns the place of the visible record of a key, or `None` if there is none.
 pub fn find<K: Eq + Hash, V, S: BuildHasher, R: Rules<K, V>, Q: Names<K>>(
     tables: &Tables<K, V, S, R>,
     key: &Q,
@@ -66,7 +66,7 @@ pub fn find<K: Eq + Hash, V, S: BuildHasher, R: Rules<K, V>, Q: Names<K>>(
     }
 }
 
-/// The place of the visible record of a key, unless it is passed over.
+/// Returns the place of the visible record of a key, or `None` if there is none or it is to be passed over.
 pub fn find_unless<K: Eq + Hash, V, S: BuildHasher, R: Rules<K, V>, Q: Names<K>>(
     tables: &Tables<K, V, S, R>,
     key: &Q,
@@ -84,7 +84,7 @@ pub fn find_unless<K: Eq + Hash, V, S: BuildHasher, R: Rules<K, V>, Q: Names<K>>
     find(tables, key, hash, now)
 }
 
-/// The visible record of a key.
+/// Returns the visible record of a key, or `None` if there is none.
 pub fn look_up<'a, K: Eq + Hash, V, S: BuildHasher, R: Rules<K, V>, Q: Names<K>>(
     tables: &'a Tables<K, V, S, R>,
     key: &Q,
@@ -101,7 +101,7 @@ pub fn look_up<'a, K: Eq + Hash, V, S: BuildHasher, R: Rules<K, V>, Q: Names<K>>
     }
 }
 
-/// A clone of a record's value, if there is one.
+/// Returns a clone of a record's value, or `None` without a record. Returns an error if there is not enough memory.
 pub fn clone_value<K, V: Clone>(found: Option<&Cell<K, V>>) -> Result<Option<V>, AllocError>
     requires exact { (x y : V) → V.is_clone x y → y ≡ x }
     ensures { IfOk result
@@ -116,7 +116,7 @@ pub fn clone_value<K, V: Clone>(found: Option<&Cell<K, V>>) -> Result<Option<V>,
     }
 }
 
-/// A clone of a record's key, if there is one.
+/// Returns a clone of a record's key, or `None` without a record. Returns an error if there is not enough memory.
 pub fn clone_key<K: Clone, V>(found: Option<&Cell<K, V>>) -> Result<Option<K>, AllocError>
     requires exact_key { (x y : K) → K.is_clone x y → y ≡ x }
     ensures { IfOk result (λ key. key ≡ option_map (λ r. r.entry.key) (option_copied found.entry)) }
@@ -130,7 +130,7 @@ pub fn clone_key<K: Clone, V>(found: Option<&Cell<K, V>>) -> Result<Option<K>, A
     }
 }
 
-/// A clone of the value of what was found.
+/// Returns a clone of the value of what was found, or `None` if nothing was. Returns an error if there is not enough memory.
 pub fn clone_found<K: Eq + Hash, V: Clone, S: BuildHasher, R: Rules<K, V>>(
     tables: &Tables<K, V, S, R>,
     place: Option<usize>,
@@ -172,7 +172,8 @@ fn is_ignored<K: Eq + Hash, V, S: BuildHasher, R: Rules<K, V>, F: FnOnce(&V) -> 
     says_of(ignore_if, found.value())
 }
 
-/// The place of what was found, unless it is to be passed over. The test is called only if something was found.
+/// Returns the place of what was found, or `None` if nothing was or `ignore_if` returns true for its value. `ignore_if` is called only if
+/// something was found.
 pub fn pass_over<K: Eq + Hash, V, S: BuildHasher, R: Rules<K, V>, F: FnOnce(&V) -> bool + Drop>(
     tables: &Tables<K, V, S, R>,
     place: Option<usize>,

@@ -10,7 +10,8 @@ use engine_tables::Tables;
 use rand_core::Rng;
 use std::hash::{BuildHasher, Hash};
 
-/// Makes room for a predicate, if the cache accepts predicates.
+/// Makes room for a predicate. Returns `InvalidationClosuresDisabled` if the cache accepts none, and otherwise `UsedUp` if the 64-bit
+/// tickets of writes are used up, or `OutOfMemory`; then nothing has changed.
 pub fn reserve<K: Eq + Hash, V, S: BuildHasher, R: Rules<K, V>>(
     tables: &mut Tables<K, V, S, R>,
 ) -> Result<(), Refusal>
@@ -34,7 +35,7 @@ pub fn reserve<K: Eq + Hash, V, S: BuildHasher, R: Rules<K, V>>(
     Ok(())
 }
 
-/// Draws an identifier under which no predicate is registered.
+/// Draws an identifier under which no predicate is registered. Returns `IdsInUse` if each of a thousand that were drawn is registered.
 pub fn draw_id<K: Eq + Hash, V, S: BuildHasher, R: Rules<K, V>, G: Rng>(
     tables: &Tables<K, V, S, R>,
     generator: &mut G,
@@ -51,7 +52,8 @@ pub fn draw_id<K: Eq + Hash, V, S: BuildHasher, R: Rules<K, V>, G: Rng>(
     }
 }
 
-/// Draws an identifier for a predicate and makes room for it. After a refusal nothing else has changed; a further identifier was drawn only if all earlier ones are in use.
+/// Draws an identifier for a predicate and makes room for the predicate. After a refusal nothing has changed; a further identifier was
+/// drawn only if all earlier ones are in use.
 pub fn prepare<K: Eq + Hash, V, S: BuildHasher, R: Rules<K, V>, G: Rng>(
     tables: &mut Tables<K, V, S, R>,
     generator: &mut G,
@@ -76,7 +78,7 @@ pub fn prepare<K: Eq + Hash, V, S: BuildHasher, R: Rules<K, V>, G: Rng>(
     }
 }
 
-/// Registers a predicate under its identifier, in reserved room. It covers what was written at earlier steps.
+/// Registers a predicate under its identifier, in reserved room. The predicate covers what was written at earlier steps.
 pub fn commit<K: Eq + Hash, V, S: BuildHasher, R: Rules<K, V>>(
     tables: &mut Tables<K, V, S, R>,
     id: u128,
@@ -94,7 +96,7 @@ pub fn commit<K: Eq + Hash, V, S: BuildHasher, R: Rules<K, V>>(
     });
 }
 
-/// Draws an identifier and registers a predicate under it. After a refusal nothing has changed.
+/// Draws an identifier, registers a predicate under it, and returns it. After a refusal the cache is as before.
 pub fn invalidate<K: Eq + Hash, V, S: BuildHasher, R: Rules<K, V>, G: Rng>(
     tables: &mut Tables<K, V, S, R>,
     predicate: R::Predicate,

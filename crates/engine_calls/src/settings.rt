@@ -16,7 +16,7 @@ fn time_of(nanos: Option<u64>) -> Option<Duration>
     }
 }
 
-/// The settings of a cache of one part, as it shows them.
+/// Returns what a cache of one part shows of its settings.
 pub fn policy_of(settings: Settings) -> Policy
     ensures capacity { result.max_capacity ≡ settings.capacity }
     ensures parts { result.num_segments ≡ 1 }
@@ -31,7 +31,7 @@ pub fn policy_of(settings: Settings) -> Policy
     )
 }
 
-/// How much room a removal by key needs: for its own write and, if removals are reported, its notice.
+/// Returns how many writes' room a removal by key needs: one for its own write and, if removals are reported, one for its notice.
 pub fn rooms_of_removal(settings: Settings) -> u64
     ensures { result ≡ removal_rooms settings }
 {

@@ -15,7 +15,7 @@ fn kept(moment: Instant) -> u64
     (moment.as_nanos() / 4096 * 4096).min(0xFFFF_FFFF_FFFF_E000)
 }
 
-/// An own expiration, so long after a moment, as it is kept.
+/// Returns the moment that is so long after `now`, in nanoseconds, as an entry keeps it, or `None` without a time.
 pub fn own_expiration(now: Instant, time: Option<Duration>) -> Option<u64>
     ensures { result ≡ own_expiration now (option_map as_nanos time) }
 {
@@ -44,8 +44,8 @@ fn earlier_of(a: Option<u64>, b: Option<u64>) -> Option<u64>
     }
 }
 
-/// The time until the deadline of what expires by itself at a moment, and was written and used at others: zero if it has
-/// passed.
+/// Returns the time until the deadline, at `now`, of what expires by itself at `expires`, and was written and used at these moments: zero
+/// if the deadline has passed, `None` if there is none. All moments are in nanoseconds.
 pub fn time_left(
     settings: Settings,
     now: u64,

@@ -12,7 +12,7 @@ use engine_tables::Tables;
 use policy_base::Instant;
 use std::hash::{BuildHasher, Hash};
 
-/// A look-up uses the record in a place, and its read waits to be counted.
+/// Notes that a look-up used the record in a place, and adds its read to those that wait to be counted.
 pub fn use_in<K: Eq + Hash, V, S: BuildHasher, R: Rules<K, V>>(
     tables: &mut Tables<K, V, S, R>,
     place: usize,
@@ -30,7 +30,8 @@ pub fn use_in<K: Eq + Hash, V, S: BuildHasher, R: Rules<K, V>>(
     tables.push_hit(place, number, hash);
 }
 
-/// A look-up that found the record of a number uses it, if it is still there, and its read waits to be counted.
+/// Notes that a look-up that found the record of a number used it, if it is still there, and adds its read to those that wait to be
+/// counted.
 pub fn use_found<K: Eq + Hash, V, S: BuildHasher, R: Rules<K, V>>(
     tables: &mut Tables<K, V, S, R>,
     number: u64,

@@ -65,7 +65,8 @@ fn write_over<K: Eq + Hash + Drop, V: Drop, S: BuildHasher, R: Rules<K, V>>(
     tables.write_over(place, entry, cause, at_once);
 }
 
-/// Writes a value under its key, in reserved room. What it replaces is reported. The write goes into the queue at once, or waits to be sent.
+/// Writes a value under its key, in reserved room. The value that it replaces is reported if removals are. The write goes into the queue at
+/// once, or waits to be sent.
 pub fn write<K: Eq + Hash + Drop, V: Drop, S: BuildHasher, R: Rules<K, V>>(
     tables: &mut Tables<K, V, S, R>,
     key: K,
@@ -139,7 +140,9 @@ fn make_removal_room<K: Eq + Hash, V, S: BuildHasher, R: Rules<K, V>>(
     Ok(())
 }
 
-/// Returns clones of the key and value that are held under a key, and makes room for its removal and, if removals are reported, for its notice.
+/// Returns clones of the key and value that are held under a key, or `None` if none are, and makes room for the removal and, if removals
+/// are reported, for its notice. Returns `UsedUp` if the 64-bit tickets of writes are used up, and `OutOfMemory` if there is not enough
+/// memory; then nothing has changed.
 pub fn prepare_removal<
     K: Eq + Hash + Clone + Drop,
     Q: Names<K>,
@@ -184,7 +187,8 @@ fn remove_at<K: Eq + Hash, V, S: BuildHasher, R: Rules<K, V>>(
     tables.mark_removed(place);
 }
 
-/// Removes a key in reserved room. Returns its entry as it is now, built of these clones of its key and value, and the ticket of the removal.
+/// Removes a key in reserved room. Returns its entry as it is now, built of these clones of its key and value, and the ticket of the
+/// removal. Returns `None` if nothing is held under the key; then nothing has changed.
 pub fn remove_reserved<K: Eq + Hash + Drop, Q: Names<K>, V: Drop, S: BuildHasher, R: Rules<K, V>>(
     tables: &mut Tables<K, V, S, R>,
     key: &Q,

@@ -69,7 +69,7 @@ impl<T> Drawer<T> {
 impl<T> CellSlab<T> {
     ghost use Rattle.engine_cells.specs.Lending.{lends_value};
 
-    /// A slab without values. Allocates nothing.
+    /// Creates a slab without values. The call allocates nothing.
     pub fn new(alloc: Global) -> Self
         ensures { result.slots ≡ [] }
     {
@@ -80,14 +80,14 @@ impl<T> CellSlab<T> {
         }
     }
 
-    /// How many values there are.
+    /// Returns the number of values.
     pub fn len(&self) -> usize
         ensures { result ≡ slab_len self.now }
     {
         self.len
     }
 
-    /// How many values fit without memory.
+    /// Returns how many values fit before more is allocated.
     pub fn capacity(&self) -> usize
         ensures value { result ≡ self.now.capacity }
         ensures holds_all { slab_len self.now ≤ result }
@@ -97,7 +97,8 @@ impl<T> CellSlab<T> {
         self.drawers.capacity().min(MOST_VALUES)
     }
 
-    /// Makes room for `additional` more values, which then need no memory. More than 2^32 - 1 are refused.
+    /// Makes room for `additional` more values, which then allocate nothing. Returns an error if there would be more than 2^32 - 1 values
+    /// or there is not enough memory; the values then stay as they are.
     pub fn reserve(&mut self, additional: usize) -> Result<(), AllocError>
         ensures room { OnOk result (HasRoomFor self.new additional) }
         ensures succeeds { HasRoomFor self.old additional → IsOk result }
@@ -111,7 +112,7 @@ impl<T> CellSlab<T> {
         self.drawers.reserve(additional.saturating_sub(vacant))
     }
 
-    /// Stores a value. There is room.
+    /// Stores a value and returns its key. There must be room for it.
     pub fn insert_reserved(&mut self, value: T) -> usize
         requires { HasRoomFor self.old 1 }
         ensures key { result ≡ self.old.vacant_key }
@@ -159,7 +160,7 @@ impl<T> CellSlab<T> {
         }
     }
 
-    /// The value at `key`, if there is one.
+    /// Returns the value at `key`, or `None` if there is no value at it.
     pub fn get(&self, key: usize) -> Option<&T>
         ensures { option_copied result ≡ get self.now key }
     {
@@ -170,7 +171,7 @@ impl<T> CellSlab<T> {
         }
     }
 
-    /// A key that has a value, in 32 bits.
+    /// Returns a key that has a value, in 32 bits.
     pub fn index_of(&self, key: usize) -> u32
         requires { ContainsKey self.now key }
         ensures is { result ≡ key }

@@ -20,7 +20,7 @@ fn is_match<K: Eq, Q: Names<K>, V>(cells: &CellSlab<Cell<K, V>>, place: usize, k
     }
 }
 
-/// Removes a place from under a hash, if it is to be removed.
+/// Takes a place from under a hash, if `goes`.
 pub fn take_if(keys: &mut Keys, goes: bool, hash: u64, place: usize)
     requires { goes ≡ true → IsUnder keys.old hash place }
     ensures { LeavesIf goes keys.old keys.new hash place }
@@ -30,7 +30,7 @@ pub fn take_if(keys: &mut Keys, goes: bool, hash: u64, place: usize)
     }
 }
 
-/// The place of a key's record, if it is held, by the key's hash.
+/// Returns the place of a key's record, by the key's hash, or `None` if no record of the key is held.
 pub fn find_held<K: Eq, Q: Names<K>, V>(
     cells: &CellSlab<Cell<K, V>>,
     keys: &Keys,
@@ -60,7 +60,7 @@ fn is_numbered<K, V>(cells: &CellSlab<Cell<K, V>>, place: usize, number: u64) ->
     }
 }
 
-/// The place of the record of a number, if it is there; it is then held under this hash.
+/// Returns the place of the record of a number, or `None` if there is none. A record that is there is held under this hash.
 pub fn find_number<K: Eq, V>(
     cells: &CellSlab<Cell<K, V>>,
     keys: &Keys,

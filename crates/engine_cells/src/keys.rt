@@ -9,7 +9,7 @@ use std::marker::Model;
 /// What a vacant slot has in place of a place.
 const NOWHERE: u32 = u32::MAX;
 
-/// How many places there may be.
+/// How many places there may be: 2^32.
 pub const MOST_PLACES: usize = 1 << 32;
 
 /// What spreads hashes over the slots: an odd number near 2^64 over the golden ratio.
@@ -51,7 +51,7 @@ impl Model for Keys {
 }
 
 impl Keys {
-    /// No places. It takes no memory.
+    /// Creates a table without places. The call allocates nothing.
     pub fn new(alloc: Global) -> Self
         ensures { (hash place : ℕ) → IsUnder result hash place → ⊥ }
     {
@@ -61,7 +61,8 @@ impl Keys {
         }
     }
 
-    /// Makes room for `additional` more places, which then need no memory. More than `MOST_PLACES` are refused.
+    /// Makes room for `additional` more places, which then allocate nothing. Returns an error if there would be more than `MOST_PLACES`
+    /// places or there is not enough memory; then nothing has changed.
     pub fn reserve(&mut self, additional: usize) -> Result<(), AllocError>
         ensures room { OnOk result (additional ≤ self.new.space) }
         ensures had_room { additional ≤ self.old.space → IsOk result }
@@ -84,8 +85,8 @@ impl Keys {
         Ok(())
     }
 
-    /// The place that is sought, of those that stand under a hash. It takes no memory, and asks about no place that
-    /// stands under another tag, nor about any once one is found.
+    /// Returns the place that is sought, of those that stand under a hash, or `None` if none is. The search allocates nothing, and calls
+    /// `is_sought` on no place that stands under another tag, nor on any once one is found.
     pub fn get<F: Fn(usize) -> bool>(&self, hash: u64, is_sought: F) -> Option<usize>
         requires { F.IsAlwaysCallable is_sought }
         ensures found { IfSome result
@@ -96,7 +97,7 @@ impl Keys {
         find(&self.slots, tag_of(hash), is_sought)
     }
 
-    /// Puts a place, which is not there, under a hash. There is room.
+    /// Puts a place, which is not there, under a hash. There must be room for it.
     pub fn put(&mut self, hash: u64, place: usize)
         requires room { 0 < self.old.space }
         requires absent { IsUnder self.old hash place → ⊥ }

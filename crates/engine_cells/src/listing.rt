@@ -88,7 +88,8 @@ fn push_keys<K: Clone + Drop, V>(
     Ok(())
 }
 
-/// Adds clones of the keys of all held records, in the order of their numbers.
+/// Appends clones of the keys of all held records to an empty list, in the order of the records' numbers. Returns an error if there is not
+/// enough memory; the list may then hold some of the keys.
 pub fn push_held_keys<K: Clone + Drop, V>(
     cells: &CellSlab<Cell<K, V>>,
     mut found: Vec<Stand>,

@@ -50,8 +50,8 @@ fn first_due<K, V>(cells: &CellSlab<Cell<K, V>>, now: u64) -> Option<usize>
     None
 }
 
-/// The place of a held record whose own expiration was reached, by the first timer. Looks at every record only if there
-/// was no memory for a timer.
+/// Returns the place of a held record whose own expiration was reached at `now`, by the first timer, or `None` if there is none. Every
+/// record is looked at only if there was no memory for a timer.
 pub fn first_expired<K, V>(
     cells: &CellSlab<Cell<K, V>>,
     expirations: &Expirations,
@@ -92,7 +92,7 @@ fn is_settled_at<K, V>(cells: &CellSlab<Cell<K, V>>, place: usize) -> bool
     }
 }
 
-/// The place of the first settled record of a list, whose places are in this queue.
+/// Returns the place of the first settled record of a list, whose places are in this queue, or `None` if there is none.
 pub fn first_settled<K, V>(cells: &CellSlab<Cell<K, V>>, queue: &IndexQueue) -> Option<usize>
     requires apart { HaveOwnNumbers cells.now.slots }
     requires listed { AreListed cells.now.slots queue.now.indices }

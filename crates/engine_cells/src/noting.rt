@@ -10,11 +10,13 @@ use std::marker::Model;
 /// A look-up that maintenance has to count. A record that was found is named by its number, and by the place in which it stood.
 #[derive(Clone, Copy)]
 pub enum Noted {
+    /// A record was found.
     Hit {
         hash: u64,
         place: usize,
         number: u64,
     },
+    /// Nothing was found under this hash.
     Miss(u64),
 }
 
@@ -46,7 +48,7 @@ impl Model for WaitingWrite {
 }
 
 impl WaitingWrite {
-    /// The write of a record as it stands, where so much is held.
+    /// Returns the write of a record as it stands, with the weight of all that is held.
     pub fn put<K, V>(found: &Cell<K, V>, kept: u64) -> Self
         ensures { result ≡ put_for found.now kept }
     {
@@ -59,7 +61,7 @@ impl WaitingWrite {
         }
     }
 
-    /// The removal of the record of a number.
+    /// Returns the removal of the record of a number.
     pub fn removed(number: u64) -> Self
         ensures { result ≡ Removed number }
     {
@@ -72,7 +74,7 @@ impl WaitingWrite {
         }
     }
 
-    /// What has to be applied.
+    /// Returns what has to be applied.
     pub fn to_write(&self) -> Write
         ensures { result ≡ self.now }
     {
@@ -92,6 +94,8 @@ impl WaitingWrite {
 /// A write that waits, and the place in which its record stood when it was made.
 #[derive(Drop)]
 pub struct PlacedWrite {
+    /// The place in which the record stood when the write was made.
     pub place: usize,
+    /// The write itself.
     pub write: WaitingWrite,
 }

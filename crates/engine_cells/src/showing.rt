@@ -40,7 +40,7 @@ fn shown_at<K, V, S, R: Rules<K, V>>(
     }
 }
 
-/// How many records show a value, by a look at every one.
+/// Returns how many records show a value at `now`, a moment in nanoseconds. Every record is looked at.
 pub fn count_shown<K, V, S, R: Rules<K, V>>(
     cells: &CellSlab<Cell<K, V>>,
     backlog: &Backlog<K, V, Noted, PlacedWrite, S, R>,

@@ -8,13 +8,16 @@ use crate::cell::Cell;
 /// What all that is held weighs, what the admitted records weigh, and how many of these there are.
 #[derive(Clone, Copy)]
 pub struct Tally {
+    /// What all held records weigh.
     pub held: u64,
+    /// What all admitted records weigh.
     pub weight: u64,
+    /// How many records are admitted.
     pub number: u64,
 }
 
 impl Tally {
-    /// What is held with an entry of a weight in the place of a held one.
+    /// Returns what all held records weigh once an entry of weight `after` has taken the place of one of weight `before`.
     pub fn held_with(self, before: u32, after: u32) -> u64
         requires within { before ≤ self.held }
         requires room { self.held + 2 ^ 32 ≤ 2 ^ 64 }
@@ -24,7 +27,7 @@ impl Tally {
         self.held - u64::from(before) + u64::from(after)
     }
 
-    /// With a record that counts with another weight, or did not count before.
+    /// Returns the totals once a record counts with `weight`, that counted with `before` or, with `None`, did not count.
     pub fn counted(self, before: Option<u32>, weight: u32) -> Tally
         requires within { unwrap_or before 0 ≤ self.weight }
         requires room { self.weight + 2 ^ 32 ≤ 2 ^ 64 }
@@ -46,7 +49,7 @@ impl Tally {
         }
     }
 
-    /// With one of its records that is no longer held.
+    /// Returns the totals once one of the records is no longer held.
     pub fn unheld<K, V>(self, found: &Cell<K, V>) -> Tally
         requires { held_part found.now ≤ self.held }
         ensures { result ≡ record self { held = self.held - held_part found.now } }
@@ -57,7 +60,7 @@ impl Tally {
         }
     }
 
-    /// Without one of its records.
+    /// Returns the totals without one of the records.
     pub fn without<K, V>(self, went: &Cell<K, V>) -> Tally
         requires held { held_part went.now ≤ self.held }
         requires weight { weight_at went.now ≤ self.weight }

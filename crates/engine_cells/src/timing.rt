@@ -9,7 +9,7 @@ use crate::cell::Cell;
 use crate::cell_slab::CellSlab;
 use engine_pending::Expirations;
 
-/// A place expires at another moment than before, if it does.
+/// Sets the moment in nanoseconds at which a place expires, if `after` differs from `before`. With `None` the place does not expire.
 pub fn set_changed(
     expirations: &mut Expirations,
     place: usize,
@@ -47,7 +47,7 @@ fn time_place<K, V>(cells: &CellSlab<Cell<K, V>>, place: usize, expirations: &mu
     expirations.set(place, expires);
 }
 
-/// Each place gets the timer that it is to have, whatever there was memory for before.
+/// Sets the timer of each place anew, whatever there was memory for before.
 pub fn time_all<K, V>(cells: &CellSlab<Cell<K, V>>, expirations: &mut Expirations)
     ensures { AreAwaited cells.now.slots expirations.new }
 {

@@ -27,7 +27,8 @@ const FLUSH_POINT: usize = 64;
 /// How long after a run the next one is due, in nanoseconds.
 const RUN_INTERVAL: u64 = 300_000_000;
 
-/// All that a cache of one part keeps beside its records and their lists. `O` is what is kept of a read, `W` of a write: the owner says where the record of each stands.
+/// All that a cache of one part keeps beside its records and their lists. `O` is what is kept of a read, `W` of a write: the owner says
+/// where the record of each stands.
 /// Each method that changes it makes one change, for which there is room.
 #[derive(Drop)]
 pub struct Backlog<K, V, O, W, S, R: Rules<K, V>> {
@@ -90,7 +91,7 @@ impl<K, V, O, W, S, R: Rules<K, V>> Model for Backlog<K, V, O, W, S, R> {
 }
 
 impl<K, V, O, W, S, R: Rules<K, V>> Backlog<K, V, O, W, S, R> {
-    /// That of a cache that was made at the moment of its settings.
+    /// Creates what a cache keeps that is made at the moment of its settings. Returns an error if there is not enough memory.
     pub fn new(
         alloc: Global,
         name: Option<String>,
@@ -132,98 +133,98 @@ impl<K, V, O, W, S, R: Rules<K, V>> Backlog<K, V, O, W, S, R> {
 
     // ---- what is there
 
-    /// The step of the last clear, or 0.
+    /// Returns the step of the last clear, or 0 if there was none.
     pub fn cleared(&self) -> u64
         ensures { result ≡ self.now.cleared }
     {
         self.cleared
     }
 
-    /// An empty list, over the memory of these.
+    /// Returns an empty list, which takes its memory from where the lists here take theirs.
     pub fn empty<T>(&self) -> Vec<T>
         ensures { result.items ≡ [] }
     {
         Vec::new(*self.predicates.allocator())
     }
 
-    /// The predicates.
+    /// Returns the predicates, the oldest first.
     pub fn predicates(&self) -> &[Registered<R::Predicate>]
         ensures { result.now ≡ self.now.predicates }
     {
         self.predicates.as_slice()
     }
 
-    /// The reads that wait to be counted, the oldest first.
+    /// Returns the reads that wait to be counted, the oldest first.
     pub fn reads(&self) -> &[O]
         ensures { result.now ≡ self.now.reads }
     {
         self.reads.as_slice()
     }
 
-    /// The writes that wait to be applied, the oldest first.
+    /// Returns the writes that wait to be applied, the oldest first.
     pub fn writes(&self) -> &[W]
         ensures { result.now ≡ self.now.writes }
     {
         self.writes.as_slice()
     }
 
-    /// How often hashes were asked for.
+    /// Returns the counts of how often hashes were requested.
     pub fn sketch(&self) -> &FrequencySketch
         ensures { result.now ≡ self.now.sketch }
     {
         &self.sketch
     }
 
-    /// How many records were admitted at the end of the last run.
+    /// Returns how many records were admitted at the end of the last run.
     pub fn number(&self) -> u64
         ensures { result ≡ self.now.number }
     {
         self.number
     }
 
-    /// What they weighed.
+    /// Returns what the records weighed that were admitted at the end of the last run.
     pub fn weight(&self) -> u64
         ensures { result ≡ self.now.weight }
     {
         self.weight
     }
 
-    /// The moment of the last run.
+    /// Returns the moment of the last run, in nanoseconds.
     pub fn ran(&self) -> u64
         ensures { result ≡ self.now.ran }
     {
         self.ran
     }
 
-    /// Whether the last run wanted the sketch's table and there was no memory for it.
+    /// Returns whether the last run wanted the sketch's table and there was no memory for it.
     pub fn table_refused(&self) -> bool
         ensures { result ≡ self.now.table_refused }
     {
         self.table_refused
     }
 
-    /// The next ticket.
+    /// Returns the next ticket.
     pub fn next_ticket(&self) -> u64
         ensures { result ≡ self.now.next_ticket }
     {
         self.next_ticket
     }
 
-    /// For how many writes or predicates there is room.
+    /// Returns for how many writes or predicates there is room.
     pub fn reserved(&self) -> u64
         ensures { result ≡ self.now.reserved }
     {
         self.reserved
     }
 
-    /// What the cache was made with.
+    /// Returns the settings with which the cache was made.
     pub fn settings(&self) -> Settings
         ensures { result ≡ self.now.settings }
     {
         self.settings
     }
 
-    /// What the cache is called.
+    /// Returns the name of the cache, or `None` if it has none.
     pub fn name(&self) -> Option<&str>
         ensures { option_map (λ text. text.now) result ≡ self.now.name }
     {
@@ -233,21 +234,21 @@ impl<K, V, O, W, S, R: Rules<K, V>> Backlog<K, V, O, W, S, R> {
         }
     }
 
-    /// What hashes keys.
+    /// Returns the hasher, which hashes keys.
     pub fn hasher(&self) -> &S
         ensures { result.now ≡ self.now.hasher }
     {
         &self.hasher
     }
 
-    /// What says weights, expirations, and what predicates cover.
+    /// Returns the rules, which say weights, expirations, and what predicates cover.
     pub fn rules(&self) -> &R
         ensures { result.now ≡ self.now.rules }
     {
         &self.rules
     }
 
-    /// Whether a run is due: 64 writes or 64 reads wait, or the last run is 300 milliseconds old.
+    /// Returns whether a run is due: 64 writes or 64 reads wait, or the last run is 300 milliseconds old.
     pub fn is_due(&self, now: u64) -> bool
         ensures { result ≡ is_run_due self.now now }
     {
@@ -255,7 +256,7 @@ impl<K, V, O, W, S, R: Rules<K, V>> Backlog<K, V, O, W, S, R> {
         FLUSH_POINT <= self.writes.len() || FLUSH_POINT <= self.reads.len() || ends <= now
     }
 
-    /// Whether a later clear or predicate stands over what was written at a step.
+    /// Returns whether a later clear or predicate covers what was written at a step.
     pub fn is_over(&self, step: u64, key: &K, value: &V) -> bool
         ensures { result ≡ stands_over R.answers.covers self.now step key.now value.now }
     {
@@ -265,7 +266,7 @@ impl<K, V, O, W, S, R: Rules<K, V>> Backlog<K, V, O, W, S, R> {
 
     // ---- clears and predicates
 
-    /// Covers every value that was written at an earlier step.
+    /// Covers every value that was written at a step before this one.
     pub fn clear(&mut self, step: u64)
         ensures { self.new ≡ record self.old { cleared = max self.old.cleared step } }
     {
@@ -285,7 +286,7 @@ impl<K, V, O, W, S, R: Rules<K, V>> Backlog<K, V, O, W, S, R> {
         self.reserved -= 1;
     }
 
-    /// The predicate at a place goes.
+    /// Removes the predicate at an index.
     pub fn end_predicate(&mut self, place: usize)
         requires { place < length self.old.predicates }
         ensures { self.new ≡ record self.old { predicates = remove self.old.predicates place } }
@@ -295,7 +296,7 @@ impl<K, V, O, W, S, R: Rules<K, V>> Backlog<K, V, O, W, S, R> {
 
     // ---- notices
 
-    /// The oldest notice that was not taken.
+    /// Takes the oldest notice that was not taken, or returns `None` if there is none.
     pub fn next_notice(&mut self) -> Option<Notice<K, V>>
         ensures notice { result ≡ slice_get self.old.notices 0 }
         ensures taken { self.new ≡ notice_taken self.old }
@@ -303,7 +304,7 @@ impl<K, V, O, W, S, R: Rules<K, V>> Backlog<K, V, O, W, S, R> {
         self.notices.pop_front()
     }
 
-    /// Adds the notice of what left, where that is to be told and removals are, and there is room for it.
+    /// Adds the notice of what left, in room that there is for it, if `is_told` and removals are reported.
     pub fn tell(&mut self, is_told: bool, notice: Notice<K, V>)
     where
         K: Drop,
@@ -329,7 +330,7 @@ impl<K, V, O, W, S, R: Rules<K, V>> Backlog<K, V, O, W, S, R> {
         }
     }
 
-    /// Adds the notice of what was removed by its key, in the room that its removal left, where removals are told.
+    /// Adds the notice of what was removed by its key, in the room that the removal left, if removals are reported.
     pub fn tell_removed(&mut self, notice: Notice<K, V>)
     where
         K: Drop,
@@ -345,8 +346,9 @@ impl<K, V, O, W, S, R: Rules<K, V>> Backlog<K, V, O, W, S, R> {
 
     // ---- room
 
-    /// Makes room for so many more writes or predicates, and, where removals are told, for a notice of each of so many records and of
-    /// those to come.
+    /// Makes room for `by` more writes or predicates, and, if removals are reported, for a notice of each of so many records and of those
+    /// to come. Returns `UsedUp` if the 64-bit tickets of writes are used up, and `OutOfMemory` if there is not enough memory; then nothing
+    /// has changed.
     pub fn make_room(&mut self, by: u64, records: usize) -> Result<(), Refusal>
         ensures ok { OnOk result (MakesRoom by records self.old self.new) }
         ensures err { OnErr result (self.new ≡ self.old) }
@@ -382,7 +384,7 @@ impl<K, V, O, W, S, R: Rules<K, V>> Backlog<K, V, O, W, S, R> {
 
     // ---- writes
 
-    /// Adds a write, for which there is room: it goes into the queue at once, or waits under the next ticket.
+    /// Adds a write, for which there is room: into the queue at once, or to those that wait to be sent, under the next ticket.
     pub fn add_write(&mut self, write: W, at_once: bool)
         requires room { 0 < self.old.reserved }
         requires queue { at_once ≡ true → length self.old.writes < 128 }
@@ -398,14 +400,15 @@ impl<K, V, O, W, S, R: Rules<K, V>> Backlog<K, V, O, W, S, R> {
         }
     }
 
-    /// Whether each ticket was sent and the queue has room, so that a write can go into it at once.
+    /// Returns whether each ticket was sent and the queue has room, so that a write can go into the queue at once.
     pub fn can_send(&self) -> bool
         ensures { result ≡ true → (self.now.unsent ≡ []) × (length self.now.writes < 128) }
     {
         self.unsent.is_empty() && self.writes.len() < MAX_WRITES
     }
 
-    /// Moves the write of a ticket into the queue. An unknown ticket is refused before a full queue.
+    /// Moves the write of a ticket into the queue. Returns `UnknownTicket` if no write waits under this ticket, and otherwise `QueueFull`
+    /// if 128 writes are in the queue; then nothing has changed.
     pub fn send(&mut self, ticket: u64) -> Result<(), Refusal>
         ensures ok { OnOk result (self.new ≡ ticket_sent ticket self.old) }
         ensures known { OnOk result (is_some (ticketed_at self.old.unsent ticket) ≡ true) }
@@ -444,7 +447,7 @@ impl<K, V, O, W, S, R: Rules<K, V>> Backlog<K, V, O, W, S, R> {
         self.writes.push_reserved(sent.write);
     }
 
-    /// No write is left to apply.
+    /// Removes all writes that wait to be applied.
     pub fn end_writes(&mut self)
     where
         W: Drop,
@@ -463,7 +466,7 @@ impl<K, V, O, W, S, R: Rules<K, V>> Backlog<K, V, O, W, S, R> {
         self.reads.push_reserved(read);
     }
 
-    /// No read is left to count.
+    /// Removes all reads that wait to be counted.
     pub fn end_reads(&mut self)
     where
         O: Drop,
@@ -472,7 +475,7 @@ impl<K, V, O, W, S, R: Rules<K, V>> Backlog<K, V, O, W, S, R> {
         self.reads.clear();
     }
 
-    /// Counts a hash as asked for.
+    /// Counts a hash as requested once more.
     pub fn count_hash(&mut self, hash: u64)
         ensures { self.new ≡ record self.old { sketch = incremented self.old.sketch hash } }
     {
@@ -481,7 +484,7 @@ impl<K, V, O, W, S, R: Rules<K, V>> Backlog<K, V, O, W, S, R> {
 
     // ---- runs
 
-    /// Makes the sketch's table for so many hashes.
+    /// Makes the sketch's table for so many hashes. Returns an error if there is not enough memory; then nothing has changed.
     pub fn make_table(&mut self, hashes: u32) -> Result<(), AllocError>
         ensures made { OnOk result ((words : ℕ) × IsNextPowerOfTwo (min hashes (2 ^ 24)) words
             × (self.new ≡ record self.old { sketch = grown self.old.sketch words hashes })) }
@@ -491,7 +494,8 @@ impl<K, V, O, W, S, R: Rules<K, V>> Backlog<K, V, O, W, S, R> {
         Ok(())
     }
 
-    /// Takes down the counts at the end of a run, and whether there was no memory for the sketch's table.
+    /// Notes at the end of a run how many records are admitted, what they weigh, the run's moment, and whether there was no memory for the
+    /// sketch's table.
     pub fn finish_run(&mut self, number: u64, weight: u64, now: u64, table_refused: bool)
         ensures { self.new ≡ record self.old
             { number = number; weight = weight; ran = now; table_refused = table_refused } }

@@ -4,7 +4,7 @@ ghost use Rattle.std.specs.List.{list_any};
 
 use engine_reference::{Registered, Rules};
 
-/// Whether a predicate that was registered at a later step covers a value.
+/// Returns whether a predicate that was registered at a later step covers a value.
 pub fn is_any_over<K, V, R: Rules<K, V>>(
     rules: &R,
     predicates: &[Registered<R::Predicate>],

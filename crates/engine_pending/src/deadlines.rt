@@ -25,7 +25,8 @@ fn is_reached(moment: Option<u64>, now: u64) -> bool
     }
 }
 
-/// Whether the deadline has come of what expires by itself at a moment, and was written and used at others.
+/// Returns whether a deadline has come at `now`: of what expires by itself at `expires`, and was written and used at these moments. All
+/// moments are in nanoseconds.
 pub fn is_dead(settings: Settings, now: u64, expires: Option<u64>, written: u64, used: u64) -> bool
     ensures { result ≡ is_reached (earlier_of expires
         (earlier_of (end_of written settings.live) (end_of used settings.idle))) now }

@@ -3,14 +3,16 @@ ghost use Rattle.std.specs.Prelude.{◌≡◌, ◌+◌, ◌<◌, length, vec_len
 ghost use Rattle.engine_pending.specs.Pending.{ticketed_at, without_ticketed};
 ghost use Rattle.engine_pending.specs.declared.tickets.Ticketed.{Ticketed};
 
-/// What is kept of a write that was made and not sent to maintenance yet, under its ticket.
+/// What is kept of a write that was made and not yet sent to maintenance, with its ticket.
 #[derive(Drop)]
 pub struct Ticketed<W> {
+    /// The ticket, under which the write is sent.
     pub ticket: u64,
+    /// The write itself.
     pub write: W,
 }
 
-/// The place of the write of a ticket.
+/// Returns the index of the write of a ticket, or `None` if no write waits under it.
 pub fn place_of_ticket<W>(unsent: &[Ticketed<W>], ticket: u64) -> Option<usize>
     ensures found { IfSome result (λ i. (u : Ticketed W) × (slice_get unsent.now i ≡ Some u)
         × (ticketed_at unsent.now ticket ≡ Some u.write)
@@ -26,7 +28,7 @@ pub fn place_of_ticket<W>(unsent: &[Ticketed<W>], ticket: u64) -> Option<usize>
     None
 }
 
-/// Takes out the write at a place. If it is the last one, none has to move.
+/// Removes and returns the write at an index, which must hold one. The other writes keep their order.
 pub fn take_ticketed<W>(unsent: &mut Vec<Ticketed<W>>, place: usize) -> Ticketed<W>
     requires { place < vec_len unsent.old }
     ensures item { slice_get unsent.old.items place ≡ Some result }

@@ -20,8 +20,8 @@ pub trait InnerSync {
         ensures { housekept now self.old self.new };
 }
 
-/// Decides when the maintenance of a cache is due, and runs it. Moments are arguments, and the cache has one owner: so each
-/// run goes to its end, and no time limit, repeat or batch of the configuration cuts it short.
+/// Decides when the maintenance of a cache is due, and runs it. Moments are arguments, and the cache has one owner. So each run goes to its
+/// end, and no time limit, repeat or batch of the configuration cuts it short.
 #[derive(Clone, Copy, Debug, PartialEq, Eq)]
 pub struct Housekeeper {
     config: HousekeeperConfig,
@@ -48,14 +48,14 @@ impl Housekeeper {
         self.config
     }
 
-    /// Returns whether a run is due if this many reads wait.
+    /// Returns whether a run is due if this many reads wait: 64 or more, or the moment has come at which the next run is due.
     pub fn should_apply_reads(&self, waiting: usize, now: Instant) -> bool
         ensures { result ≡ is_wanted waiting self.now.due now }
     {
         self.should_apply(waiting, now)
     }
 
-    /// Returns whether a run is due if this many writes wait.
+    /// Returns whether a run is due if this many writes wait: 64 or more, or the moment has come at which the next run is due.
     pub fn should_apply_writes(&self, waiting: usize, now: Instant) -> bool
         ensures { result ≡ is_wanted waiting self.now.due now }
     {

@@ -39,7 +39,7 @@ fn draw_one<G: Rng>(generator: &mut G) -> Uuid
     drawn
 }
 
-/// Draws identifiers until one is not registered, at most a thousand. They are UUIDs of version 4.
+/// Draws identifiers, UUIDs of version 4, until one is not registered. Returns `None` if each of a thousand that were drawn is registered.
 pub fn draw<G: Rng, P>(generator: &mut G, registered: &[Registered<P>]) -> Option<u128>
     ensures some { IfSome result (λ id. Draws (G.stream generator.old) (G.stream generator.new)
         (is_registered registered.now) id) }

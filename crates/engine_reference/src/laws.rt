@@ -52,7 +52,7 @@ pub fn sending_keeps_visible<K, V, P, S, R>()
     ensures { SendingKeepsVisible K V P S R }
 {}
 
-/// A clear and a predicate make nothing visible that was not.
+/// Neither a clear nor a predicate makes anything visible that was not.
 #[tactic(auto, using(crate::proofs::Seeing::cover_shows_nothing))]
 pub fn cover_shows_nothing<K, V, P, S, R>()
     ensures { CoverShowsNothing K V P S R }
@@ -64,7 +64,8 @@ pub fn unapplied_stay<K, V, P, S, R>()
     ensures { UnappliedStay K V P S R }
 {}
 
-/// An empty cache is sound, and each call keeps a sound cache sound.
+/// An empty cache is sound, and each call keeps a sound cache sound. (`IsSound`: each record has a number of its own, the last write of a
+/// record that is not settled is pending, and each admitted record is on the access list.)
 #[tactic(auto, using(crate::proofs::SoundCalls::calls_stay_sound))]
 pub fn calls_stay_sound<K, V, P, S, R>()
     ensures { CallsStaySound K V P S R }
@@ -75,13 +76,14 @@ pub fn runs_stay_sound<K, V, P, S, R>()
     ensures { RunsStaySound K V P S R }
 {}
 
-/// After an uncut run that began with all tickets sent, the counts of a sound cache are the number and weight of what is held, within a capacity above 0, and no predicate covers any of it.
+/// After an uncut run (one that goes to its end) that began with all tickets sent, the counts of a sound cache are the number and weight of
+/// what is held, within a capacity above 0, and no predicate covers any of it.
 pub fn counts_are_exact<K, V, P, S, R>()
     ensures { CountsAreExact K V P S R }
 {}
 
-/// What evictions remove until the weight is within the capacity is the shortest front of the settled records of the access list that
-/// reaches the excess.
+/// What evictions remove until the weight is within the capacity are the first settled records of the access list, as few as reach the
+/// excess. (A record is settled if its last write is applied; the excess is what the admitted records weigh above the capacity.)
 #[tactic(auto, using(crate::proofs::Evicting::evicts_shortest_front))]
 pub fn evicts_shortest_front<K, V, P, S, R>()
     ensures { EvictsShortestFront K V P S R }

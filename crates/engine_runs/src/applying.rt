@@ -94,7 +94,7 @@ fn apply_at<K: Eq + Hash + Drop, V: Drop, S: BuildHasher, R: Rules<K, V>>(
     apply_write(tables, place, write);
 }
 
-/// Where no read is left to count, applies all writes, in the order in which they were sent.
+/// If no read is left to count, applies all writes, in the order in which they were sent.
 pub fn apply_writes<K: Eq + Hash + Drop, V: Drop, S: BuildHasher, R: Rules<K, V>>(
     tables: &mut Tables<K, V, S, R>,
 )

@@ -101,7 +101,7 @@ fn end_all<K: Eq + Hash, V, S: BuildHasher, R: Rules<K, V>>(tables: &mut Tables<
     }
 }
 
-/// Where there are predicates, all held records that are covered leave, and then the predicates go.
+/// Removes all held records that predicates cover, and then the predicates.
 pub fn end_predicates<K: Eq + Hash + Drop, V: Drop, S: BuildHasher, R: Rules<K, V>>(
     tables: &mut Tables<K, V, S, R>,
 )

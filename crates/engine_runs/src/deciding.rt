@@ -12,18 +12,18 @@ use engine_reference::{EvictionPolicy, Rules, Upsert};
 use engine_tables::Tables;
 use std::hash::{BuildHasher, Hash};
 
-/// What is done about a pending write of a record that is there.
+/// What is done about a pending write, if its record is there.
 #[derive(Clone, Copy)]
 pub enum Decision {
-    /// Nothing, as a later one was applied.
+    /// Nothing is done, as a later write was applied.
     Skip,
-    /// The record counts.
+    /// The record is admitted, with its weight.
     Count,
-    /// The record counts, and others go for it.
+    /// The record is admitted, and others are evicted for it.
     Displace,
     /// The record stays as it is, as it was written or removed since.
     PutOff,
-    /// The record leaves.
+    /// The record leaves: it is not admitted.
     Refuse,
 }
 
@@ -118,7 +118,7 @@ fn decide_on<K: Eq + Hash, V, S: BuildHasher, R: Rules<K, V>>(
     judge(tables, found, write)
 }
 
-/// What is done about a pending write of the record in a place.
+/// Returns what is done about a pending write of the record in a place.
 pub fn decide<K: Eq + Hash, V, S: BuildHasher, R: Rules<K, V>>(
     tables: &Tables<K, V, S, R>,
     place: usize,

@@ -108,14 +108,15 @@ fn used_leaving<K: Eq + Hash, V, S: BuildHasher, R: Rules<K, V>>(
     }
 }
 
-/// The tick of a moment: own expirations are noticed by ticks of 2^30 nanoseconds, counted from the making rounded down to a multiple of 4096.
+/// The tick of a moment: own expirations are noticed by ticks of 2^30 nanoseconds, counted from the making rounded down to a multiple of
+/// 4096.
 fn tick_at(settings: &Settings, moment: u64) -> u64
     ensures { result ≡ tick_of settings.now moment }
 {
     moment.saturating_sub(settings.made / 4096 * 4096) / TICK
 }
 
-/// Whether a run is in a later tick than the last one was.
+/// Returns whether a run is in a later tick than the last run was.
 pub fn is_in_later_tick<K: Eq + Hash, V, S: BuildHasher, R: Rules<K, V>>(
     tables: &Tables<K, V, S, R>,
     now: u64,
@@ -164,7 +165,8 @@ fn excess_leaving<K: Eq + Hash, V, S: BuildHasher, R: Rules<K, V>>(
     }
 }
 
-/// The first record that has to leave, by the fronts, and why: for the weight only where none has to leave for another cause.
+/// Returns the place of the first record that has to leave, by the fronts, and why, or `None` if none has to. The cause is the weight only
+/// if none has to leave for another cause.
 pub fn next_leaving<K: Eq + Hash, V, S: BuildHasher, R: Rules<K, V>>(
     tables: &Tables<K, V, S, R>,
     now: u64,

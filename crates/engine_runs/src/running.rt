@@ -16,9 +16,10 @@ use engine_tables::Tables;
 use std::alloc::AllocError;
 use std::hash::{BuildHasher, Hash};
 
-/// Runs maintenance to its end: applies everything that is pending, removes what predicates cover and then the predicates, then what is due, and then the excess.
-/// If all tickets were sent when it began, the counts are exact. If moments never fell and steps rose, nothing that is kept is due.
-/// If half the capacity is held and the sketch has no table, the table is made first. An error reports that there was no memory for it; the run is complete without it. Other memory is allocated only if there was none for a timer before.
+/// Runs maintenance to its end: applies everything that is pending, removes what predicates cover and then the predicates, then what is
+/// due, and then the excess. If all tickets were sent when it began, the counts are exact. If moments never fell and steps rose, nothing
+/// that is kept is due. If half the capacity is held and the sketch has no table, the table is made first. Returns an error if there was no
+/// memory for the table; the run is complete without it. Other memory is allocated only if there was none for a timer before.
 pub fn try_run<K: Eq + Hash + Drop, V: Drop, S: BuildHasher, R: Rules<K, V>>(
     tables: &mut Tables<K, V, S, R>,
     now: u64,

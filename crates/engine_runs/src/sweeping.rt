@@ -32,7 +32,7 @@ fn leave_for<K: Eq + Hash + Drop, V: Drop, S: BuildHasher, R: Rules<K, V>>(
     tables.leave(place, cause);
 }
 
-/// All that is due by the fronts leaves, until each front is clean and the weight within the capacity.
+/// Removes all that is due by the fronts, until each front is clean and the weight is within the capacity.
 pub fn sweep<K: Eq + Hash + Drop, V: Drop, S: BuildHasher, R: Rules<K, V>>(
     tables: &mut Tables<K, V, S, R>,
     now: u64,
@@ -51,8 +51,8 @@ pub fn sweep<K: Eq + Hash + Drop, V: Drop, S: BuildHasher, R: Rules<K, V>>(
     }
 }
 
-/// The rest of a run of what has nothing to apply and no predicate: what is due by the fronts leaves, and the counts are
-/// taken, with whether there was no memory for the sketch's table.
+/// Ends a run that has nothing to apply and no predicate: removes what is due by the fronts, and notes the counts, and whether there was no
+/// memory for the sketch's table.
 pub fn settle<K: Eq + Hash + Drop, V: Drop, S: BuildHasher, R: Rules<K, V>>(
     tables: &mut Tables<K, V, S, R>,
     now: u64,

@@ -73,7 +73,7 @@ fn make_table<K: Eq + Hash, V, S: BuildHasher, R: Rules<K, V>>(
     Ok(())
 }
 
-/// Makes the table, where half the capacity is held and there is none. An error says that there is no memory for it.
+/// Makes the sketch's table, if half the capacity is held and there is none. Returns an error if there is not enough memory.
 pub fn grow<K: Eq + Hash, V, S: BuildHasher, R: Rules<K, V>>(
     tables: &mut Tables<K, V, S, R>,
 ) -> Result<(), AllocError>

@@ -98,7 +98,7 @@ impl<K: Eq + Hash, V, S: BuildHasher, R: Rules<K, V>> Model for Tables<K, V, S, 
 }
 
 impl<K: Eq + Hash, V, S: BuildHasher, R: Rules<K, V>> Tables<K, V, S, R> {
-    /// The tables of a cache that was just made.
+    /// Creates the tables of a cache. Returns an error if there is not enough memory.
     pub fn new(
         alloc: Global,
         name: Option<String>,
@@ -132,7 +132,8 @@ impl<K: Eq + Hash, V, S: BuildHasher, R: Rules<K, V>> Tables<K, V, S, R> {
 
     // ---- room
 
-    /// Makes room for `by` more writes or predicates, which are then not refused.
+    /// Makes room for `by` more writes or predicates, which are then not refused. Returns `UsedUp` if the 64-bit tickets of writes are used
+    /// up, and `OutOfMemory` if there is not enough memory; then nothing has changed.
     pub fn make_room(&mut self, by: u64) -> Result<(), Refusal>
         ensures ok { OnOk result (self.new ≡ record self.old
             { state = record self.old.state { reserved = self.old.state.reserved + by } }) }
@@ -214,7 +215,7 @@ impl<K: Eq + Hash, V, S: BuildHasher, R: Rules<K, V>> Tables<K, V, S, R> {
         self.reserved -= 1;
     }
 
-    /// The predicate at a place of them goes.
+    /// Removes the predicate at an index.
     pub fn end_predicate(&mut self, place: usize)
         requires { place < length self.old.state.predicates }
         ensures { self.new ≡ record self.old {
@@ -225,14 +226,14 @@ impl<K: Eq + Hash, V, S: BuildHasher, R: Rules<K, V>> Tables<K, V, S, R> {
         self.backlog.end_predicate(place);
     }
 
-    /// The predicates.
+    /// Returns the predicates, the oldest first.
     pub fn predicates(&self) -> &[Registered<R::Predicate>]
         ensures { result.now ≡ self.now.state.predicates }
     {
         self.backlog.predicates()
     }
 
-    /// Whether a later clear or predicate stands over a record's entry.
+    /// Returns whether a later clear or predicate covers a record's entry.
     pub fn is_over(&self, found: &Cell<K, V>) -> bool
         ensures { (answers : Answers K V R.Predicate R) → answers.covers ≡ R.answers.covers
             → result ≡ is_covered answers self.now.state found.now.entry }
@@ -243,14 +244,14 @@ impl<K: Eq + Hash, V, S: BuildHasher, R: Rules<K, V>> Tables<K, V, S, R> {
 
     // ---- records
 
-    /// The record in a place.
+    /// Returns the record in a place, or `None` if there is none.
     pub fn record(&self, place: usize) -> Option<&Cell<K, V>>
         ensures { option_copied result ≡ kept_at self.now place }
     {
         self.cells.get(place)
     }
 
-    /// The record in a place that has one.
+    /// Returns the record in a place, which must have one.
     pub fn record_in(&self, place: usize) -> &Cell<K, V>
         requires { is_some (kept_at self.now place) ≡ true }
         ensures { kept_at self.now place ≡ Some result.now }
@@ -261,7 +262,7 @@ impl<K: Eq + Hash, V, S: BuildHasher, R: Rules<K, V>> Tables<K, V, S, R> {
         }
     }
 
-    /// How many places there are at most: each record stands in one of them.
+    /// Returns how many places there are at most: each record stands in one of them.
     pub fn places(&self) -> usize
         ensures most { length self.now.numbers ≤ result }
         ensures stand { (r : Record K V) → record_at self.now.state.records r.number ≡ Some r
@@ -270,7 +271,7 @@ impl<K: Eq + Hash, V, S: BuildHasher, R: Rules<K, V>> Tables<K, V, S, R> {
         self.cells.capacity()
     }
 
-    /// The place of a key's record, where it is held, by the key's hash.
+    /// Returns the place of a key's record, by the key's hash, or `None` if no record of the key is held.
     pub fn place_of<Q: Names<K>>(&self, key: &Q, hash: u64) -> Option<usize>
         requires hashed { hash
             ≡ ⟦<S as Hashes<K>>⟧.hash self.now.state.hasher (Q.named_key key.now) }
@@ -284,7 +285,8 @@ impl<K: Eq + Hash, V, S: BuildHasher, R: Rules<K, V>> Tables<K, V, S, R> {
         find_held(&self.cells, &self.keys, key, hash)
     }
 
-    /// A look-up uses the record in a place, whose number is answered.
+    /// Notes that a look-up used the record in a place at a moment in nanoseconds, and when its value expires by itself from then on.
+    /// Returns the record's number.
     pub fn use_at(&mut self, place: usize, used: u64, expires: Option<u64>) -> u64
         requires { is_some (kept_at self.old place) ≡ true }
         ensures changes { ChangesAt (λ x. record x {
@@ -310,8 +312,8 @@ impl<K: Eq + Hash, V, S: BuildHasher, R: Rules<K, V>> Tables<K, V, S, R> {
         self.access.move_to_back(index);
     }
 
-    /// Adds the record of a new key, and its write, for which there is room: it goes into the queue at once, or waits to be sent. Its place is
-    /// answered.
+    /// Adds the record of a new key, and its write, for which there is room: the write goes into the queue at once, or waits to be sent.
+    /// Returns the record's place.
     pub fn add(&mut self, added: Cell<K, V>, at_once: bool) -> usize
         requires room { 0 < self.old.state.reserved }
         requires queue { at_once ≡ true → length self.old.state.writes < 128 }
@@ -344,8 +346,8 @@ impl<K: Eq + Hash, V, S: BuildHasher, R: Rules<K, V>> Tables<K, V, S, R> {
         place
     }
 
-    /// Writes over the entry in a place, which is held, and is told where removals are told. The write, for which there is room, goes into the
-    /// queue at once, or waits to be sent. The new key compares alike.
+    /// Writes over the entry in a place, which is held, and reports the entry that was there if removals are reported. The write, for which
+    /// there is room, goes into the queue at once, or waits to be sent. The new key compares equal to the old one.
     pub fn write_over(
         &mut self,
         place: usize,
@@ -380,7 +382,8 @@ impl<K: Eq + Hash, V, S: BuildHasher, R: Rules<K, V>> Tables<K, V, S, R> {
         self.reserved -= 1;
     }
 
-    /// The record in a place is no longer held, and its removal waits to be sent, for which there is room.
+    /// Notes that the key of the record in a place was removed: the record is no longer held, and its removal, for which there is room,
+    /// waits to be sent.
     pub fn mark_removed(&mut self, place: usize)
         requires there { is_some (kept_at self.old place) ≡ true }
         requires room { 0 < self.old.state.reserved }
@@ -401,7 +404,7 @@ impl<K: Eq + Hash, V, S: BuildHasher, R: Rules<K, V>> Tables<K, V, S, R> {
         self.reserved -= 1;
     }
 
-    /// A write of the record in a place is applied, and the record stays as it is otherwise, not admitted where it was not.
+    /// Notes that a write of the record in a place is applied. The record stays as it is otherwise, not admitted if it was not.
     pub fn put_off(&mut self, place: usize, write: u64)
         requires { is_some (kept_at self.old place) ≡ true }
         ensures { ChangesAt (λ x. record x { applied = write }) place self.old self.new }
@@ -410,7 +413,7 @@ impl<K: Eq + Hash, V, S: BuildHasher, R: Rules<K, V>> Tables<K, V, S, R> {
         cell.apply(write);
     }
 
-    /// The record in a place, which is not held, goes. It was told when it was removed.
+    /// Removes the record in a place, which is not held. The record was reported when its key was removed.
     pub fn forget(&mut self, place: usize)
     where
         K: Drop,
@@ -422,7 +425,7 @@ impl<K: Eq + Hash, V, S: BuildHasher, R: Rules<K, V>> Tables<K, V, S, R> {
         self.leave(place, RemovalCause::Explicit);
     }
 
-    /// Tells an entry that was removed, where removals are told, in the room of one write.
+    /// Reports an entry that was removed, if removals are reported, in the room of one write.
     pub fn tell_removed(&mut self, cause: RemovalCause, entry: Entry<K, V>)
     where
         K: Drop,
@@ -444,7 +447,7 @@ impl<K: Eq + Hash, V, S: BuildHasher, R: Rules<K, V>> Tables<K, V, S, R> {
         self.reserved -= 1;
     }
 
-    /// The removal of the record of a number is applied: it goes, where it is there and not held. It can only stand in this place.
+    /// Applies the removal of the record of a number: removes the record if it is there and not held. The record can only be in this place.
     pub fn apply_removal(&mut self, place: usize, number: u64)
     where
         K: Drop,
@@ -469,14 +472,14 @@ impl<K: Eq + Hash, V, S: BuildHasher, R: Rules<K, V>> Tables<K, V, S, R> {
         }
     }
 
-    /// What all that is held weighs, whether admitted or not.
+    /// Returns what all held records weigh, whether admitted or not.
     pub fn held_weight(&self) -> u64
         ensures { result ≡ held_weight self.now.state.records }
     {
         self.tally.held
     }
 
-    /// What the admitted records weigh.
+    /// Returns what the admitted records weigh.
     pub fn admitted_weight(&self) -> u64
         ensures is { result ≡ admitted_weight self.now.state.records }
         ensures light { result + 2 ^ 32 ≤ 2 ^ 64 }
@@ -485,14 +488,14 @@ impl<K: Eq + Hash, V, S: BuildHasher, R: Rules<K, V>> Tables<K, V, S, R> {
         self.tally.weight
     }
 
-    /// How many records are admitted.
+    /// Returns how many records are admitted.
     pub fn admitted_number(&self) -> u64
         ensures { result ≡ admitted_number self.now.state.records }
     {
         self.tally.number
     }
 
-    /// The record in a place leaves, and is told where it was held and removals are told.
+    /// Removes the record in a place, and reports it if it was held and removals are reported.
     #[inline(always)]
     pub fn leave(&mut self, place: usize, cause: RemovalCause)
     where
@@ -513,7 +516,7 @@ impl<K: Eq + Hash, V, S: BuildHasher, R: Rules<K, V>> Tables<K, V, S, R> {
         self.backlog.tell(was_held, gone.into_notice(cause));
     }
 
-    /// The place of the record used longest ago.
+    /// Returns the place of the record that was used longest ago, or `None` if no record is on the access list.
     pub fn oldest(&self) -> Option<usize>
         ensures first { IfSome result (λ i. (r : Record K V) × (kept_at self.now i ≡ Some r)
             × (slice_get self.now.state.access 0 ≡ Some r.number) × (is_some r.counts ≡ true)) }
@@ -522,7 +525,7 @@ impl<K: Eq + Hash, V, S: BuildHasher, R: Rules<K, V>> Tables<K, V, S, R> {
         place_at(self.access.first())
     }
 
-    /// The place of the record behind that of a place on the access list.
+    /// Returns the place of the record behind that of a place on the access list, or `None` after the last one.
     pub fn next_used(&self, place: usize) -> Option<usize>
         requires { (r : Record K V) × (kept_at self.now place ≡ Some r)
             × (is_some r.counts ≡ true) }
@@ -535,7 +538,7 @@ impl<K: Eq + Hash, V, S: BuildHasher, R: Rules<K, V>> Tables<K, V, S, R> {
         place_at(self.access.behind(index))
     }
 
-    /// No number stands on the access list twice, and each there is of an admitted record.
+    /// No number stands on the access list twice, and each there is of an admitted record. The call does nothing: its contract says so.
     pub fn access_stands(&self)
         ensures once { AreOnce self.now.state.access }
         ensures admitted { (number : ℕ) → IsIn number self.now.state.access
@@ -544,7 +547,7 @@ impl<K: Eq + Hash, V, S: BuildHasher, R: Rules<K, V>> Tables<K, V, S, R> {
         let _ = &self.access;
     }
 
-    /// The place of the record whose write was applied longest ago.
+    /// Returns the place of the record whose write was applied longest ago, or `None` if no record is on the write list.
     pub fn first_written(&self) -> Option<usize>
         ensures first { IfSome result (λ i. (r : Record K V) × (kept_at self.now i ≡ Some r)
             × (slice_get self.now.state.order 0 ≡ Some r.number) × (is_some r.counts ≡ true)) }
@@ -553,7 +556,7 @@ impl<K: Eq + Hash, V, S: BuildHasher, R: Rules<K, V>> Tables<K, V, S, R> {
         place_at(self.order.first())
     }
 
-    /// The place of the settled record used longest ago.
+    /// Returns the place of the settled record that was used longest ago, or `None` if there is none.
     pub fn first_settled(&self) -> Option<usize>
         ensures found { IfSome result (λ i. (r : Record K V) × (kept_at self.now i ≡ Some r)
             × (next_to_evict self.now.state ≡ Some r)) }
@@ -563,7 +566,7 @@ impl<K: Eq + Hash, V, S: BuildHasher, R: Rules<K, V>> Tables<K, V, S, R> {
         first_settled(&self.cells, &self.access)
     }
 
-    /// The place of a held record whose own expiration was reached.
+    /// Returns the place of a held record whose own expiration was reached at `now`, a moment in nanoseconds, or `None` if there is none.
     pub fn first_due(&self, now: u64) -> Option<usize>
         ensures found { IfSome result
             (λ i. (r : Record K V) × (kept_at self.now i ≡ Some r) × (is_expired now r ≡ true)) }
@@ -573,7 +576,7 @@ impl<K: Eq + Hash, V, S: BuildHasher, R: Rules<K, V>> Tables<K, V, S, R> {
         first_expired(&self.cells, &self.expirations, now)
     }
 
-    /// Where there was no memory for a timer, it is asked for again.
+    /// Sets all timers anew, if there was no memory for one before.
     pub fn mend_timers(&mut self)
         ensures { self.new ≡ self.old }
     {
@@ -582,7 +585,7 @@ impl<K: Eq + Hash, V, S: BuildHasher, R: Rules<K, V>> Tables<K, V, S, R> {
         }
     }
 
-    /// Whether the admitted records weigh more than the capacity.
+    /// Returns whether the admitted records weigh more than the capacity.
     pub fn is_too_heavy(&self) -> bool
         ensures { result
             ≡ is_above self.now.state.settings.capacity (admitted_weight self.now.state.records) }
@@ -593,91 +596,92 @@ impl<K: Eq + Hash, V, S: BuildHasher, R: Rules<K, V>> Tables<K, V, S, R> {
         }
     }
 
-    /// What the cache was made with.
+    /// Returns the settings with which the cache was made.
     pub fn settings(&self) -> Settings
         ensures { result ≡ self.now.state.settings }
     {
         self.backlog.settings()
     }
 
-    /// The step of the last clear, or 0.
+    /// Returns the step of the last clear, or 0 if there was none.
     pub fn cleared(&self) -> u64
         ensures { result ≡ self.now.state.cleared }
     {
         self.backlog.cleared()
     }
 
-    /// How often hashes were asked for.
+    /// Returns the counts of how often hashes were requested.
     pub fn sketch(&self) -> &FrequencySketch
         ensures { result.now ≡ self.now.state.sketch }
     {
         self.backlog.sketch()
     }
 
-    /// How many records were admitted at the end of the last run.
+    /// Returns how many records were admitted at the end of the last run.
     pub fn number(&self) -> u64
         ensures { result ≡ self.now.state.number }
     {
         self.backlog.number()
     }
 
-    /// What the admitted records weighed at the end of the last run.
+    /// Returns what the admitted records weighed at the end of the last run.
     pub fn weight(&self) -> u64
         ensures { result ≡ self.now.state.weight }
     {
         self.backlog.weight()
     }
 
-    /// The moment of the last run, in nanoseconds.
+    /// Returns the moment of the last run, in nanoseconds.
     pub fn ran(&self) -> u64
         ensures { result ≡ self.now.state.ran }
     {
         self.backlog.ran()
     }
 
-    /// Whether the last run wanted the sketch's table and there was no memory for it.
+    /// Returns whether the last run wanted the sketch's table and there was no memory for it.
     pub fn table_refused(&self) -> bool
         ensures { result ≡ self.now.state.table_refused }
     {
         self.backlog.table_refused()
     }
 
-    /// The number of the next record.
+    /// Returns the number of the next record.
     pub fn next_number(&self) -> u64
         ensures { result ≡ self.now.state.next_number }
     {
         self.next_number
     }
 
-    /// The ticket of the next write.
+    /// Returns the ticket of the next write.
     pub fn next_ticket(&self) -> u64
         ensures { result ≡ self.now.state.next_ticket }
     {
         self.backlog.next_ticket()
     }
 
-    /// What the cache is called.
+    /// Returns the name of the cache, or `None` if it has none.
     pub fn name(&self) -> Option<&str>
         ensures { option_map (λ text. text.now) result ≡ self.now.state.name }
     {
         self.backlog.name()
     }
 
-    /// The rules.
+    /// Returns the rules.
     pub fn rules(&self) -> &R
         ensures { result.now ≡ self.now.state.rules }
     {
         self.backlog.rules()
     }
 
-    /// What makes hashers.
+    /// Returns what makes hashers.
     pub fn hasher(&self) -> &S
         ensures { result.now ≡ self.now.state.hasher }
     {
         self.backlog.hasher()
     }
 
-    /// Takes down number and weight of the admitted records at the end of a run.
+    /// Notes at the end of a run how many records are admitted, what they weigh, the run's moment in nanoseconds, and whether there was no
+    /// memory for the sketch's table.
     pub fn finish_run(&mut self, now: u64, table_refused: bool)
         ensures { self.new
             ≡ record self.old { state = taken_down now table_refused self.old.state } }
@@ -687,7 +691,7 @@ impl<K: Eq + Hash, V, S: BuildHasher, R: Rules<K, V>> Tables<K, V, S, R> {
             .finish_run(self.tally.number, self.tally.weight, now, table_refused);
     }
 
-    /// Makes the sketch's table for so many hashes.
+    /// Makes the sketch's table for so many hashes. Returns an error if there is not enough memory; then nothing has changed.
     pub fn make_table(&mut self, hashes: u32) -> Result<(), AllocError>
         ensures made { OnOk result ((words : ℕ) × IsNextPowerOfTwo (min hashes (2 ^ 24)) words
             × (self.new ≡ record self.old {
@@ -699,7 +703,7 @@ impl<K: Eq + Hash, V, S: BuildHasher, R: Rules<K, V>> Tables<K, V, S, R> {
         self.backlog.make_table(hashes)
     }
 
-    /// Whether a run is due: 64 writes or 64 reads wait, or the last run is 300 milliseconds old.
+    /// Returns whether a run is due at `now`, a moment in nanoseconds: 64 writes or 64 reads wait, or the last run is 300 milliseconds old.
     pub fn is_due(&self, now: u64) -> bool
         ensures { result ≡ is_due self.now.state now }
     {
@@ -708,7 +712,7 @@ impl<K: Eq + Hash, V, S: BuildHasher, R: Rules<K, V>> Tables<K, V, S, R> {
 
     // ---- notices
 
-    /// The oldest notice that was not taken.
+    /// Takes the oldest notice that was not taken, or returns `None` if there is none.
     pub fn next_notice(&mut self) -> Option<Notice<K, V>>
         ensures notice { result ≡ slice_get self.old.state.notices 0 }
         ensures taken { self.new ≡ record self.old { state = without_notice self.old.state } }
@@ -718,14 +722,14 @@ impl<K: Eq + Hash, V, S: BuildHasher, R: Rules<K, V>> Tables<K, V, S, R> {
 
     // ---- writes that wait
 
-    /// How many writes wait to be applied.
+    /// Returns how many writes wait to be applied.
     pub fn number_of_writes(&self) -> usize
         ensures { result ≡ length self.now.state.writes }
     {
         self.backlog.writes().len()
     }
 
-    /// Whether each ticket was sent and the queue has room, so that a write can go into it at once.
+    /// Returns whether each ticket was sent and the queue has room, so that a write can go into the queue at once.
     pub fn can_send(&self) -> bool
         ensures { result ≡ true
             → (self.now.state.unsent ≡ []) × (length self.now.state.writes < 128) }
@@ -733,7 +737,8 @@ impl<K: Eq + Hash, V, S: BuildHasher, R: Rules<K, V>> Tables<K, V, S, R> {
         self.backlog.can_send()
     }
 
-    /// Moves the write of a ticket into the queue. An unknown ticket is refused before a full queue.
+    /// Moves the write of a ticket into the queue. Returns `UnknownTicket` if no write waits under this ticket, and otherwise `QueueFull`
+    /// if 128 writes are in the queue; then nothing has changed.
     pub fn send(&mut self, ticket: u64) -> Result<(), Refusal>
         ensures ok { OnOk result
             (self.new ≡ record self.old { state = sent ticket self.old.state }) }
@@ -751,7 +756,7 @@ impl<K: Eq + Hash, V, S: BuildHasher, R: Rules<K, V>> Tables<K, V, S, R> {
         self.backlog.send(ticket)
     }
 
-    /// The write at a place of those that wait to be applied. Only in the place that is told can its record stand.
+    /// Returns the write at an index of those that wait to be applied. Its record can only be in the place that it names.
     pub fn write_at(&self, index: usize) -> &PlacedWrite
         requires { index < length self.now.state.writes }
         ensures is { slice_get self.now.state.writes index ≡ Some (write_of result.now) }
@@ -761,7 +766,7 @@ impl<K: Eq + Hash, V, S: BuildHasher, R: Rules<K, V>> Tables<K, V, S, R> {
         &self.backlog.writes()[index]
     }
 
-    /// No write is left to apply.
+    /// Removes all writes that wait to be applied.
     pub fn end_writes(&mut self)
         ensures { self.new
             ≡ record self.old { state = record self.old.state { writes = [] } } }
@@ -771,14 +776,14 @@ impl<K: Eq + Hash, V, S: BuildHasher, R: Rules<K, V>> Tables<K, V, S, R> {
 
     // ---- reads that wait
 
-    /// How many reads wait to be counted.
+    /// Returns how many reads wait to be counted.
     pub fn number_of_reads(&self) -> usize
         ensures { result ≡ length self.now.state.reads }
     {
         self.backlog.reads().len()
     }
 
-    /// A look-up that found the record of a number, in a place, waits to be counted, for which there is room.
+    /// Adds the read of a look-up that found the record of a number, in a place, to be counted. There must be room for it.
     pub fn push_hit(&mut self, place: usize, number: u64, hash: u64)
         requires room { length self.old.state.reads < 64 }
         requires there { (r : Record K V) × (kept_at self.old place ≡ Some r)
@@ -796,7 +801,7 @@ impl<K: Eq + Hash, V, S: BuildHasher, R: Rules<K, V>> Tables<K, V, S, R> {
         });
     }
 
-    /// A look-up that found nothing waits to be counted, for which there is room.
+    /// Adds the read of a look-up that found nothing, to be counted. There must be room for it.
     pub fn push_miss(&mut self, hash: u64)
         requires { length self.old.state.reads < 64 }
         ensures { self.new ≡ record self.old {
@@ -824,7 +829,7 @@ impl<K: Eq + Hash, V, S: BuildHasher, R: Rules<K, V>> Tables<K, V, S, R> {
         self.backlog.reads()[index]
     }
 
-    /// No read is left to count.
+    /// Removes all reads that wait to be counted.
     pub fn end_reads(&mut self)
         ensures { self.new ≡ record self.old { state = record self.old.state { reads = [] } } }
     {
@@ -843,7 +848,7 @@ impl<K: Eq + Hash, V, S: BuildHasher, R: Rules<K, V>> Tables<K, V, S, R> {
         }
     }
 
-    /// Whether the record of a number is there. It can only stand in this place.
+    /// Returns whether the record of a number is there. The record can only be in this place.
     pub fn has_record(&self, place: usize, number: u64) -> bool
         requires { AimsOnlyAt self.now.numbers place number }
         ensures there { result ≡ true → (r : Record K V) × (kept_at self.now place ≡ Some r)
@@ -866,7 +871,7 @@ impl<K: Eq + Hash, V, S: BuildHasher, R: Rules<K, V>> Tables<K, V, S, R> {
         }
     }
 
-    /// Counts the read at a place of those that wait.
+    /// Counts the read at an index of those that wait.
     pub fn apply_read(&mut self, index: usize)
         requires { index < length self.old.state.reads }
         ensures { (r : Read) × (slice_get self.old.state.reads index ≡ Some r)
@@ -885,7 +890,7 @@ impl<K: Eq + Hash, V, S: BuildHasher, R: Rules<K, V>> Tables<K, V, S, R> {
         }
     }
 
-    /// The record in a place counts with a weight, at the back of the access list.
+    /// Notes that a write of the record in a place is applied, and that the record counts with a weight, at the back of the access list.
     #[inline(always)]
     pub fn count(&mut self, place: usize, write: u64, weight: u32)
         requires { is_some (kept_at self.old place) ≡ true }

@@ -18,7 +18,8 @@ use std::alloc::AllocError;
 use std::hash::{BuildHasher, Hash};
 
 /// Returns a clone of the visible value of a key, unless `replace_if` returns true for it; then it is passed over, which the first of the
-/// two results says. `replace_if` is called on no other value. This does not count as a use.
+/// two results says. `replace_if` is called on no other value. The call does not count as a use. Returns an error if there is no memory for
+/// the clone.
 pub fn look<
     K: Eq + Hash,
     V: Clone,
@@ -136,8 +137,9 @@ fn settle<
 }
 
 /// Returns the visible value of a key, which counts as a use of it, and false; or else what `make` makes, and true: a value is then
-/// inserted. A visible value for which `replace_if` returns true counts as none.
-/// Closures run before anything changes, and the key is made only if a value is inserted. If `make` fails to allocate, the call is refused.
+/// inserted. A visible value for which `replace_if` returns true counts as none. Closures run before anything changes, and the key is made
+/// only if a value is inserted. Returns `OutOfMemory` if `make` or another allocation fails, and `UsedUp` if the 64-bit numbers of writes
+/// are used up; then nothing has changed.
 pub fn coalesce<
     K: Eq + Hash + Drop,
     V: Clone + Drop,

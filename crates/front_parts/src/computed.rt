@@ -90,7 +90,7 @@ fn operate<
     }
 }
 
-/// The result if nothing was to be done.
+/// Returns the result of a compute call by which nothing was to be done.
 pub fn shown_unchanged<V>(seen: Option<V>) -> Computed<V>
     ensures shown { (held : Option V) → result ≡ computed_as op.Nop seen held }
     ensures fits { IsOutcomeOf op.Nop result }
@@ -101,7 +101,7 @@ pub fn shown_unchanged<V>(seen: Option<V>) -> Computed<V>
     }
 }
 
-/// The result if a value was put.
+/// Returns the result of a compute call that put a value.
 pub fn shown_put<V>(value: V, was_seen: bool) -> Computed<V>
     ensures shown { (seen held : Option V) → was_seen ≡ is_some seen
         → result ≡ computed_as (op.Put value) seen held }
@@ -114,7 +114,7 @@ pub fn shown_put<V>(value: V, was_seen: bool) -> Computed<V>
     }
 }
 
-/// The result if the key was removed.
+/// Returns the result of a compute call that removed the key.
 pub fn shown_removed<V>(removed: Option<V>) -> Computed<V>
     ensures shown { (seen : Option V) → result ≡ computed_as op.Remove seen removed }
     ensures fits { IsOutcomeOf op.Remove result }
@@ -126,8 +126,8 @@ pub fn shown_removed<V>(removed: Option<V>) -> Computed<V>
 }
 
 /// Calls a closure with the visible value of a key, and does what it decides, after the look-up's read is noted. If the closure fails, its
-/// error is returned, and only that read is noted.
-/// The closure runs before anything changes, and the key is made only if a value is put.
+/// error is returned, and only that read is noted. The closure runs before anything changes, and the key is made only if a value is put.
+/// Returns `OutOfMemory` if there is not enough memory, and `UsedUp` if the 64-bit numbers of writes are used up; then nothing has changed.
 pub fn compute<
     K: Eq + Hash + Clone + Drop,
     V: Clone + Drop,

@@ -43,7 +43,8 @@ fn make_room<K: Eq + Hash, V, S: BuildHasher, R: Rules<K, V>>(
     }
 }
 
-/// Makes room for a value, unless the capacity is 0 and none is stored. `insert_reserved` uses the room.
+/// Makes room for a value, unless the capacity is 0 and none is stored. `insert_reserved` uses the room. Returns `OutOfMemory` if there is
+/// not enough memory, and `UsedUp` if the 64-bit numbers of writes are used up; then nothing has changed.
 pub fn reserve_insert<K: Eq + Hash, V, S: BuildHasher, R: Rules<K, V>>(
     part: &mut BaseCache<K, V, S, R>,
 ) -> Result<(), CacheError>
@@ -58,7 +59,7 @@ pub fn reserve_insert<K: Eq + Hash, V, S: BuildHasher, R: Rules<K, V>>(
     }
 }
 
-/// Inserts a value in the room that `reserve_insert` made. It is never refused.
+/// Inserts a value in the room that `reserve_insert` made. The call is never refused.
 pub fn insert_reserved<K: Eq + Hash + Drop, V: Drop, S: BuildHasher, R: Rules<K, V>>(
     part: &mut BaseCache<K, V, S, R>,
     key: K,
@@ -78,7 +79,8 @@ pub fn insert_reserved<K: Eq + Hash + Drop, V: Drop, S: BuildHasher, R: Rules<K,
     }
 }
 
-/// Inserts a value. A part of capacity 0 stores none, and nothing happens.
+/// Inserts a value. A part of capacity 0 stores none. Returns `OutOfMemory` if there is not enough memory, and `UsedUp` if the 64-bit
+/// numbers of writes are used up; then nothing has changed.
 pub fn insert<K: Eq + Hash + Drop, V: Drop, S: BuildHasher, R: Rules<K, V>>(
     part: &mut BaseCache<K, V, S, R>,
     key: K,
@@ -98,7 +100,8 @@ pub fn insert<K: Eq + Hash + Drop, V: Drop, S: BuildHasher, R: Rules<K, V>>(
     Ok(())
 }
 
-/// Inserts a value, which is returned if it is refused. A part of capacity 0 stores none, and nothing happens.
+/// Inserts a value. A part of capacity 0 stores none. Returns the value with `OutOfMemory` if there is not enough memory, and with `UsedUp`
+/// if the 64-bit numbers of writes are used up; then nothing has changed.
 pub fn insert_or_back<K: Eq + Hash + Drop, V: Drop, S: BuildHasher, R: Rules<K, V>>(
     part: &mut BaseCache<K, V, S, R>,
     key: K,
@@ -123,7 +126,8 @@ pub fn insert_or_back<K: Eq + Hash + Drop, V: Drop, S: BuildHasher, R: Rules<K, 
     }
 }
 
-/// Returns a clone of the visible value of a key, which counts as a use of it.
+/// Returns a clone of the visible value of a key, or `None`, which counts as a use of it. Returns an error if there is no memory for the
+/// clone; then nothing has changed.
 pub fn get<K: Eq + Hash + Drop, V: Clone + Drop, S: BuildHasher, R: Rules<K, V>, Q: Names<K>>(
     part: &mut BaseCache<K, V, S, R>,
     key: &Q,
@@ -141,7 +145,7 @@ pub fn get<K: Eq + Hash + Drop, V: Clone + Drop, S: BuildHasher, R: Rules<K, V>,
     part.get_with_hash(key, hash, now)
 }
 
-/// Returns whether a key has a visible value. This does not count as a use of it.
+/// Returns whether a key has a visible value. The call does not count as a use of it.
 pub fn contains_key<K: Eq + Hash, V, S: BuildHasher, R: Rules<K, V>, Q: Names<K>>(
     part: &BaseCache<K, V, S, R>,
     key: &Q,

@@ -127,7 +127,8 @@ pub(crate) fn take_out<K: Eq + Hash + Drop, V: Drop, S: BuildHasher, R: Rules<K,
     }
 }
 
-/// Removes a key, whether its deadline has come or not, and returns its value.
+/// Removes a key, whether its deadline has come or not, and returns its value, or `None` if nothing is held under it. Returns `OutOfMemory`
+/// if there is not enough memory, and `UsedUp` if the 64-bit numbers of writes are used up; then nothing has changed.
 pub fn remove<
     K: Eq + Hash + Clone + Drop,
     V: Clone + Drop,
@@ -157,7 +158,8 @@ pub fn remove<
     }
 }
 
-/// Removes a key, whether its deadline has come or not.
+/// Removes a key, whether its deadline has come or not. Returns `OutOfMemory` if there is not enough memory, and `UsedUp` if the 64-bit
+/// numbers of writes are used up; then nothing has changed.
 pub fn invalidate<
     K: Eq + Hash + Clone + Drop,
     V: Clone + Drop,

@@ -8,7 +8,9 @@ use policy_base::Instant;
 /// step than those before it.
 #[derive(Clone, Copy, PartialEq, Eq)]
 pub struct At {
+    /// The moment of the call.
     pub now: Instant,
+    /// The step of the call.
     pub step: u64,
 }
 
@@ -26,7 +28,7 @@ pub enum TurnKind {
 }
 
 impl TurnKind {
-    /// Returns whether it is this kind.
+    /// Returns whether the two are the same kind.
     pub fn is_same(self, other: TurnKind) -> bool
         ensures same { result ≡ true → self ≡ other }
         ensures value { result ≡ same_kind self other }
@@ -40,12 +42,16 @@ impl TurnKind {
     }
 }
 
-/// A turn that is under way: at most one per kind and key. No other turn ever has the same number.
+/// A turn that is under way: at most one per kind and key. No other turn of the cache ever has the same number.
 #[derive(Drop)]
 pub struct OpenTurn<K> {
+    /// The number of the turn.
     pub number: u64,
+    /// The kind of call that the turn stands for.
     pub kind: TurnKind,
+    /// The key of the turn.
     pub key: K,
+    /// The hash of the key.
     pub hash: u64,
 }
 

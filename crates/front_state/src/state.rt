@@ -116,10 +116,10 @@ impl<K: Eq + Hash, V, S: BuildHasher, R: Rules<K, V>, C> LentState<K, V, S, R, C
         self.hasher.hash_key(key)
     }
 
-    /// Returns a clone of the visible value of a key, which counts as a use of it.
-    /// A use makes the value's eviction less likely and restarts its idle time; TinyLFU counts a miss, too. Only the clone may be refused,
-    /// for lack of memory. If maintenance is due (when 64 operations wait for it, or 300 ms after the last run), it runs after the value is
-    /// looked up and before the use is noted. To read without a use, there are `peek` and `contains_key`.
+    /// Returns a clone of the visible value of a key, or `None`, which counts as a use of it. A use makes the value's eviction less likely
+    /// and restarts its idle time; TinyLFU counts a miss, too. Returns `OutOfMemory` if there is no memory for the clone; then nothing has
+    /// changed. If maintenance is due (when 64 operations wait for it, or 300 ms after the last run), it runs after the value is looked up
+    /// and before the use is noted. To read without a use, there are `peek` and `contains_key`.
     /// ```
     /// match cache.get(&7, at)? {
     ///     Some(value) => Ok(value),
@@ -142,8 +142,8 @@ impl<K: Eq + Hash, V, S: BuildHasher, R: Rules<K, V>, C> LentState<K, V, S, R, C
         self.get_by_name(&LentKey { key }, at)
     }
 
-    /// Returns whether a key has a visible value. This does not count as a use of it.
-    /// Expired and invalidated values count as absent, whether maintenance has removed them or not.
+    /// Returns whether a key has a visible value. The call does not count as a use of it. Expired and invalidated values count as absent,
+    /// whether maintenance has removed them or not.
     /// ```
     /// if !cache.contains_key(&7, at.now) {
     ///     cache.insert(7, 49, at)?;
@@ -156,10 +156,11 @@ impl<K: Eq + Hash, V, S: BuildHasher, R: Rules<K, V>, C> LentState<K, V, S, R, C
         self.contains_key_by_name(&LentKey { key }, now)
     }
 
-    /// Inserts a value. A cache of capacity 0 stores none.
-    /// A value that is there already leaves, and is reported as `Replaced`, or as `Expired` or `Explicit` if one of these came first. The
-    /// new value is visible at once, even above the capacity: maintenance, which runs within this call if it is due, decides which values
-    /// stay. A run removes a value that is heavier than its segment's share.
+    /// Inserts a value. A cache of capacity 0 stores none. A value that is there already leaves, and is reported as `Replaced`, or as
+    /// `Expired` or `Explicit` if one of these came first. The new value is visible at once, even above the capacity: maintenance, which
+    /// runs within this call if it is due, decides which values stay. A run removes a value that is heavier than its segment's share.
+    /// Returns `OutOfMemory` if there is not enough memory, and `UsedUp` if the 64-bit numbers of writes are used up; then nothing has
+    /// changed.
     /// ```
     /// cache.insert(7, 49, at)?;
     /// ```
@@ -179,7 +180,7 @@ impl<K: Eq + Hash, V, S: BuildHasher, R: Rules<K, V>, C> LentState<K, V, S, R, C
         self.insert_with_hash(OwnedKey { key, alloc }, hash, value, at)
     }
 
-    /// Like `insert`, with what names a key, and its hash.
+    /// Like `insert`, with what names a key, and its hash. Returns the errors of `insert`.
     /// ```
     /// let hash = cache.hash(&name);
     /// cache.insert_with_hash(ClonedKey { key: &name, alloc }, hash, value, at)?;
@@ -213,8 +214,9 @@ impl<K: Eq + Hash, V, S: BuildHasher, R: Rules<K, V>, C> LentState<K, V, S, R, C
         Ok(())
     }
 
-    /// Removes a key, whether its deadline has come or not, and returns its value.
-    /// The removal is reported as `Expired` if the deadline has come, otherwise as `Explicit`. The count of requests for the key is kept.
+    /// Removes a key, whether its deadline has come or not, and returns its value, or `None` if nothing is held under it. The removal is
+    /// reported as `Expired` if the deadline has come, otherwise as `Explicit`. The count of requests for the key is kept. Returns
+    /// `OutOfMemory` if there is not enough memory, and `UsedUp` if the 64-bit numbers of writes are used up; then nothing has changed.
     /// ```
     /// let last = cache.remove(&7, at)?;
     /// ```
@@ -235,8 +237,8 @@ impl<K: Eq + Hash, V, S: BuildHasher, R: Rules<K, V>, C> LentState<K, V, S, R, C
         self.remove_by_name(&LentKey { key }, at)
     }
 
-    /// Removes a key, whether its deadline has come or not.
-    /// Like `remove`, without cloning the value.
+    /// Removes a key, whether its deadline has come or not. Like `remove`, without cloning the value. Returns `OutOfMemory` if there is not
+    /// enough memory, and `UsedUp` if the 64-bit numbers of writes are used up; then nothing has changed.
     /// ```
     /// cache.invalidate(&7, at)?;
     /// ```
@@ -255,7 +257,7 @@ impl<K: Eq + Hash, V, S: BuildHasher, R: Rules<K, V>, C> LentState<K, V, S, R, C
         self.invalidate_by_name(&LentKey { key }, at)
     }
 
-    /// Like `invalidate`, with the hash of the key.
+    /// Like `invalidate`, with the hash of the key. Returns the errors of `invalidate`.
     /// ```
     /// let hash = cache.hash(&7);
     /// cache.invalidate_with_hash(&7, hash, at)?;
@@ -277,10 +279,10 @@ impl<K: Eq + Hash, V, S: BuildHasher, R: Rules<K, V>, C> LentState<K, V, S, R, C
     }
 
     /// Returns the visible value of a key, which counts as a use of it, and false; or else what `make` makes, and true: a value is then
-    /// inserted. A visible value for which `replace_if` returns true counts as none.
-    /// Closures run before anything changes, and the key is made only if a value is inserted. If `make` fails to allocate, the call is
-    /// refused.
-    /// The calls that make a value, such as `get_with`, and the selectors are implemented with it.
+    /// inserted. A visible value for which `replace_if` returns true counts as none. Closures run before anything changes, and the key is
+    /// made only if a value is inserted. Returns `OutOfMemory` if `make` or another allocation fails, and `UsedUp` if the 64-bit numbers of
+    /// writes are used up; then nothing has changed. The calls that make a value, such as `get_with`, and the selectors are implemented
+    /// with it.
     /// ```
     /// let hash = cache.hash(&7);
     /// let name = OwnedKey { key: 7, alloc };
@@ -331,9 +333,9 @@ impl<K: Eq + Hash, V, S: BuildHasher, R: Rules<K, V>, C> LentState<K, V, S, R, C
     }
 
     /// Calls a closure with the visible value of a key, and does what it decides, after the look-up's read is noted. If the closure fails,
-    /// its error is returned, and only that read is noted.
-    /// The closure runs before anything changes, and the key is made only if a value is put.
-    /// `and_compute_with` and similar calls are implemented with it.
+    /// its error is returned, and only that read is noted. The closure runs before anything changes, and the key is made only if a value is
+    /// put. `and_compute_with` and similar calls are implemented with it. Returns `OutOfMemory` if there is not enough memory, and `UsedUp`
+    /// if the 64-bit numbers of writes are used up; then nothing has changed.
     /// ```
     /// let hash = cache.hash(&7);
     /// let name = OwnedKey { key: 7, alloc };
@@ -372,10 +374,9 @@ impl<K: Eq + Hash, V, S: BuildHasher, R: Rules<K, V>, C> LentState<K, V, S, R, C
         Ok(answer)
     }
 
-    /// Runs the maintenance of each part to its end, after which the counts are exact.
-    /// It removes what has expired or was invalidated, and then the least useful values until each segment is within its share. Other calls
-    /// run maintenance when it is due, so a program needs this one only for exact counts, or to get notices and free memory without further
-    /// calls.
+    /// Runs the maintenance of each part to its end, after which the counts are exact. The runs remove what has expired or was invalidated,
+    /// and then the least useful values until each segment is within its share. Other calls run maintenance when it is due, so a program
+    /// needs this one only for exact counts, or to get notices and free memory without further calls.
     /// ```
     /// cache.run_pending_tasks(at);
     /// let exact = cache.entry_count();
@@ -414,9 +415,8 @@ impl<K: Eq + Hash, V, S: BuildHasher, R: Rules<K, V>, C> LentState<K, V, S, R, C
         Ok(())
     }
 
-    /// Invalidates every value that was written at an earlier step. It needs a later step than any call before.
-    /// The values are invisible at once; runs remove them later, and report them as `Explicit`. It allocates nothing and looks at no
-    /// record.
+    /// Invalidates every value that was written at an earlier step. The call needs a later step than any call before. The values are
+    /// invisible at once; runs remove them later, and report them as `Explicit`. The call allocates nothing and looks at no record.
     /// ```
     /// cache.invalidate_all(at);
     /// ```

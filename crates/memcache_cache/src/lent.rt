@@ -19,7 +19,7 @@ type Cache<S> = LentState<Key, StoredItem, S, ItemRules, Single>;
 
 /// Items by key in a lent cache of one part. Moments are in milliseconds of Unix time, below 2^43.
 ///
-/// An item is live until its own deadline. The cache's expiry, which has a coarser grain, takes it out.
+/// An item is live until its own deadline. The cache's expiry, which has a coarser grain, removes the item.
 #[derive(Drop)]
 pub struct LentShelf<S: BuildHasher + Drop> {
     alloc: Global,
@@ -27,7 +27,8 @@ pub struct LentShelf<S: BuildHasher + Drop> {
 }
 
 impl<S: BuildHasher + Drop> LentShelf<S> {
-    /// An empty one of at most this many bytes, at a moment. If untrusted clients choose the keys, use a hasher that they cannot predict.
+    /// Creates an empty shelf of at most this many bytes, at a moment. If untrusted clients choose the keys, use a hasher that they cannot
+    /// predict. Returns an error if there is not enough memory.
     pub fn new(
         alloc: Global,
         capacity: u64,

@@ -11,7 +11,7 @@ use std::time::Duration;
 /// What an item costs beside its key and its bytes, in bytes of memory: as measured of 400,000 items of 48 bytes.
 pub const ITEM_COST: u64 = 290;
 
-/// An item weighs its key, its bytes and what it costs beside, and lives until its deadline.
+/// The rules of the cache: an item weighs its key, its bytes and `ITEM_COST`, in bytes, and lives until its deadline.
 #[derive(Clone, Copy, Drop)]
 pub struct ItemRules;
 

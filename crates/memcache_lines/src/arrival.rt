@@ -11,10 +11,12 @@ use crate::storing::{Head, MetaHead};
 use memcache_model::{MAX_LINE, ProtocolError, Storage};
 use memchr::memchr;
 
-/// A request, and whether it is to have no reply.
+/// A request of a client.
 #[derive(Clone, Copy)]
 pub struct Request<'a> {
+    /// What the request asks for.
     pub command: Command<'a>,
+    /// Whether the request is to have no reply.
     pub quiet: bool,
 }
 
@@ -22,7 +24,9 @@ pub struct Request<'a> {
 /// is whole once its line is, and then takes more bytes than may have come.
 #[derive(Clone, Copy)]
 pub enum Arrived<'a> {
+    /// Less than a request.
     Part,
+    /// A request, and how many bytes of the stream it takes.
     Request { request: Request<'a>, used: usize },
 }
 
@@ -35,7 +39,7 @@ enum Block<'a> {
     Filled(&'a [u8]),
 }
 
-/// What stands at the front of a stream whose data blocks have at most `most` bytes.
+/// Returns what stands at the front of a stream whose data blocks have at most `most` bytes.
 pub fn read_request<'a>(most: u32, bytes: &'a [u8]) -> Arrived<'a>
     ensures { comes result ≡ arrived most bytes.now }
 {

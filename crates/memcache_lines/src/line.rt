@@ -10,18 +10,22 @@ use crate::storing::{Head, MetaHead, read_cas, read_meta_set, read_store};
 use crate::tokens::{are_keys, has_token, key_fits, next_token};
 use memcache_model::{Direction, Exptime, Meta, ProtocolError, Storage, Verb};
 
-/// What a request asks for, with its words as they are in the bytes that came. `keys`, `words` and `flags` are words with spaces between them.
+/// What a request asks for, with its words as they are in the bytes that came. `keys`, `words` and `flags` are words with spaces between
+/// them.
 #[derive(Clone, Copy)]
 pub enum Command<'a> {
+    /// `get`, and `gets` if uniques are told.
     Get {
         uniques: bool,
         keys: &'a [u8],
     },
+    /// `gat`, and `gats` if uniques are told.
     Gat {
         uniques: bool,
         exptime: Exptime,
         keys: &'a [u8],
     },
+    /// `set`, `add`, `replace`, `append`, `prepend` or `cas`, with its data block.
     Store {
         storage: Storage,
         key: &'a [u8],
@@ -29,54 +33,70 @@ pub enum Command<'a> {
         exptime: Exptime,
         block: &'a [u8],
     },
+    /// A storage command whose data block is too large.
     Oversize {
         storage: Storage,
         key: &'a [u8],
     },
+    /// `delete`.
     Delete {
         key: &'a [u8],
     },
+    /// `incr` or `decr`.
     Arithmetic {
         direction: Direction,
         key: &'a [u8],
         delta: u64,
     },
+    /// `touch`.
     Touch {
         key: &'a [u8],
         exptime: Exptime,
     },
+    /// `flush_all`.
     FlushAll {
         exptime: Exptime,
     },
+    /// `stats`.
     Stats {
         words: &'a [u8],
     },
+    /// `version`.
     Version,
+    /// `verbosity`.
     Verbosity,
+    /// `quit`.
     Quit,
+    /// `mg`, `md` or `ma`.
     Meta {
         kind: Meta,
         key: &'a [u8],
         flags: &'a [u8],
     },
+    /// `ms`, with its data block.
     MetaSet {
         key: &'a [u8],
         flags: &'a [u8],
         block: &'a [u8],
     },
+    /// `mn`.
     MetaNoOp,
+    /// A request that cannot be read, by its fault.
     Malformed(ProtocolError),
 }
 
 /// What a line says: all of a request, or what stands before a data block.
 #[derive(Clone, Copy)]
 pub enum Line<'a> {
+    /// A whole request, and whether it is to have no reply.
     Whole { command: Command<'a>, quiet: bool },
+    /// What stands before the data block of a storage command.
     Head(Head<'a>),
+    /// What stands before the data block of a `ms`.
     MetaHead(MetaHead<'a>),
 }
 
-/// What a line says.
+/// Returns what a line says.
 pub fn read_line<'a>(line: &'a [u8]) -> Line<'a>
     ensures { says result ≡ reading line.now }
 {
@@ -89,7 +109,7 @@ pub fn read_line<'a>(line: &'a [u8]) -> Line<'a>
     }
 }
 
-/// A line that cannot be read.
+/// Returns the request of a line that cannot be read.
 pub fn fault<'a>(error: ProtocolError) -> Line<'a>
     ensures { says result ≡ faulty error }
 {
@@ -238,7 +258,7 @@ fn read_gat<'a>(uniques: bool, rest: &'a [u8]) -> Line<'a>
     }
 }
 
-/// Whether the reply is left out, by what stands behind all other words; none if there are too many words.
+/// Returns whether the reply is left out, by what stands behind all other words, or `None` if there are too many words.
 pub fn read_quiet(rest: &[u8]) -> Option<bool>
     ensures { result ≡ quiet_in (tokens rest.now) }
 {

@@ -9,7 +9,7 @@ use memcache_model::Exptime;
 /// A number has at most this many digits.
 const MAX_DIGITS: usize = 20;
 
-/// The number that at most twenty digits write, if it is below 2^64.
+/// Returns the number that at most twenty digits write, or `None` if the word is not of this form or the number is 2^64 or above.
 pub fn number(word: &[u8]) -> Option<u64>
     ensures { result ≡ number_below (2 ^ 64) word.now }
 {
@@ -64,7 +64,7 @@ fn at_most(most: u64, value: u64) -> Option<u64>
     if value <= most { Some(value) } else { None }
 }
 
-/// The number that at most twenty digits write, if it is below 2^32.
+/// Returns the number that at most twenty digits write, or `None` if the word is not of this form or the number is 2^32 or above.
 pub fn short_number(word: &[u8]) -> Option<u32>
     ensures { result ≡ number_below (2 ^ 32) word.now }
 {
@@ -74,7 +74,7 @@ pub fn short_number(word: &[u8]) -> Option<u32>
     }
 }
 
-/// The size of a data block: a number below 2^31.
+/// Returns the size in bytes of a data block, or `None` if the word is no number or the number is 2^31 or above.
 pub fn block_size(word: &[u8]) -> Option<u32>
     ensures { result ≡ number_below (2 ^ 31) word.now }
 {
@@ -84,7 +84,7 @@ pub fn block_size(word: &[u8]) -> Option<u32>
     }
 }
 
-/// The expiry that a word says.
+/// Returns the expiry that a word says, or `None` if it says none.
 pub fn exptime(word: &[u8]) -> Option<Exptime>
     ensures { result ≡ exptime_in word.now }
 {

@@ -10,22 +10,31 @@ use crate::numbers::{block_size, exptime, number, short_number};
 use crate::tokens::{key_fits, next_token};
 use memcache_model::{Exptime, ProtocolError, Storage};
 
-/// What stands before a data block.
+/// What stands before the data block of a storage command.
 #[derive(Clone, Copy)]
 pub struct Head<'a> {
+    /// What the command does with the item that its key has.
     pub storage: Storage,
+    /// The key.
     pub key: &'a [u8],
+    /// The client's flags.
     pub flags: u32,
+    /// When the item is to expire.
     pub exptime: Exptime,
+    /// The size of the data block, in bytes.
     pub size: u32,
+    /// Whether the reply is left out.
     pub quiet: bool,
 }
 
 /// What stands before the data block of a `ms`.
 #[derive(Clone, Copy)]
 pub struct MetaHead<'a> {
+    /// The key.
     pub key: &'a [u8],
+    /// The flags of the command, as words with spaces between them.
     pub flags: &'a [u8],
+    /// The size of the data block, in bytes.
     pub size: u32,
 }
 

@@ -5,7 +5,7 @@ ghost use Rattle.memcache_model.specs.Bytes.{is_filled, is_key, is_space, tokens
 
 use memcache_model::MAX_KEY;
 
-/// The first word of a line and what stands behind it, if there is a word.
+/// Returns the first word of a line and what stands behind it, or `None` if there is no word.
 pub fn next_token(line: &[u8]) -> Option<(&[u8], &[u8])>
     ensures word { MatchOption result (tokens line.now ≡ [])
         (λ r. tokens line.now ≡ r.0.now ∷ tokens r.1.now) }
@@ -44,7 +44,7 @@ fn first_space(line: &[u8]) -> Option<usize>
     line.iter().position(|b| *b == b' ')
 }
 
-/// Whether a line has a word.
+/// Returns whether a line has a word.
 pub fn has_token(line: &[u8]) -> bool
     ensures { result ≡ is_filled (tokens line.now) }
 {
@@ -54,14 +54,14 @@ pub fn has_token(line: &[u8]) -> bool
     }
 }
 
-/// Whether a word may stand as a key.
+/// Returns whether a word may stand as a key.
 pub fn key_fits(word: &[u8]) -> bool
     ensures { result ≡ is_key word.now }
 {
     1 <= word.len() && word.len() <= MAX_KEY
 }
 
-/// Whether each word of a line may stand as a key.
+/// Returns whether each word of a line may stand as a key.
 pub fn are_keys(line: &[u8]) -> bool
     ensures { result ≡ list_all is_key (tokens line.now) }
 {

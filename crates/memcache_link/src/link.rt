@@ -28,8 +28,8 @@ enum Phase {
     Ended,
 }
 
-/// One connection of a memcache service: what its socket reported, and the replies that were not written. What was read was fed: the service
-/// keeps what no request has used.
+/// One connection of a memcache service: what its socket reported, and the replies that were not written. What was read was fed: the
+/// service keeps what no request has used.
 #[derive(Drop)]
 pub struct MemcacheLink {
     alloc: Global,
@@ -70,7 +70,7 @@ impl MemcacheLink {
         service.close(self.conn);
     }
 
-    /// Notes what its socket reported: that there are bytes to read, or that the input ends.
+    /// Notes what the connection's socket reported: that there are bytes to read, or that the input ends.
     pub fn wake(&mut self, is_readable: bool, is_ending: bool)
         ensures { self.new ≡ record self.old {
           report = report_with self.old.report is_readable is_ending;

@@ -3,9 +3,9 @@
 /// When an item is to expire, as a request says it.
 #[derive(Clone, Copy, Debug, PartialEq, Eq)]
 pub enum Exptime {
-    /// Never: it was given as 0.
+    /// Never: the expiry was given as 0.
     Never,
-    /// At once: it was negative.
+    /// At once: the expiry was negative.
     AtOnce,
     /// A number of seconds from 1 on: at most 2,592,000, which are 30 days, count from now, and more is a moment of Unix time.
     Seconds(u32),
@@ -14,17 +14,17 @@ pub enum Exptime {
 /// What a storage command does with the item that its key has.
 #[derive(Clone, Copy, Debug, PartialEq, Eq)]
 pub enum Storage {
-    /// `set`: replaces it, if there is one.
+    /// `set`: replaces the item, if there is one.
     Set,
-    /// `add`: stores only if there is none.
+    /// `add`: stores an item only if there is none.
     Add,
-    /// `replace`: stores only if there is one.
+    /// `replace`: stores an item only if there is one.
     Replace,
-    /// `append`: puts the block behind its bytes.
+    /// `append`: puts the block behind the item's bytes.
     Append,
-    /// `prepend`: puts the block before its bytes.
+    /// `prepend`: puts the block before the item's bytes.
     Prepend,
-    /// `cas`: replaces it if it has this unique.
+    /// `cas`: replaces the item if it has this unique.
     Cas(u64),
 }
 
@@ -40,11 +40,11 @@ pub enum Direction {
 /// A meta command on a key, without a data block.
 #[derive(Clone, Copy, Debug, PartialEq, Eq)]
 pub enum Meta {
-    /// `mg`: tells an item.
+    /// `mg`: tells the item.
     Get,
-    /// `md`: deletes it, or makes it stale.
+    /// `md`: deletes the item, or makes it stale.
     Delete,
-    /// `ma`: counts it.
+    /// `ma`: counts the item up or down.
     Arithmetic,
 }
 

@@ -8,8 +8,8 @@ pub mod laws;
 pub use command::{Direction, Exptime, Meta, Storage, Verb};
 pub use fault::ProtocolError;
 
-/// A key has at most this many bytes.
+/// The maximum number of bytes of a key.
 pub const MAX_KEY: usize = 250;
 
-/// A line has at most this many bytes before its line feed.
+/// The maximum number of bytes of a line before its line feed.
 pub const MAX_LINE: usize = 65_536;

@@ -19,7 +19,7 @@ const MAX_OUTPUT: usize = 1 << 20;
 /// Memory beyond this many bytes is given back once a connection has used it.
 const KEPT: usize = 1 << 16;
 
-/// The bytes that no request has used, and the replies that were not taken.
+/// The bytes of a connection that no request has used, and the replies that were not taken.
 #[derive(Drop)]
 pub struct Connection {
     alloc: Global,
@@ -31,7 +31,7 @@ pub struct Connection {
 }
 
 impl Connection {
-    /// A new one, which takes no memory.
+    /// Creates a connection to which no byte has come. The call allocates nothing.
     pub fn new(alloc: Global) -> Connection
         ensures { IsUnused result }
     {
@@ -44,21 +44,21 @@ impl Connection {
         }
     }
 
-    /// Whether no further request runs: the client has quit, a line was too long, or there was no memory.
+    /// Returns whether no further request runs: the client has quit, a line was too long, or there was not enough memory.
     pub fn is_closed(&self) -> bool
         ensures { result ≡ self.now.is_closed }
     {
         self.is_closed
     }
 
-    /// Whether replies have to be taken before further requests run.
+    /// Returns whether replies have to be taken before further requests run.
     pub fn is_full(&self) -> bool
         ensures { IsTrue result ↔ 1048576 ≤ length self.now.output.items }
     {
         self.output.len() >= MAX_OUTPUT
     }
 
-    /// The replies that were not taken.
+    /// Returns the replies that were not taken.
     pub fn output(&self) -> &[u8]
         ensures { result.now ≡ self.now.output.items }
     {

@@ -4,31 +4,54 @@ ghost use Rattle.std.specs.Prelude.{◌≤◌, vec_capacity};
 use crate::replies::{say, say_figure};
 use std::alloc::AllocError;
 
-/// What is counted.
+/// What is counted, by memcached's names.
 #[derive(Clone, Copy, Debug, PartialEq, Eq)]
 pub enum Tally {
+    /// Connections that were opened.
     TotalConnections,
+    /// Keys that were looked up.
     CmdGet,
+    /// Storage commands.
     CmdSet,
+    /// `flush_all` commands.
     CmdFlush,
+    /// Keys that were touched.
     CmdTouch,
+    /// Look-ups that found an item.
     GetHits,
+    /// Look-ups that found no item.
     GetMisses,
+    /// Deletions that found no item.
     DeleteMisses,
+    /// Deletions of an item.
     DeleteHits,
+    /// `incr` commands that found no item.
     IncrMisses,
+    /// `incr` commands that found an item.
     IncrHits,
+    /// `decr` commands that found no item.
     DecrMisses,
+    /// `decr` commands that found an item.
     DecrHits,
+    /// `cas` commands that found no item.
     CasMisses,
+    /// `cas` commands that found the item with the unique.
     CasHits,
+    /// `cas` commands that found the item with another unique.
     CasBadval,
+    /// Touches that found an item.
     TouchHits,
+    /// Touches that found no item.
     TouchMisses,
+    /// Bytes that were read.
     BytesRead,
+    /// Bytes that were written.
     BytesWritten,
+    /// Items that were stored.
     TotalItems,
+    /// Items that left because they had expired.
     Expired,
+    /// Items that left for lack of capacity.
     Evictions,
 }
 
@@ -62,14 +85,14 @@ const NAMES: [&[u8]; TALLIES] = [
     b"evictions",
 ];
 
-/// What was counted since the last reset. A count stays at 2^64 - 1.
+/// What was counted since the last reset. A count stays at 2^64 - 1 when it is there.
 #[derive(Clone, Copy, Debug, PartialEq, Eq)]
 pub struct Counters {
     counts: [u64; TALLIES],
 }
 
 impl Counters {
-    /// Nothing was counted.
+    /// Creates counts of nothing.
     pub fn new() -> Counters {
         Counters {
             counts: [0; TALLIES],
@@ -87,12 +110,12 @@ impl Counters {
         self.add(tally, 1);
     }
 
-    /// How many were counted.
+    /// Returns how many were counted.
     pub fn get(&self, tally: Tally) -> u64 {
         self.counts[tally as usize]
     }
 
-    /// Writes each count in a line.
+    /// Appends each count as a line. Returns an error if there is not enough memory.
     pub fn say_all(&self, output: &mut Vec<u8>) -> Result<(), AllocError>
         ensures { vec_capacity output.old ≤ vec_capacity output.new }
     {

@@ -12,11 +12,17 @@ use std::marker::Model;
 /// stale, and whether a client holds the lease to renew it.
 #[derive(Drop)]
 pub struct StoredItem {
+    /// The bytes.
     pub bytes: Vec<u8>,
+    /// The client's flags.
     pub flags: u32,
+    /// The unique, a number that a `cas` compares.
     pub unique: u64,
+    /// The moment at which the item expires, in milliseconds of Unix time, or `None` if it does not.
     pub deadline: Option<u64>,
+    /// Whether the item is stale.
     pub stale: bool,
+    /// Whether a client holds the lease to renew the item.
     pub leased: bool,
 }
 
@@ -45,7 +51,7 @@ impl Clone for StoredItem {
 }
 
 impl StoredItem {
-    /// An item that nobody has leased; it gets its unique as it is stored.
+    /// Creates an item that nobody has leased. The item gets its unique as it is stored.
     pub fn new(bytes: Vec<u8>, flags: u32, deadline: Option<u64>) -> StoredItem
         ensures { result ≡ new_item bytes.items flags deadline }
     {
@@ -59,7 +65,7 @@ impl StoredItem {
         }
     }
 
-    /// Whether its deadline has come.
+    /// Returns whether the item's deadline has come at `moment`, in milliseconds of Unix time.
     pub fn has_expired(&self, moment: u64) -> bool
         ensures { result ≡ has_come moment self.now.deadline }
     {
@@ -69,7 +75,7 @@ impl StoredItem {
         }
     }
 
-    /// The item with other bytes.
+    /// Returns the item with other bytes.
     pub fn with_bytes(&self, bytes: Vec<u8>) -> StoredItem
         ensures { result ≡ record self.now { bytes = bytes.items } }
     {
@@ -83,7 +89,7 @@ impl StoredItem {
         }
     }
 
-    /// The item with another unique.
+    /// Returns the item with another unique.
     pub fn with_unique(self, unique: u64) -> StoredItem
         ensures { result ≡ record self { unique = unique } }
     {
@@ -92,7 +98,7 @@ impl StoredItem {
         item
     }
 
-    /// The item with another deadline.
+    /// Returns the item with another deadline. Returns an error if there is not enough memory.
     pub fn with_deadline(&self, deadline: Option<u64>) -> Result<StoredItem, AllocError>
         ensures { IfOk result (λ made. made ≡ record self.now { deadline = deadline }) }
     {
@@ -101,7 +107,7 @@ impl StoredItem {
         Ok(item)
     }
 
-    /// The item with a number in place of its bytes.
+    /// Returns the item with a number in place of its bytes. Returns an error if there is not enough memory.
     pub fn with_number(&self, alloc: Global, number: u64) -> Result<StoredItem, AllocError>
         ensures { IfOk result (λ made. made ≡ record self.now { bytes = decimal number }) }
     {
@@ -110,7 +116,7 @@ impl StoredItem {
         Ok(self.with_bytes(bytes))
     }
 
-    /// The item with more bytes behind its own.
+    /// Returns the item with more bytes behind its own. Returns an error if there is not enough memory.
     pub fn with_behind(&self, alloc: Global, more: &[u8]) -> Result<StoredItem, AllocError>
         requires { length self.now.bytes + length more.now < 2 ^ 63 }
         ensures { IfOk result
@@ -120,7 +126,7 @@ impl StoredItem {
         Ok(self.with_bytes(bytes))
     }
 
-    /// The item with more bytes before its own.
+    /// Returns the item with more bytes before its own. Returns an error if there is not enough memory.
     pub fn with_before(&self, alloc: Global, more: &[u8]) -> Result<StoredItem, AllocError>
         requires { length more.now + length self.now.bytes < 2 ^ 63 }
         ensures { IfOk result
@@ -142,7 +148,8 @@ fn concat(alloc: Global, first: &[u8], second: &[u8]) -> Result<Vec<u8>, AllocEr
     Ok(bytes)
 }
 
-/// When an item expires that is written at a moment of milliseconds of Unix time.
+/// Returns the moment at which an item expires that is written at `moment`, both in milliseconds of Unix time, or `None` if it does not
+/// expire.
 pub fn deadline_of(moment: u64, exptime: Exptime) -> Option<u64>
     requires { moment < 2 ^ 63 }
     ensures { result ≡ deadline_of moment exptime }

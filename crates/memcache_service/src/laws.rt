@@ -3,8 +3,8 @@ ghost use Rattle.memcache_service.specs.Serving.{AreServedAlike};
 
 use crate::shelf::Shelf;
 
-/// Requests that were served of some bytes are served alike with more bytes behind them, so it does not matter how the bytes of a moment are
-/// cut.
+/// Requests that were served of some bytes are served alike with more bytes behind them, so it does not matter how the bytes of a moment
+/// are cut.
 pub fn cuts_serve_alike<T: Shelf>()
     ensures { AreServedAlike T.view }
 {}

@@ -8,26 +8,41 @@ use itoa::Buffer;
 use memcache_model::ProtocolError;
 use std::alloc::AllocError;
 
-/// Room for each reply of one line but those of meta commands.
+/// The room in bytes for each reply of one line but those of meta commands.
 pub const SHORT: usize = 96;
 
 /// A reply of one line, or one that was written already.
 #[derive(Clone, Copy, PartialEq, Eq, Drop)]
 pub enum Reply {
+    /// A reply that was written already.
     Written,
+    /// `STORED`.
     Stored,
+    /// `NOT_STORED`.
     NotStored,
+    /// `EXISTS`.
     Exists,
+    /// `NOT_FOUND`.
     NotFound,
+    /// `DELETED`.
     Deleted,
+    /// `TOUCHED`.
     Touched,
+    /// `OK`.
     Done,
+    /// `RESET`.
     Reset,
+    /// `VERSION` with the version.
     Version,
+    /// `MN`.
     NoOp,
+    /// The data block is too large.
     TooLarge,
+    /// The item to count is no number.
     NoNumber,
+    /// A number, alone on its line.
     Number(u64),
+    /// The text of this fault.
     Fault(ProtocolError),
     /// There is no memory for what a request stores.
     NoMemory,
@@ -38,7 +53,7 @@ pub enum Reply {
 }
 
 impl Reply {
-    /// Writes its text behind what is there, in room that was reserved.
+    /// Appends the text of the reply, in room that was reserved.
     pub fn write(self, output: &mut Vec<u8>)
         requires { vec_len output.old + SHORT ≤ vec_capacity output.old }
         ensures { output.new.items ≡ output.old.items ++ reply_text self }
@@ -96,7 +111,7 @@ fn write(output: &mut Vec<u8>, text: &[u8])
     output.extend_from_slice(text).unwrap();
 }
 
-/// The text of an error.
+/// Returns the text of an error.
 pub fn error_text(error: ProtocolError) -> &'static [u8]
     ensures text { result.now ≡ error_text error }
     ensures short { length result.now ≤ SHORT }
@@ -117,7 +132,7 @@ pub fn error_text(error: ProtocolError) -> &'static [u8]
     }
 }
 
-/// Writes a text behind what is there. If it is refused, nothing is written.
+/// Appends a text. Returns an error if there is not enough memory; then nothing is written.
 pub fn say(output: &mut Vec<u8>, text: &[u8]) -> Result<(), AllocError>
     ensures ok { OnOk result (output.new.items ≡ output.old.items ++ text.now) }
     ensures err { OnErr result (output.new.items ≡ output.old.items) }
@@ -126,7 +141,7 @@ pub fn say(output: &mut Vec<u8>, text: &[u8]) -> Result<(), AllocError>
     output.extend_from_slice(text)
 }
 
-/// Writes a number behind what is there. If it is refused, nothing is written.
+/// Appends a number in decimal. Returns an error if there is not enough memory; then nothing is written.
 pub fn say_number(output: &mut Vec<u8>, number: u64) -> Result<(), AllocError>
     ensures ok { OnOk result (output.new.items ≡ output.old.items ++ decimal number) }
     ensures err { OnErr result (output.new.items ≡ output.old.items) }
@@ -136,7 +151,7 @@ pub fn say_number(output: &mut Vec<u8>, number: u64) -> Result<(), AllocError>
     say(output, digits.format(number).as_bytes())
 }
 
-/// Writes a statistic's line.
+/// Appends the line of a statistic. Returns an error if there is not enough memory.
 pub fn say_figure(output: &mut Vec<u8>, name: &[u8], number: u64) -> Result<(), AllocError>
     ensures { vec_capacity output.old ≤ vec_capacity output.new }
 {
@@ -147,7 +162,7 @@ pub fn say_figure(output: &mut Vec<u8>, name: &[u8], number: u64) -> Result<(), 
     say(output, b"\r\n")
 }
 
-/// Writes an item as a `get` tells it. If it is refused, nothing is written.
+/// Appends an item as a `get` tells it. Returns an error if there is not enough memory; then nothing is written.
 pub fn say_value(
     output: &mut Vec<u8>,
     uniques: bool,

@@ -29,7 +29,7 @@ pub struct Service<T: Shelf> {
 }
 
 impl<T: Shelf> Service<T> {
-    /// Creates a service over a shelf, without connections. Returns an error if there is no memory for it.
+    /// Creates a service over a shelf, without connections. Returns an error if there is not enough memory.
     pub fn new(alloc: Global, shelf: T, setup: Setup, moment: u64) -> Result<Service<T>, AllocError>
         requires { IsMoment (T.view shelf) moment }
         ensures shelf { IfOk result (λ made. made.stock.shelf ≡ shelf) }
@@ -46,7 +46,7 @@ impl<T: Shelf> Service<T> {
         })
     }
 
-    /// Opens a connection, and returns its number, which no other open connection has. Returns an error if there is no memory for it.
+    /// Opens a connection, and returns its number, which no other open connection has. Returns an error if there is not enough memory.
     pub fn open(&mut self) -> Result<Conn, AllocError>
         ensures opens { IfOk result (λ conn.
             HasOpened conn self.old.connections self.new.connections) }
@@ -69,8 +69,8 @@ impl<T: Shelf> Service<T> {
     }
 
     /// Feeds a connection a piece of bytes at a moment, and runs the requests that it completes. Returns false if the connection has ended,
-    /// behind a `quit` or a line that is too long, and an error if it has ended since there was no memory. Then its replies are to be taken,
-    /// and it is to be closed.
+    /// behind a `quit` or a line that is too long, and an error if it has ended since there was not enough memory. Then its replies are to
+    /// be taken, and it is to be closed.
     pub fn feed(&mut self, conn: Conn, piece: &[u8], moment: u64) -> Result<bool, AllocError>
         ensures feeds { get self.old.connections conn ≢ None → IfOk result (λ goes_on.
             IsDoneFor conn (HasFed T.view self.new.moment piece.now goes_on)
@@ -100,7 +100,8 @@ impl<T: Shelf> Service<T> {
         }
     }
 
-    /// Whether requests of a connection are held back until its replies are taken: then it is to be fed, if only an empty piece.
+    /// Returns whether requests of a connection are held back until its replies are taken. Then the connection is to be fed, if only an
+    /// empty piece.
     pub fn is_full(&self, conn: Conn) -> bool
         ensures { MatchOption (get self.now.connections conn) (result ≡ false) (λ connection.
             IsTrue result ↔ 1048576 ≤ length connection.output.items) }
@@ -111,7 +112,7 @@ impl<T: Shelf> Service<T> {
         }
     }
 
-    /// What was counted.
+    /// Returns what was counted.
     pub fn counters(&self) -> &Counters
         ensures { result.now ≡ self.now.stock.counters }
     {

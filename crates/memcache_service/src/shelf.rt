@@ -10,7 +10,7 @@ use std::alloc::AllocError;
 
 /// Items by key, in a cache: an item that was put may have gone, in a call or between calls, but no other appears.
 ///
-/// Moments are milliseconds of Unix time below 2^43, and never fall from call to call. After an `Err` nothing has changed.
+/// Moments are milliseconds of Unix time below 2^43, and never fall from call to call. After an error nothing has changed.
 pub trait Shelf: Drop {
     ghost view: { Self → Shelved };
 
@@ -18,45 +18,45 @@ pub trait Shelf: Drop {
     fn pass(&self)
         ensures { OnlyLeave (view self.now) };
 
-    /// The live item of a key. It is no use of it.
+    /// Returns the live item of a key, or `None` if there is none. The call is not a use of the item.
     fn peek(&self, key: &Key, moment: u64) -> Option<&StoredItem>
         requires { IsMoment (view self.now) moment }
         ensures { option_map (λ item. item.now) result
             ≡ live_on (view self.now) moment key.now };
 
-    /// Uses the live item of a key, and says whether there is one.
+    /// Uses the live item of a key, and returns whether there is one.
     fn note_use(&mut self, key: &Key, moment: u64) -> bool
         requires { IsMoment (view self.old) moment }
         ensures found { result ≡ is_some (live_on (view self.old) moment key.now) }
         ensures used { Becomes moment ((view self.old).items moment) (view self.new) };
 
-    /// Gives a key an item.
+    /// Stores an item under a key. Returns an error if there is not enough memory; then nothing has changed.
     fn put(&mut self, key: &Key, item: StoredItem, moment: u64) -> Result<(), AllocError>
         requires { IsMoment (view self.old) moment }
         ensures puts { OnOk result (Becomes moment
             (with_item key.now (Some item) ((view self.old).items moment)) (view self.new)) }
         ensures unchanged { OnErr result (self.new ≡ self.old) };
 
-    /// Takes the item of a key away.
+    /// Removes the item of a key. Returns an error if there is not enough memory; then nothing has changed.
     fn remove(&mut self, key: &Key, moment: u64) -> Result<(), AllocError>
         requires { IsMoment (view self.old) moment }
         ensures removes { OnOk result
             (Becomes moment (with_item key.now None ((view self.old).items moment)) (view self.new)) }
         ensures unchanged { OnErr result (self.new ≡ self.old) };
 
-    /// Takes all items away. It allocates nothing, and is refused after 2^64 - 1 times.
+    /// Removes all items. The call allocates nothing. Returns an error if it was made 2^64 - 1 times; then nothing has changed.
     fn clear(&mut self, moment: u64) -> Result<(), AllocError>
         requires { IsMoment (view self.old) moment }
         ensures clears { OnOk result (Becomes moment nothing (view self.new)) }
         ensures unchanged { OnErr result (self.new ≡ self.old) };
 
-    /// Counts the items that left by themselves since the last time.
+    /// Counts the items that left by themselves since this was last called.
     fn count_removals(&mut self, counters: &mut Counters)
         ensures { view self.new ≡ view self.old };
 
-    /// How many items there are, as of the last maintenance.
+    /// Returns how many items there are, as of the last maintenance.
     fn item_count(&self) -> u64;
 
-    /// What these items weigh together, as of the last maintenance.
+    /// Returns what the items weigh together, in bytes, as of the last maintenance.
     fn weight(&self) -> u64;
 }

@@ -37,27 +37,30 @@ pub struct Setup {
 /// Items, the uniques that were given, when all items are to go, and what was counted. Moments are milliseconds of Unix time.
 #[derive(Drop)]
 pub struct Stock<T: Shelf> {
+    /// The allocator.
     pub alloc: Global,
+    /// The items by key.
     pub shelf: T,
-    /// The key that a request names, so that look-ups take no memory.
+    /// The key that a request names, so that look-ups allocate nothing.
     pub key: Key,
     /// How many uniques were given.
     pub uniques: u64,
-    /// The moment at which all items are to go, if there is one.
+    /// The moment at which all items are to go, in milliseconds of Unix time, or `None` if there is none.
     pub flush: Option<u64>,
+    /// What was counted.
     pub counters: Counters,
     /// How many bytes a data block may have.
     pub most: u32,
     /// How many bytes all items may have.
     pub capacity: u64,
-    /// When it was made.
+    /// The moment at which the stock was made, in milliseconds of Unix time.
     pub made: u64,
     /// How many connections are open.
     pub connections: u64,
 }
 
 impl<T: Shelf> Stock<T> {
-    /// A stock over a shelf, at a moment.
+    /// Creates a stock over a shelf, at a moment. Returns an error if there is not enough memory.
     pub fn new(alloc: Global, shelf: T, setup: Setup, moment: u64) -> Result<Stock<T>, AllocError>
         requires { IsMoment (T.view shelf) moment }
         ensures shelf { IfOk result (λ made. made.shelf ≡ shelf) }
@@ -79,8 +82,8 @@ impl<T: Shelf> Stock<T> {
         })
     }
 
-    /// Serves a request at a moment, and writes its reply. If there is no memory for the reply, nothing has happened, and the connection is
-    /// to end.
+    /// Serves a request at a moment, and appends its reply to `output`. Returns an error if there is no memory for the reply: nothing has
+    /// happened then, and the connection is to end.
     pub fn serve(
         &mut self,
         request: &Request<'_>,

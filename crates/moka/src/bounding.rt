@@ -5,7 +5,8 @@ use crate::builder::CacheBuilder;
 use engine_reference::{Expiry, Predicate, Weigher};
 
 impl<X, W, P, F, C> CacheBuilder<X, W, P, F, C> {
-    /// Like `weigher`, but a type that is no `Weigher` of such keys and values is an error here, and not where the cache is built.
+    /// Sets what each value weighs, like `weigher`, but a type that is no `Weigher` of such keys and values is an error here, and not where
+    /// the cache is built.
     /// ```
     /// let builder = CacheBuilder::new(1_000_000).weigh_by::<u64, Page, _>(BySize);
     /// ```
@@ -19,7 +20,8 @@ impl<X, W, P, F, C> CacheBuilder<X, W, P, F, C> {
         self.weigher(weigher)
     }
 
-    /// Like `expire_after`, but a type that is no `Expiry` of such keys and values is an error here, and not where the cache is built.
+    /// Sets how long each value lives by itself, like `expire_after`, but a type that is no `Expiry` of such keys and values is an error
+    /// here, and not where the cache is built.
     /// ```
     /// let builder = CacheBuilder::new(1000).expire_by::<u64, Page, _>(OwnTime);
     /// ```
@@ -33,8 +35,8 @@ impl<X, W, P, F, C> CacheBuilder<X, W, P, F, C> {
         self.expire_after(expiry)
     }
 
-    /// Like `support_invalidation_closures`, but a type that is no `Predicate` of such keys and values is an error here, and not where the
-    /// cache is built.
+    /// Makes the cache accept predicates, like `support_invalidation_closures`, but a type that is no `Predicate` of such keys and values
+    /// is an error here, and not where the cache is built.
     /// ```
     /// let builder = CacheBuilder::new(1000).invalidate_by::<u64, Page, OlderThan>();
     /// ```

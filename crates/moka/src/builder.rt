@@ -34,9 +34,9 @@ pub struct Plan {
 }
 
 /// Collects the settings of a cache and creates it. By default nothing is set: no capacity, no times, TinyLFU, one segment, each value
-/// weighs one and does not expire by itself, removals are not reported, and no predicates are accepted.
-/// The last parameter is the form of what it builds: `Single`, a cache of one segment, or, after `segments`,
-/// `Segmented`, or, after `shards`, `Sharded`.
+/// weighs one and does not expire by itself, removals are not reported, and no predicates are accepted. The last parameter is the form of
+/// the cache that is built: `Single`, a cache of one segment, or, after `segments`, `Segmented`, or, after `shards`, `Sharded`. What `moka`
+/// panics at is an error of the call that builds.
 #[derive(Drop)]
 pub struct CacheBuilder<X, W, P, F, C = Single> {
     plan: Plan,
@@ -83,8 +83,9 @@ impl Default for CacheBuilder<NoExpiry, WeighOne, NoPredicate, ()> {
 }
 
 impl<X, W, P, F> CacheBuilder<X, W, P, F> {
-    /// Sets the number of segments, each of which has its share of the capacity: 1 to 65,536, rounded up to a power of two.
-    /// A segment's share is the capacity divided by their number, rounded up, so together they may hold slightly more.
+    /// Sets the number of segments, each of which has its share of the capacity: 1 to 65,536, rounded up to a power of two. A segment's
+    /// share is the capacity divided by the number of segments, rounded up, so together they may hold slightly more. `build` refuses 0
+    /// (`NoSegments`) and greater numbers (`TooManySegments`).
     /// ```
     /// let cache: SegmentedState<u64, u64> = CacheBuilder::new(1000).segments(4).build_state(alloc, hasher, moment)?;
     /// ```
@@ -129,7 +130,7 @@ impl<X, W, P, F, C> CacheBuilder<X, W, P, F, C> {
         self
     }
 
-    /// Sets for how many entries there is room from the start.
+    /// Sets for how many entries of all segments together there is room from the start. By default there is room for none.
     /// ```
     /// let builder = CacheBuilder::new(1000).initial_capacity(100);
     /// ```
@@ -166,14 +167,16 @@ impl<X, W, P, F, C> CacheBuilder<X, W, P, F, C> {
         self
     }
 
-    /// The older name of `report_removals`. It takes no listener: `next_notice` takes what is reported.
+    /// Makes the cache report removals: the older name of `report_removals`. The call takes no listener; `next_notice` takes what is
+    /// reported.
     pub fn eviction_listener(self) -> Self
         ensures { result ≡ record self { plan = record self.plan { tells = true } } }
     {
         self.report_removals()
     }
 
-    /// Sets how long a value lives after it was written: at most 1000 years of 365 days.
+    /// Sets how long a value lives after it was written: at most 1000 years of 365 days. `build` refuses a longer time
+    /// (`TimeToLiveTooLong`).
     /// ```
     /// let builder = CacheBuilder::new(1000).time_to_live(Duration::from_secs(60));
     /// ```
@@ -187,8 +190,8 @@ impl<X, W, P, F, C> CacheBuilder<X, W, P, F, C> {
         self
     }
 
-    /// Sets how long a value lives after its last use: at most 1000 years of 365 days.
-    /// A use is a write or a `get`; `contains_key`, `peek` and the iterator are not.
+    /// Sets how long a value lives after its last use: at most 1000 years of 365 days. A use is a write or a `get`; `contains_key`, `peek`
+    /// and the iterator are not. `build` refuses a longer time (`TimeToIdleTooLong`).
     /// ```
     /// let builder = CacheBuilder::new(1000).time_to_idle(Duration::from_secs(60));
     /// ```
@@ -280,8 +283,7 @@ impl<X, W, P, F, C> CacheBuilder<X, W, P, F, C> {
     }
 
     /// Creates a cache that its owner lends, at this moment, with this hasher. If untrusted clients choose the keys, use a hasher that they
-    /// cannot predict.
-    /// Checks the settings, in the order of `BuildError`.
+    /// cannot predict. Checks the settings in the order of `BuildError`, and returns the first error that applies.
     /// ```
     /// let cache: CacheState<u64, u64> = CacheBuilder::new(1000)
     ///     .time_to_live(Duration::from_secs(60))

@@ -7,7 +7,7 @@ use front_reference::Shared;
 use policy_base::Instant;
 use std::time::Duration;
 
-/// Weighs a text or a list of bytes, shared or not, by its number of bytes, at most 2^32 - 1. Keys weigh nothing.
+/// A `Weigher` that weighs a text or a list of bytes, shared or not, by its number of bytes, at most 2^32 - 1. Keys weigh nothing.
 /// ```
 /// let builder = CacheBuilder::new(1 << 20).weigher(WeighBytes);
 /// ```
@@ -73,8 +73,8 @@ pub trait Lifetime<K, V> {
         ensures { option_map as_nanos result ≡ lifetime self.now key.now value.now };
 }
 
-/// An `Expiry` that only sets the time at creation: reads and updates do not change the remaining time, as with the default bodies in
-/// `moka`.
+/// An `Expiry` that sets the time at creation and nothing else: reads and updates do not change the remaining time, as with the default
+/// bodies in `moka`.
 /// ```
 /// let builder = CacheBuilder::new(1000).expire_after(ByCreation(SessionTime));
 /// ```
@@ -114,7 +114,7 @@ impl<K, V, L: Lifetime<K, V>> Expiry<K, V> for ByCreation<L> {
     }
 }
 
-/// Matches the values whose keys begin with a text.
+/// A `Predicate` that matches the values whose keys begin with a text.
 /// ```
 /// let builder = CacheBuilder::new(1000).support_invalidation_closures::<KeyPrefix>();
 /// let id = cache.invalidate_entries_if(&rt, KeyPrefix(prefix))?;

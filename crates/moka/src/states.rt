@@ -33,8 +33,8 @@ pub trait NewState: Sized {
     // it is new, and was created with this capacity at this moment, and with nothing else set
     ghost is_new: { Self → (max_capacity moment : ℕ) → Type 0 };
 
-    /// Creates a cache that holds at most this weight, at this moment. Nothing else is set, and keys are hashed with std's hasher (without
-    /// a random seed).
+    /// Creates a cache that holds at most this weight, at this moment. The only possible error is `OutOfMemory`. Nothing else is set, and
+    /// keys are hashed with std's hasher (without a random seed).
     /// ```
     /// let cache: CacheState<u64, u64> = CacheState::new(alloc, 1000, moment)?;
     /// ```
@@ -56,7 +56,8 @@ pub trait NewSegmentedState: Sized {
     ghost is_new: { Self → (max_capacity segments moment : ℕ) → Type 0 };
 
     /// Creates a cache that holds at most this weight in this many segments, rounded up to a power of two, at this moment. Nothing else is
-    /// set, and keys are hashed with std's hasher (without a random seed). The number of segments is 1 to 65,536.
+    /// set, and keys are hashed with std's hasher (without a random seed). The number of segments is 1 to 65,536. Returns `NoSegments` for
+    /// 0, `TooManySegments` for a greater number, and `OutOfMemory` if there is not enough memory.
     /// ```
     /// let cache: SegmentedState<u64, u64> = SegmentedState::new(alloc, 1000, 4, moment)?;
     /// ```

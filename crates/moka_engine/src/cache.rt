@@ -25,7 +25,8 @@ mod removals;
 mod scans;
 mod settings;
 
-/// A cache of one part. Steps rise from call to call; moments may come in any order.
+/// A cache of one part. Steps rise from call to call; moments may come in any order. The cache is owned, while clones of `moka`'s share
+/// one.
 #[derive(Drop)]
 pub struct BaseCache<K: Eq + Hash, V, S: BuildHasher, R: Rules<K, V>> {
     tables: Tables<K, V, S, R>,
@@ -44,8 +45,8 @@ impl<K: Eq + Hash, V, S: BuildHasher, R: Rules<K, V>> Model for BaseCache<K, V, 
 
 impl<K: Eq + Hash, V, S: BuildHasher, R: Rules<K, V>> BaseCache<K, V, S, R> {
     /// Creates an empty cache with this name, at the moment of its settings, with room for this many entries if there is enough memory for
-    /// it.
-    /// The housekeeper's configuration has no effect: a run is never cut short, and no contract shows the size of its batches.
+    /// it. The housekeeper's configuration has no effect: a run is never cut short, and no contract shows the size of its batches. Returns
+    /// an error if there is not enough memory for the cache itself.
     pub fn new(
         alloc: Global,
         name: Option<String>,
@@ -104,7 +105,7 @@ impl<K: Eq + Hash, V, S: BuildHasher, R: Rules<K, V>> BaseCache<K, V, S, R> {
         self.tables.clear(step);
     }
 
-    /// Takes the oldest notice that was not taken, if there is one.
+    /// Takes the oldest notice that was not taken, or returns `None` if there is none.
     pub fn next_notice(&mut self) -> Option<Notice<K, V>>
         ensures notice { result ≡ slice_get self.old.notices 0 }
         ensures taken { self.new ≡ without_notice self.old }
@@ -112,8 +113,8 @@ impl<K: Eq + Hash, V, S: BuildHasher, R: Rules<K, V>> BaseCache<K, V, S, R> {
         self.tables.next_notice()
     }
 
-    /// Makes room for one more write, which `do_insert_with_hash` or `insert_and_send_with_hash` uses. Returns `OutOfMemory`, or `UsedUp` if
-    /// the tickets are used up; then nothing has changed.
+    /// Makes room for one more write, which `do_insert_with_hash` or `insert_and_send_with_hash` uses. Returns `OutOfMemory`, or `UsedUp`
+    /// if the 64-bit tickets are used up; then nothing has changed.
     pub fn reserve_write(&mut self) -> Result<(), Refusal>
         ensures ok { OnOk result (self.new ≡ with_room self.old) }
         ensures err { OnErr result (self.new ≡ self.old) }
@@ -126,7 +127,7 @@ impl<K: Eq + Hash, V, S: BuildHasher, R: Rules<K, V>> BaseCache<K, V, S, R> {
         Ok(())
     }
 
-    /// Returns whether a key has a visible value. This does not count as a use of it.
+    /// Returns whether a key has a visible value. The call does not count as a use of it.
     pub fn contains_key_with_hash<Q: Names<K>>(&self, key: &Q, hash: u64, now: Instant) -> bool
         requires hashed { hash ≡ ⟦<S as Hashes<K>>⟧.hash self.now.hasher (Q.named_key key.now) }
         ensures { result
@@ -135,8 +136,8 @@ impl<K: Eq + Hash, V, S: BuildHasher, R: Rules<K, V>> BaseCache<K, V, S, R> {
         look_up(&self.tables, key, hash, now.as_nanos()).is_some()
     }
 
-    /// Returns a clone of the visible value of a key, or `None`. This does not count as a use of it. Returns an error if there is no memory
-    /// for the clone.
+    /// Returns a clone of the visible value of a key, or `None`. The call does not count as a use of it. Returns an error if there is no
+    /// memory for the clone.
     pub fn get_with_hash_without_recording<Q: Names<K>>(
         &self,
         key: &Q,
@@ -155,7 +156,8 @@ impl<K: Eq + Hash, V, S: BuildHasher, R: Rules<K, V>> BaseCache<K, V, S, R> {
 
     // ---- writing
 
-    /// Writes a value under its key, in room that was reserved, and returns the ticket of the write. What it replaces is reported.
+    /// Writes a value under its key, in room that was reserved, and returns the ticket of the write. The value that it replaces is reported
+    /// if removals are. (In `moka` a writer waits while the queue is full; here `send` refuses.)
     pub fn do_insert_with_hash(
         &mut self,
         key: K,
@@ -185,8 +187,9 @@ impl<K: Eq + Hash, V, S: BuildHasher, R: Rules<K, V>> BaseCache<K, V, S, R> {
         self.tables.can_send()
     }
 
-    /// Writes a value under its key, in room that was reserved, and moves the write into the queue, which has room. What it replaces is
-    /// reported. All earlier tickets were sent. It does what `do_insert_with_hash` and then `send` do, for less.
+    /// Writes a value under its key, in room that was reserved, and moves the write into the queue, which must have room. The value that it
+    /// replaces is reported if removals are. All earlier tickets must be sent. The call does what `do_insert_with_hash` and then `send` do,
+    /// for less.
     pub fn insert_and_send_with_hash(
         &mut self,
         key: K,
@@ -209,7 +212,7 @@ impl<K: Eq + Hash, V, S: BuildHasher, R: Rules<K, V>> BaseCache<K, V, S, R> {
         write(&mut self.tables, key, hash, value, now, step, true);
     }
 
-    /// Reports an entry that was removed by its key, in the room that the removal left. The key is an argument too.
+    /// Reports an entry that was removed by its key, in the room that the removal left. The key itself is not looked at.
     pub fn notify_invalidate<Q: Names<K>>(&mut self, _key: &Q, entry: Entry<K, V>, now: Instant)
     where
         K: Drop,
@@ -220,7 +223,8 @@ impl<K: Eq + Hash, V, S: BuildHasher, R: Rules<K, V>> BaseCache<K, V, S, R> {
         tell_removed(&mut self.tables, entry, now);
     }
 
-    /// Moves the write of a ticket into the queue. An unknown ticket is refused before a full queue.
+    /// Moves the write of a ticket into the queue. Returns `UnknownTicket` if no write waits under this ticket, and otherwise `QueueFull`
+    /// if 128 writes are in the queue; then nothing has changed.
     pub fn send(&mut self, ticket: u64) -> Result<(), Refusal>
         ensures ok { OnOk result (self.new ≡ sent ticket self.old) }
         ensures known { OnOk result (is_some (unsent_at self.old.unsent ticket) ≡ true) }
@@ -236,11 +240,10 @@ impl<K: Eq + Hash, V, S: BuildHasher, R: Rules<K, V>> BaseCache<K, V, S, R> {
         self.tables.send(ticket)
     }
 
-    /// Runs maintenance to its end: it applies everything that is pending, and removes what is due and then the excess.
-    /// If all tickets were sent as it began, the counts are exact; if moments never fell and steps rose as well, nothing that is due is
-    /// left.
-    /// If half the capacity is held and the sketch has no table, it is created first. An error means that there was not enough memory for
-    /// it; the run is complete without it.
+    /// Runs maintenance to its end: it applies everything that is pending, and removes what is due and then the excess. If all tickets were
+    /// sent as it began, the counts are exact; if moments never fell and steps rose as well, nothing that is due is left. If half the
+    /// capacity is held and the sketch has no table, it is created first. Returns an error if there was not enough memory for the table;
+    /// the run is complete without it.
     pub fn try_run_pending_tasks(&mut self, now: Instant) -> Result<(), AllocError>
     where
         K: Drop,

@@ -50,8 +50,8 @@ fn note_hit<K: Eq + Hash + Drop, V: Drop, S: BuildHasher, R: Rules<K, V>>(
     }
 }
 
-/// Runs maintenance if it is due. Then the read of what was found waits to be counted. A record that was found is used, if it is still
-/// there.
+/// Runs maintenance if it is due. Then the read of what was found waits to be counted. A record that was found counts as used, if it is
+/// still there.
 pub fn note_read<K: Eq + Hash + Drop, V: Drop, S: BuildHasher, R: Rules<K, V>>(
     tables: &mut Tables<K, V, S, R>,
     place: Option<usize>,

@@ -8,7 +8,7 @@ use engine_reference::Rules;
 use engine_tables::Tables;
 use std::hash::{BuildHasher, Hash};
 
-/// The value of what was found in a place.
+/// Returns the value of what was found in a place, or `None` without a place.
 pub fn value_in<K: Eq + Hash, V, S: BuildHasher, R: Rules<K, V>>(
     tables: &Tables<K, V, S, R>,
     place: Option<usize>,
@@ -23,7 +23,7 @@ pub fn value_in<K: Eq + Hash, V, S: BuildHasher, R: Rules<K, V>>(
     }
 }
 
-/// Shows a value to `see`, with what is behind `output`.
+/// Passes a value, and what is behind `output`, to `see`, and returns what `see` returns, also if that is an error.
 pub fn show<V, O, T, E, F: FnOnce(Option<&V>, &mut O) -> Result<T, E> + Drop>(
     found: Option<&V>,
     output: &mut O,

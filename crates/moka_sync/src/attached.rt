@@ -20,9 +20,9 @@ use std::hash::{BuildHasher, Hash};
 use std::sync::Wait;
 use sync_desk::{Env, SharedName};
 
-/// A handle of a shared cache, together with a handle `rt` by which its calls may wait for the lock. It provides what cannot take an `rt`
-/// as an argument: selectors (`entry`), loops over its entries, and `{:?}`, which prints a map of its entries and fails if there is not
-/// enough memory for a clone.
+/// A handle of a shared cache, together with a handle `rt` by which its calls may wait for the lock. The pair provides what cannot take an
+/// `rt` as an argument: selectors (`entry`), loops over its entries, and `{:?}`, which prints a map of its entries and fails if there is
+/// not enough memory for a clone.
 #[derive(Drop)]
 pub struct Attached<K: Eq + Hash, V: Clone, S: BuildHasher, R: Rules<K, V>, E, H, C = Single> {
     cache: SharedCache<K, V, S, R, E, C>,
@@ -77,8 +77,8 @@ impl<
         OwnedKeyEntrySelector::new(self, key, (), alloc)
     }
 
-    /// Like `entry`, with a borrowed key, which is cloned at once. Returns an error if there is not enough memory for the clone.
-    /// Which keys can be proved is said at `get_with_by_ref`.
+    /// Like `entry`, with a borrowed key, which is cloned at once. Returns `OutOfMemory` if there is not enough memory for the clone. Which
+    /// keys can be proved is said at `get_with_by_ref`.
     pub fn entry_by_ref<'b>(
         &'b mut self,
         key: &K,
@@ -146,9 +146,9 @@ impl<
             .compute(&self.rt, &key, decide)
     }
 
-    /// Returns an iterator over the visible keys, each once and in any order, with clones of their values. It holds the lock while it
-    /// clones the keys of one segment, and then for one item at a time. A value that is removed before its turn is not returned. No item
-    /// counts as a use.
+    /// Returns an iterator over the visible keys, each once and in any order, with clones of their values. The iterator holds the lock
+    /// while it clones the keys of one segment, and then for one item at a time. A value that is removed before its turn is not returned.
+    /// No item counts as a use.
     /// ```
     /// for item in attached.iter() {
     ///     let (key, value) = item?;

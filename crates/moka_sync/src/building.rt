@@ -41,8 +41,9 @@ pub trait Build<K: Eq + Hash, V, E>: Sized {
     // the name and the settings that the cache shows
     ghost shown: { Self → Option (List ℕ) → Policy → Type 0 };
 
-    /// Builds a cache that hashes keys with std's hasher (without a random seed), created at the moment that its environment gives. If
-    /// untrusted clients choose the keys, use `build_with_hasher` with a hasher that they cannot predict.
+    /// Builds a cache that hashes keys with std's hasher (without a random seed), created at the moment that its environment gives. Returns
+    /// the first cause of `BuildError` that applies. If untrusted clients choose the keys, use `build_with_hasher` with a hasher that they
+    /// cannot predict.
     /// ```
     /// let cache: PlainCache<u64, u64, _> = CacheBuilder::new(10_000)
     ///     .time_to_live(Duration::from_secs(60))
@@ -60,7 +61,7 @@ pub trait Build<K: Eq + Hash, V, E>: Sized {
         ensures cause { IfErr result
             (λ e. (fault self ≡ Some e) ⊎ ((e ≡ OutOfMemory) × (fault self ≡ None))) };
 
-    /// Like `build`, with another hasher.
+    /// Like `build`, with another hasher, and the same errors.
     /// ```
     /// let cache: Cache<String, u64, RandomState, PlainRules, _> =
     ///     CacheBuilder::new(10_000).build_with_hasher(alloc, RandomState::new(&rt), env)?;
@@ -164,8 +165,9 @@ impl<K: Eq + Hash + Drop, V: Clone + Drop, E: Env + Drop> SharedCache<
     Segmented,
 > {
     /// Creates a cache that holds at most this many entries in this many segments, rounded up to a power of two, with nothing else set. The
-    /// number of segments is 1 to 65,536.
-    /// Each segment holds at most the capacity divided by their number, rounded up, so together they may hold slightly more.
+    /// number of segments is 1 to 65,536. Each segment holds at most the capacity divided by their number, rounded up, so together they may
+    /// hold slightly more. Returns `NoSegments` for 0 segments, `TooManySegments` for more than 65,536, and `OutOfMemory` if there is not
+    /// enough memory.
     pub fn new(
         alloc: Global,
         max_capacity: u64,

@@ -31,9 +31,9 @@ pub(crate) struct Inner<K: Eq + Hash, V, S: BuildHasher, R: Rules<K, V>, E, C> {
 /// ```
 pub type Cache<K, V, S, R, E> = SharedCache<K, V, S, R, E, Single>;
 
-/// A cache of several segments that threads share, each with its share of the capacity. Its calls are those of `SharedCache`.
-/// It is created with its number of segments, `invalidate_entries_if` returns `()` instead of an identifier, and it has
-/// `get_or_insert_with` and `get_or_try_insert_with` in addition.
+/// A cache of several segments that threads share, each with its share of the capacity. Its calls are those of `SharedCache`. The cache is
+/// created with its number of segments, `invalidate_entries_if` returns `()` instead of an identifier, and it has `get_or_insert_with` and
+/// `get_or_try_insert_with` in addition.
 /// ```
 /// let cache: SegmentedCache<u64, u64, StdHasher, PlainRules, MachineEnv<C>> =
 ///     SegmentedCache::new(alloc, 10_000, 4, env)?;
@@ -41,14 +41,14 @@ pub type Cache<K, V, S, R, E> = SharedCache<K, V, S, R, E, Single>;
 pub type SegmentedCache<K, V, S, R, E> = SharedCache<K, V, S, R, E, Segmented>;
 
 /// A cache that threads share, in one of three forms: `Cache` and `SegmentedCache`, which have one lock, and `ShardedCache`, which has one
-/// for each shard. A clone is another handle of the same cache.
+/// for each shard. A clone is another handle of the same cache. Unlike `moka`'s, most calls return a `Result`, since an allocation may
+/// fail.
 ///
-/// Each call takes a handle `rt`, by which it may wait for the lock, and takes the lock once. With shards, a call on a key takes the lock of
-/// the key's shard, and one on the whole cache takes each lock once, one after another. A call that makes a value or computes takes
-/// it several times, and its closures run in between, so they may use the same cache. Each call has a moment, the later of the
-/// environment's and the last call's, and the next step. Whenever the lock is taken, what it guards keeps what a lent cache keeps between
-/// calls.
-/// If a call that takes the lock once is refused, it has changed nothing.
+/// Each call takes a handle `rt`, by which it may wait for the lock, and takes the lock once. With shards, a call on a key takes the lock
+/// of the key's shard, and one on the whole cache takes each lock once, one after another. A call that makes a value or computes takes it
+/// several times, and its closures run in between, so they may use the same cache. Each call has a moment, the later of the environment's
+/// and the last call's, and the next step. Whenever the lock is taken, what it guards keeps what a lent cache keeps between calls. If a
+/// call that takes the lock once is refused, it has changed nothing.
 ///
 /// **Clones, comparisons and hashes of keys and values run under the lock, and so do the rules (`Expiry`, `Weigher`, `Predicate`) and the
 /// `Env`. None of them may call the cache, or it waits for itself forever.**
@@ -123,7 +123,7 @@ impl<
         Ok(SharedCache { inner, alloc })
     }
 
-    /// Returns the name of the cache, if it has one.
+    /// Returns the name of the cache, or `None` if it has none.
     pub fn name(&self) -> Option<&str>
         ensures { option_map (λ text. text.now) result
             ≡ option_map string_bytes (arc_value self.now.inner).name }
@@ -142,22 +142,23 @@ impl<
         self.inner.policy
     }
 
-    /// Returns the number of entries as of each segment's last maintenance run, at most 2^64 - 1. It is exact after `run_pending_tasks`.
+    /// Returns the number of entries as of each segment's last maintenance run, at most 2^64 - 1. The number is exact after
+    /// `run_pending_tasks`.
     pub fn entry_count(&self, rt: &impl Wait) -> u64 {
         self.inner.desks.entry_count(rt)
     }
 
-    /// Returns the total weight of the entries as of each segment's last maintenance run, at most 2^64 - 1. It is exact after
+    /// Returns the total weight of the entries as of each segment's last maintenance run, at most 2^64 - 1. The weight is exact after
     /// `run_pending_tasks`.
     pub fn weighted_size(&self, rt: &impl Wait) -> u64 {
         self.inner.desks.weighted_size(rt)
     }
 
-    /// Returns a clone of the value of a key, or `None` if none is visible. This counts as a use of the value: it restarts its idle time,
-    /// and makes its eviction less likely.
-    /// Returns an error if there is not enough memory for the clone, or if 2^64 - 1 calls have been made.
-    /// The clone must equal the value to contracts. That of a `String`, a `Vec` or an `Arc` does not: with such values the call runs under
-    /// `rt try`, and `rt check` can never prove it. Keep a `Shared<String>`, a `Shared<Vec<X>>` or a `Shared<X>`.
+    /// Returns a clone of the value of a key, or `None` if none is visible. The call counts as a use of the value: it restarts the value's
+    /// idle time, and makes its eviction less likely. Returns `OutOfMemory` if there is not enough memory for the clone, and `UsedUp` if
+    /// 2^64 - 1 calls have been made. The clone must equal the value to contracts. The clone of a `String`, a `Vec` or an `Arc` does not:
+    /// with such values the call runs under `rt try`, and `rt check` can never prove it. Keep a `Shared<String>`, a `Shared<Vec<X>>` or a
+    /// `Shared<X>`.
     pub fn get(&self, rt: &impl Wait, key: &K) -> Result<Option<V>, CacheError>
         requires exact { (x y : V) → V.is_clone x y → y ≡ x }
         ensures cause { IfErr result IsShortage }
@@ -167,7 +168,7 @@ impl<
         desk.get(key)
     }
 
-    /// Returns whether a key has a visible value: one that is neither expired nor invalidated. This does not count as a use, and never
+    /// Returns whether a key has a visible value: one that is neither expired nor invalidated. The call does not count as a use, and never
     /// fails.
     pub fn contains_key(&self, rt: &impl Wait, key: &K) -> bool {
         let mut guard = self.inner.desks.lock_of(rt, key);
@@ -175,9 +176,9 @@ impl<
         desk.contains_key(key)
     }
 
-    /// Inserts a value, replacing the one that the key may have. It is visible at once, even above the capacity; maintenance decides which
-    /// values stay. A cache of capacity 0 stores nothing and returns `Ok`.
-    /// Returns an error if there is not enough memory, or if 2^64 - 1 calls have been made.
+    /// Inserts a value, replacing the one that the key may have. The new value is visible at once, even above the capacity; maintenance
+    /// decides which values stay. A cache of capacity 0 stores nothing and returns `Ok`. Returns `OutOfMemory` if there is not enough
+    /// memory, and `UsedUp` if 2^64 - 1 calls have been made or the 64-bit numbers of writes are used up.
     pub fn insert(&self, rt: &impl Wait, key: K, value: V) -> Result<(), CacheError>
         ensures cause { IfErr result IsShortage }
     {
@@ -187,8 +188,8 @@ impl<
     }
 
     /// Removes a key, and returns a clone of its value, even one that has expired or was invalidated and is still held; `None` if there is
-    /// none.
-    /// Which values can be proved is said at `get`.
+    /// none. Returns `OutOfMemory` if there is not enough memory, and `UsedUp` if 2^64 - 1 calls have been made or the 64-bit numbers of
+    /// writes are used up. Which values can be proved is said at `get`.
     pub fn remove(&self, rt: &impl Wait, key: &K) -> Result<Option<V>, CacheError>
         requires exact { (x y : V) → V.is_clone x y → y ≡ x }
         ensures cause { IfErr result IsShortage }
@@ -198,8 +199,7 @@ impl<
         desk.remove(key)
     }
 
-    /// Removes a key like `remove`, without returning its value.
-    /// Which values can be proved is said at `get`.
+    /// Removes a key like `remove`, with the same errors, without returning its value. Which values can be proved is said at `get`.
     pub fn invalidate(&self, rt: &impl Wait, key: &K) -> Result<(), CacheError>
         requires exact { (x y : V) → V.is_clone x y → y ≡ x }
         ensures cause { IfErr result IsShortage }
@@ -209,10 +209,9 @@ impl<
         desk.invalidate(key)
     }
 
-    /// Invalidates all values that were written before. They become invisible at once; maintenance removes them later. It allocates
-    /// nothing.
-    /// Returns an error if 2^64 - 1 calls have been made. With shards, a value that is written during the call may be covered or not, and
-    /// the shards before the one that refused are cleared.
+    /// Invalidates all values that were written before. The values become invisible at once; maintenance removes them later. The call
+    /// allocates nothing. Returns `UsedUp` if 2^64 - 1 calls have been made. With shards, a value that is written during the call may be
+    /// covered or not, and the shards before the one that refused are cleared.
     pub fn invalidate_all(&self, rt: &impl Wait) -> Result<(), CacheError>
         ensures cause { IfErr result (λ e. e ≡ errors.UsedUp) }
     {
@@ -220,8 +219,9 @@ impl<
     }
 
     /// Runs the maintenance of every segment to its end: it removes values that have expired or were invalidated, and evicts those above
-    /// the capacity. After it the counts are exact. Other calls run maintenance when it is due: at 64 reads or writes of a segment, or 300
-    /// milliseconds after its last run.
+    /// the capacity. After the runs the counts are exact. Returns `UsedUp` if 2^64 - 1 calls have been made. Other calls run maintenance
+    /// when it is due: at 64 reads or writes of a segment, or 300 milliseconds after its last run. (No run is cut short, as one of `moka`
+    /// may be.)
     pub fn run_pending_tasks(&self, rt: &impl Wait) -> Result<(), CacheError>
         ensures cause { IfErr result (λ e. e ≡ errors.UsedUp) }
     {

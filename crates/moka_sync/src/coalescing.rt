@@ -20,11 +20,10 @@ impl<
     C: Drop,
 > SharedCache<K, V, S, R, E, C> {
     /// Returns a clone of the visible value of a key, which counts as a use of it. If there is none, `make` makes one, which is stored. Of
-    /// concurrent calls of this kind for the same key, one runs its `make`, without the lock, and the others wait for its result.
-    /// If there is not enough memory for the value or a clone of it, the call is refused, and those that wait begin again. A call that has
-    /// waited 200 times in vain returns `Abandoned`. A write, a removal or a clear in the meantime does not prevent the value from being
-    /// inserted.
-    /// Which values can be proved is said at `get`.
+    /// concurrent calls of this kind for the same key, one runs its `make`, without the lock, and the others wait for its result. If there
+    /// is not enough memory for the value or a clone of it, the call returns `OutOfMemory`, and those that wait begin again. A call that
+    /// has waited 200 times in vain returns `Abandoned`, and one for which the cache's 64-bit numbers are used up `UsedUp`. A write, a
+    /// removal or a clear in the meantime does not prevent the value from being inserted. Which values can be proved is said at `get`.
     /// ```
     /// let square = cache.get_with(&rt, 7, || 49)?;
     /// ```
@@ -46,9 +45,9 @@ impl<
         desk.make_value(rt, asked, Passing::Never, passes_nothing, make)
     }
 
-    /// Like `get_with`, with a borrowed key, which is cloned only if a turn begins.
-    /// The clone must equal the key to contracts. That of a `String` or a `Vec` does not: with such keys the call runs under `rt try`, and
-    /// `rt check` can never prove it. Take a `Shared<String>` or a `Shared<Vec<X>>` as the key.
+    /// Like `get_with`, and with its errors, with a borrowed key, which is cloned only if a turn begins. The clone must equal the key to
+    /// contracts. The clone of a `String` or a `Vec` does not: with such keys the call runs under `rt try`, and `rt check` can never prove
+    /// it. Take a `Shared<String>` or a `Shared<Vec<X>>` as the key.
     /// ```
     /// let page = cache.get_with_by_ref(&rt, &address, || fetch(&address))?;
     /// ```
@@ -73,10 +72,10 @@ impl<
         desk.make_value(rt, asked, Passing::Never, passes_nothing, make)
     }
 
-    /// Like `get_with`, except that a visible value for which `replace_if` returns true counts as none.
-    /// `replace_if` is called on a clone of the value, without the lock, so it may use the same cache. It is called again if a value of the
-    /// key may have been written in the meantime. It is not called on what another call of the same kind makes while this one waits for it.
-    /// Which values can be proved is said at `get`.
+    /// Like `get_with`, except that a visible value for which `replace_if` returns true counts as none. `replace_if` is called on a clone
+    /// of the value, without the lock, so it may use the same cache. The closure is called again if a value of the key may have been
+    /// written in the meantime. The closure is not called on what another call of the same kind makes while this one waits for it. Returns
+    /// the errors of `get_with`. Which values can be proved is said at `get`.
     /// ```
     /// let fresh = cache.get_with_if(&rt, 7, || 50, |old| *old < 50)?;
     /// ```
@@ -100,8 +99,7 @@ impl<
     }
 
     /// Like `get_with`, except that `make` may return `None`. Then nothing is stored, and this call and those that wait for it return
-    /// `None`.
-    /// Which values can be proved is said at `get`.
+    /// `None`. Returns the errors of `get_with`. Which values can be proved is said at `get`.
     /// ```
     /// let half = cache.optionally_get_with(&rt, number, || (number % 2 == 0).then_some(number / 2))?;
     /// ```
@@ -123,8 +121,8 @@ impl<
         desk.make_option(rt, asked, make)
     }
 
-    /// Like `optionally_get_with`, with a borrowed key, which is cloned only if a turn begins.
-    /// Which keys can be proved is said at `get_with_by_ref`.
+    /// Like `optionally_get_with`, and with its errors, with a borrowed key, which is cloned only if a turn begins. Which keys can be
+    /// proved is said at `get_with_by_ref`.
     pub fn optionally_get_with_by_ref<H: Wait, M: FnOnce() -> Option<V> + Drop>(
         &self,
         rt: &H,
@@ -147,8 +145,7 @@ impl<
     }
 
     /// Like `get_with`, except that `make` may fail. Then nothing is stored, and this call and those that wait for it return the same
-    /// fault, in an `Arc`. The outer error is the cache's own.
-    /// Which values can be proved is said at `get`.
+    /// fault, in an `Arc`. The outer error is the cache's own, as that of `get_with`. Which values can be proved is said at `get`.
     /// ```
     /// match cache.try_get_with(&rt, 7, || read_row(7))? {
     ///     Ok(row) => show(&row),
@@ -173,8 +170,8 @@ impl<
         desk.make_result(rt, asked, make)
     }
 
-    /// Like `try_get_with`, with a borrowed key, which is cloned only if a turn begins.
-    /// Which keys can be proved is said at `get_with_by_ref`.
+    /// Like `try_get_with`, and with its errors, with a borrowed key, which is cloned only if a turn begins. Which keys can be proved is
+    /// said at `get_with_by_ref`.
     pub fn try_get_with_by_ref<H: Wait, M: FnOnce() -> Result<V, R::Fault> + Drop>(
         &self,
         rt: &H,
@@ -204,7 +201,7 @@ impl<
     R: Rules<K, V> + Drop,
     E: Env + Drop,
 > SharedCache<K, V, S, R, E, Segmented> {
-    /// The same as `get_with`.
+    /// Does what `get_with` does, and returns its errors.
     pub fn get_or_insert_with<H: Wait, M: FnOnce() -> V + Drop>(
         &self,
         rt: &H,
@@ -218,7 +215,7 @@ impl<
         self.get_with(rt, key, make)
     }
 
-    /// The same as `try_get_with`.
+    /// Does what `try_get_with` does, and returns its errors.
     pub fn get_or_try_insert_with<H: Wait, M: FnOnce() -> Result<V, R::Fault> + Drop>(
         &self,
         rt: &H,

@@ -160,7 +160,8 @@ impl<
     }
 
     /// Calls `decide` with the visible value of a key, does what it decides, and returns what was done. If `decide` fails, returns its
-    /// error and writes nothing. `decide` runs without the lock, and such calls for one key come one at a time.
+    /// error and writes nothing. `decide` runs without the lock, and such calls for one key come one at a time. The outer error is the
+    /// cache's own: `OutOfMemory` if there is not enough memory, and `UsedUp` if the cache's 64-bit numbers are used up.
     pub fn compute<X: Drop, H: Wait, D: FnOnce(Option<V>) -> Result<Op<V>, X> + Drop>(
         &self,
         rt: &H,

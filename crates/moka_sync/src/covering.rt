@@ -153,7 +153,9 @@ impl<
     }
 
     /// Invalidates the values that were written before and for which the predicate returns true, in all shards or, if the call is refused,
-    /// in none. Each shard draws an identifier.
+    /// in none. Each shard draws an identifier. Returns `InvalidationClosuresDisabled` if the cache accepts no predicates, `OutOfMemory` if
+    /// there is not enough memory, `UsedUp` if the 64-bit numbers are used up, and `IdsInUse` if each of a thousand identifiers that were
+    /// drawn for a shard is registered there; then nothing has changed.
     pub fn invalidate_entries_if(
         &mut self,
         alloc: Global,

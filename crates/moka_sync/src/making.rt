@@ -48,7 +48,7 @@ impl<
         Ok(value_made(made))
     }
 
-    /// Returns the visible value of a key, or the one that `make` makes, or `None` if `make` makes none.
+    /// Returns the visible value of a key, or the one that `make` makes, or `None` if `make` makes none. Returns the errors of `get_with`.
     pub fn make_option<H: Wait, A: Asked<K>, M: FnOnce() -> Option<V> + Drop>(
         &self,
         rt: &H,
@@ -79,7 +79,8 @@ impl<
         Ok(option_made(made))
     }
 
-    /// Returns the visible value of a key, or the one that `make` makes, or the fault for which `make` made none.
+    /// Returns the visible value of a key, or the one that `make` makes, or the fault for which `make` made none. The outer error is the
+    /// cache's own, as that of `get_with`.
     pub fn make_result<H: Wait, A: Asked<K>, M: FnOnce() -> Result<V, R::Fault> + Drop>(
         &self,
         rt: &H,

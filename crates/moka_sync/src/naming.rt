@@ -18,7 +18,8 @@ impl<
     E: Env + Drop,
     C: Drop,
 > SharedCache<K, V, S, R, E, C> {
-    /// Like `get`, by what names the key: a `TextName` for a `String`, a `BytesName` for a `Vec<u8>`. It makes no key.
+    /// Like `get`, by what names the key: a `TextName` for a `String`, a `BytesName` for a `Vec<u8>`. The call makes no key. Returns the
+    /// errors of `get`.
     /// ```
     /// let price = cache.get_by_name(&rt, &TextName::new("pear"))?;
     /// ```
@@ -45,7 +46,7 @@ impl<
         desk.contains_key_by_name(name)
     }
 
-    /// Like `remove`, by what names the key.
+    /// Like `remove`, and with its errors, by what names the key.
     /// ```
     /// let last = cache.remove_by_name(&rt, &TextName::new("pear"))?;
     /// ```
@@ -62,7 +63,7 @@ impl<
         desk.remove_by_name(name)
     }
 
-    /// Like `invalidate`, by what names the key.
+    /// Like `invalidate`, and with its errors, by what names the key.
     /// ```
     /// cache.invalidate_by_name(&rt, &TextName::new("pear"))?;
     /// ```

@@ -23,8 +23,8 @@ impl<
     C: Drop,
 > SharedCache<K, V, S, R, E, C> {
     /// Like `get_with`, and coalesced with it, except that `make` may fail to allocate. Then its turn is given up, so that those that wait
-    /// begin again, and the call returns `OutOfMemory`.
-    /// Which values can be proved is said at `get`.
+    /// begin again, and the call returns `OutOfMemory`. The other errors are those of `get_with`. Which values can be proved is said at
+    /// `get`.
     /// ```
     /// let text = cache.get_with_alloc(&rt, key, || Shared::new(alloc, String::from_str(alloc, "seven")?))?;
     /// ```

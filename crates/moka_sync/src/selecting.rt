@@ -46,7 +46,8 @@ impl<
     E: Env + Drop,
     C: Drop,
 > SharedCache<K, V, S, R, E, C> {
-    /// Combines another handle of the cache with an `rt`, like `clone()?.attach(*rt)`: for `{:?}`, and for several selectors.
+    /// Combines another handle of the cache with an `rt`, like `clone()?.attach(*rt)`: for `{:?}`, and for several selectors. Returns an
+    /// error if the cache cannot be shared by one more handle.
     /// ```
     /// println!(rt; "{:?}", cache.attached(&rt)?)?;
     /// ```
@@ -84,8 +85,8 @@ impl<
         }
     }
 
-    /// Like `entry`, with a borrowed key, which is cloned at once. Returns an error if there is not enough memory for the clone.
-    /// Which keys can be proved is said at `get_with_by_ref`.
+    /// Like `entry`, with a borrowed key, which is cloned at once. Returns `OutOfMemory` if there is not enough memory for the clone. Which
+    /// keys can be proved is said at `get_with_by_ref`.
     pub fn entry_by_ref<'a, H: Wait + Copy>(
         &'a self,
         rt: &'a H,
@@ -128,7 +129,8 @@ impl<
     C: Drop,
 > SharedSelector<'a, K, V, S, R, E, H, C> {
     /// Returns the visible value of the key, or the one that `make` makes, which is stored. Of several callers for the key one makes it,
-    /// and the others wait for it.
+    /// and the others wait for it. Returns `OutOfMemory` if there is not enough memory, `UsedUp` if the cache's 64-bit numbers are used up,
+    /// and `Abandoned` if each of 200 turns that the call waited for was given up.
     pub fn or_insert_with<M: FnOnce() -> V + Drop>(self, make: M) -> Result<Entry<K, V>, CacheError>
         requires callable { M.IsAlwaysCallable make }
         ensures made { IfOk result (IsMadeIfFresh (M.post make)) }
@@ -143,7 +145,7 @@ impl<
     }
 
     /// Like `or_insert_with`, except that a visible value for which `replace_if` returns true counts as none. `replace_if` is called once,
-    /// without the lock, on the value that is visible when the call begins.
+    /// without the lock, on the value that is visible when the call begins. Returns the errors of `or_insert_with`.
     pub fn or_insert_with_if<M: FnOnce() -> V + Drop, P: FnOnce(&V) -> bool + Drop>(
         self,
         make: M,
@@ -162,6 +164,7 @@ impl<
     }
 
     /// Returns the visible value of the key, or else this one, which is then stored. The call waits for no other call that makes a value.
+    /// Returns `OutOfMemory` if there is not enough memory, and `UsedUp` if the cache's 64-bit numbers are used up.
     pub fn or_insert(self, value: V) -> Result<Entry<K, V>, CacheError>
         ensures made { IfOk result (IsMadeIfFresh (λ made. made ≡ value)) }
         ensures shown { IfOk result (λ e. e ≡ entry_with self.entry.key e.value e.is_fresh false) }
@@ -175,7 +178,7 @@ impl<
     }
 
     /// Returns the visible value of the key, or else the default value, which is then stored. The call waits for no other call that makes a
-    /// value.
+    /// value. Returns `OutOfMemory` if there is not enough memory, and `UsedUp` if the cache's 64-bit numbers are used up.
     pub fn or_default(self) -> Result<Entry<K, V>, CacheError>
     where
         V: Default,
@@ -190,8 +193,8 @@ impl<
         }
     }
 
-    /// Returns the entry of the key: of the visible value, or of the one that `make` makes, which is stored; or `None` if `make` makes none.
-    /// That there is none is not stored.
+    /// Returns the entry of the key: of the visible value, or of the one that `make` makes, which is stored; or `None` if `make` makes
+    /// none. A `None` is not stored. Returns the errors of `or_insert_with`.
     pub fn or_optionally_insert_with<M: FnOnce() -> Option<V> + Drop>(
         self,
         make: M,
@@ -208,7 +211,8 @@ impl<
     }
 
     /// Returns the entry of the key: of the visible value, or of the one that `make` makes, which is stored. If `make` fails, nothing is
-    /// stored, and the inner `Result` is its error, which those that wait for this call get too. The outer error is the cache's own.
+    /// stored, and the inner `Result` is its error, which those that wait for this call get too. The outer error is the cache's own, as
+    /// that of `or_insert_with`.
     /// ```
     /// match cache.entry(&rt, 7).or_try_insert_with(|| read_row(7))? {
     ///     Ok(entry) => show(entry.value()),
@@ -232,7 +236,8 @@ impl<
     }
 
     /// Calls `decide` with the entry, if there is one, and does what it decides. If `decide` fails, nothing is written, and the inner
-    /// `Result` is its error; the outer error is the cache's own. Calls of this kind for one key come one after another.
+    /// `Result` is its error; the outer error is the cache's own, as that of `and_compute_with`. Calls of this kind for one key come one
+    /// after another.
     /// ```
     /// let done = cache.entry(&rt, 7).and_try_compute_with(|seen| next_row(seen).map(Op::Put))?;
     /// ```
@@ -253,7 +258,8 @@ impl<
     }
 
     /// Calls `decide` with the entry, if there is one, does what it decides, and returns what became of the entry. Calls of this kind for
-    /// one key come one after another.
+    /// one key come one after another. Returns `OutOfMemory` if there is not enough memory, and `UsedUp` if the cache's 64-bit numbers are
+    /// used up.
     pub fn and_compute_with<D: FnOnce(Option<Entry<K, V>>) -> Op<V> + Drop>(
         self,
         decide: D,
@@ -270,8 +276,8 @@ impl<
         }
     }
 
-    /// Puts the value that `make` computes from the entry, if there is one, and returns it. Calls of this kind for one key come one after
-    /// another.
+    /// Puts the value that `make` computes from the entry, if there is one, and returns the new entry. Calls of this kind for one key come
+    /// one after another. Returns `OutOfMemory` if there is not enough memory, and `UsedUp` if the cache's 64-bit numbers are used up.
     pub fn and_upsert_with<M: FnOnce(Option<Entry<K, V>>) -> V + Drop>(
         self,
         make: M,

@@ -25,9 +25,8 @@ use std::thread::{Threads, available_parallelism};
 use sync_desk::{Env, Fork};
 
 /// A cache of several shards that threads share, each a cache of one segment with its share of the capacity, under a lock of its own. Its
-/// calls are those of `SharedCache`.
-/// A call on a key holds the lock of the key's shard, and only that. A call on the whole cache goes from one shard to the next; a call with a
-/// predicate holds all locks at once, and returns `()`.
+/// calls are those of `SharedCache`. A call on a key holds the lock of the key's shard, and only that. A call on the whole cache goes from
+/// one shard to the next; a call with a predicate holds all locks at once, and returns `()`.
 /// ```
 /// let cache: ShardedCache<u64, u64, StdHasher, PlainRules, MachineEnv<C, G>> =
 ///     ShardedCache::new(alloc, 10_000, 16, env)?;
@@ -150,8 +149,9 @@ impl<K: Eq + Hash + Drop, V: Clone + Drop, E: Fork + Drop> SharedCache<
     Sharded,
 > {
     /// Creates a cache that holds at most this many entries in this many shards, rounded up to a power of two, with nothing else set. The
-    /// number of shards is 1 to 65,536.
-    /// Each shard holds at most the capacity divided by their number, rounded up, so together they may hold slightly more.
+    /// number of shards is 1 to 65,536. Each shard holds at most the capacity divided by their number, rounded up, so together they may
+    /// hold slightly more. Returns `NoSegments` for 0 shards, `TooManySegments` for more than 65,536, and `OutOfMemory` if there is not
+    /// enough memory.
     pub fn new(alloc: Global, max_capacity: u64, shards: usize, env: E) -> Result<Self, BuildError>
         ensures shows { IfOk result (λ cache. ShowsPlan (record blank {
           max_capacity = Some max_capacity;
@@ -234,9 +234,9 @@ impl<
     }
 
     /// Invalidates the values that were written before and for which the predicate returns true, in all shards or, if the call is refused,
-    /// in none. It holds the locks of all shards.
-    /// Returns `InvalidationClosuresDisabled` if the builder did not call `support_invalidation_closures`, `IdsInUse` if each of a thousand
-    /// identifiers that were drawn for a shard is already registered there, and otherwise an error only for lack of memory or of numbers.
+    /// in none. The call holds the locks of all shards. Returns `InvalidationClosuresDisabled` if the builder did not call
+    /// `support_invalidation_closures`, `IdsInUse` if each of a thousand identifiers that were drawn for a shard is already registered
+    /// there, `OutOfMemory` if there is not enough memory, and `UsedUp` if the cache's 64-bit numbers are used up.
     /// ```
     /// cache.invalidate_entries_if(&rt, KeyPrefix(prefix))?;
     /// ```

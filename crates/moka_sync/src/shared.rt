@@ -22,7 +22,7 @@ fn pause(turns: u32) {
 }
 
 /// What threads share of a cache: a desk under one lock, and a condition variable that signals that a turn ended. Whenever the lock is
-/// taken, what it guards keeps what a lent cache keeps between calls.
+/// taken, what the lock guards keeps what a lent cache keeps between calls.
 #[derive(Drop)]
 pub struct SharedDesk<K: Eq + Hash, V, S: BuildHasher, R: Rules<K, V>, E, C = Single> {
     pub(crate) alloc: Global,
@@ -38,7 +38,7 @@ impl<
     E: Env + Drop,
     C: Drop,
 > SharedDesk<K, V, S, R, E, C> {
-    /// Shares a lent cache, of which no turn is under way, with the environment that gives its moments.
+    /// Shares a lent cache, of which no turn is under way, with the environment that gives the cache its moments.
     pub fn new(alloc: Global, state: LentState<K, V, S, R, C>, env: E) -> Self {
         SharedDesk {
             alloc,
@@ -47,8 +47,8 @@ impl<
         }
     }
 
-    /// Takes the lock, which is released when the guard is dropped. May wait for it: the lock is tried for some 5 microseconds, with pauses
-    /// of 1, 2, 4 .. 32 turns between, before the caller sleeps until it is free.
+    /// Takes the lock, which is released when the guard is dropped. The call may wait for the lock: the lock is tried for some 5
+    /// microseconds, with pauses of 1, 2, 4 .. 32 turns between, before the caller sleeps until it is free.
     pub fn lock<H: Wait>(&self, rt: &H) -> MutexGuard<'_, Desk<K, V, S, R, E, C>> {
         let mut turns = 1u32;
         for _ in 0..TRIES {

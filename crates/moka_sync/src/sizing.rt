@@ -1,8 +1,8 @@
 //! How many shards a cache has.
 ghost use Rattle.moka_sync.specs.Sizing.{IsShardCount};
 
-/// The number of shards that suits so many cores and this capacity, a power of two: four for each core, at least 16 and at most 65,536, but
-/// at most so many that each has a share of 100 entries.
+/// Returns the number of shards that suits so many cores and this capacity, a power of two: four for each core, at least 16 and at most
+/// 65,536, but at most so many that each has a share of 100 entries.
 /// ```
 /// let builder = CacheBuilder::new(1_000_000).shards(shards_for(8, 1_000_000));
 /// ```

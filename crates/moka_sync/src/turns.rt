@@ -348,7 +348,7 @@ impl<
     }
 
     /// Like `coalesce`, with a `replace_if` that is called once, on the value that is visible when the call begins. A value that is written
-    /// after that is not passed over.
+    /// after that is not passed over. Returns the errors of `get_with`.
     pub fn coalesce_asking_once<
         H: Wait,
         A: Asked<K>,
@@ -376,8 +376,8 @@ impl<
     }
 
     /// Returns the visible value of a key, unless `replace_if` returns true for it, and false; or else what `make` makes, and true. All
-    /// this happens in one hold of the lock, and the call waits for nobody else. **Both closures run under the lock, and must not call the
-    /// cache.**
+    /// this happens in one hold of the lock, and the call waits for nobody else. Returns `OutOfMemory` if there is not enough memory, and
+    /// `UsedUp` if the cache's 64-bit numbers are used up. **Both closures run under the lock, and must not call the cache.**
     pub fn coalesce_now<
         H: Wait,
         P: FnOnce(&V) -> bool + Drop,

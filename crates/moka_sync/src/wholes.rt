@@ -11,9 +11,9 @@ use std::hash::{BuildHasher, Hash};
 use std::sync::Wait;
 use sync_desk::Env;
 
-/// The older name of `run_pending_tasks`.
+/// The older name of `run_pending_tasks`, as a trait.
 pub trait ConcurrentCacheExt {
-    /// Runs maintenance to its end, like `run_pending_tasks`.
+    /// Runs maintenance to its end, like `run_pending_tasks`, and returns its error.
     fn sync(&self, rt: &impl Wait) -> Result<(), CacheError>
         ensures cause { IfErr result (λ e. e ≡ errors.UsedUp) };
 }
@@ -40,7 +40,8 @@ impl<
 > SharedCache<K, V, S, R, E, Single> {
     /// Invalidates the values that were written before and for which the predicate returns true. Returns the identifier of the predicate.
     /// Returns `InvalidationClosuresDisabled` if the builder did not call `support_invalidation_closures`, `IdsInUse` if each of a thousand
-    /// identifiers that were drawn is already registered, and otherwise an error only for lack of memory or of numbers.
+    /// identifiers that were drawn is already registered, `OutOfMemory` if there is not enough memory, and `UsedUp` if the cache's 64-bit
+    /// numbers are used up.
     /// ```
     /// let id = cache.invalidate_entries_if(&rt, KeyPrefix(prefix))?;
     /// ```
@@ -65,9 +66,9 @@ impl<
     E: Env + Drop,
 > SharedCache<K, V, S, R, E, Segmented> {
     /// Invalidates the values that were written before and for which the predicate returns true, in all segments or, if the call is
-    /// refused, in none.
-    /// Returns `InvalidationClosuresDisabled` if the builder did not call `support_invalidation_closures`, `IdsInUse` if each of a thousand
-    /// identifiers that were drawn for a segment is already registered there, and otherwise an error only for lack of memory or of numbers.
+    /// refused, in none. Returns `InvalidationClosuresDisabled` if the builder did not call `support_invalidation_closures`, `IdsInUse` if
+    /// each of a thousand identifiers that were drawn for a segment is already registered there, `OutOfMemory` if there is not enough
+    /// memory, and `UsedUp` if the cache's 64-bit numbers are used up. (`moka` may stop halfway over the segments.)
     /// ```
     /// cache.invalidate_entries_if(&rt, KeyPrefix(prefix))?;
     /// ```
@@ -92,8 +93,9 @@ impl<
     E: Env + Drop,
     C: Drop,
 > SharedCache<K, V, S, R, E, C> {
-    /// Takes the oldest notice of the first segment that has one: a key, its value, and why it left. A cache has notices only if its
-    /// builder called `report_removals`. They are kept until they are taken. With shards, the search begins where it found one last.
+    /// Takes the oldest notice of the first segment that has one: a key, its value, and why it left. Returns `None` if no segment has one.
+    /// A cache has notices only if its builder called `report_removals`. Notices are kept until they are taken. With shards, the search
+    /// begins where it found one last.
     /// ```
     /// if let Some(notice) = cache.next_notice(&rt) {
     ///     log(&notice.key, notice.cause);
@@ -103,8 +105,8 @@ impl<
         self.inner.desks.next_notice(rt)
     }
 
-    /// Adds notices to a vector, as many as it has room for, the oldest of a segment first. It takes each lock at most once, and allocates
-    /// nothing. With shards, each call begins one shard further than the one before it.
+    /// Adds notices to a vector, as many as it has room for, the oldest of a segment first. The call takes each lock at most once, and
+    /// allocates nothing. With shards, each call begins one shard further than the one before it.
     /// ```
     /// let mut notices = Vec::with_capacity(alloc, 1000)?;
     /// cache.take_notices(&rt, &mut notices);

@@ -9,7 +9,7 @@ use std::alloc::{AllocError, Global};
 use std::marker::Model;
 use std::mem;
 
-/// The maximum number of cells.
+/// The maximum number of cells: 2^32 - 2.
 pub const MOST_CELLS: u32 = u32::MAX - 1;
 
 /// Storage for values of two parts, each under a key that the slab picks. There are `MOST_CELLS` keys.
@@ -46,7 +46,7 @@ impl<A, B> Model for Cells<A, B> {
 }
 
 impl<A, B> Cells<A, B> {
-    /// Creates a slab without cells. This allocates nothing.
+    /// Creates a slab without cells. The call allocates nothing.
     pub fn new(alloc: Global) -> Self
         ensures slots { result.slots ≡ [] }
     {
@@ -71,7 +71,8 @@ impl<A, B> Cells<A, B> {
         self.next
     }
 
-    /// Reserves room for `additional` more values, which then allocate nothing. More than `MOST_CELLS` cells are refused.
+    /// Reserves room for `additional` more values, which then allocate nothing. Returns an error if there would be more than `MOST_CELLS`
+    /// cells or there is not enough memory; the values then stay as they are.
     pub fn reserve(&mut self, additional: usize) -> Result<(), AllocError>
         ensures room { OnOk result (HasRoomFor self.new additional) }
         ensures fits { OnOk result (slab_len self.new + additional ≤ 2 ^ 32 - 2) }
@@ -86,7 +87,7 @@ impl<A, B> Cells<A, B> {
         self.cells.reserve(additional.saturating_sub(vacant))
     }
 
-    /// Stores a value and returns its key. There must be room.
+    /// Stores a value of two parts and returns its key, which is the vacant one. There must be room for it.
     pub fn insert_reserved(&mut self, first: A, second: B) -> u32
         requires { HasRoomFor self.old 1 }
         ensures key { result ≡ self.old.vacant_key }
@@ -133,7 +134,7 @@ impl<A, B> Cells<A, B> {
         }
     }
 
-    /// Returns the two parts of the value at `key`, if there is one.
+    /// Returns the two parts of the value at `key`, or `None` if there is no value at it.
     pub fn get(&self, key: u32) -> Option<(&A, &B)>
         ensures value { option_map (λ parts. (parts.0.now, parts.1.now)) result ≡ get self.now key }
         ensures key_in_range { IsSome result → key < 2 ^ 32 - 2 }

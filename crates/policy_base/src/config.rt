@@ -8,14 +8,18 @@ use std::time::Duration;
 /// at in one batch.
 #[derive(Clone, Copy, Debug, PartialEq, Eq)]
 pub struct HousekeeperConfig {
+    /// For how long a run goes on.
     pub maintenance_task_timeout: Duration,
+    /// How many times a run goes through the pending operations.
     pub max_log_sync_repeats: u32,
+    /// How many records a run looks at in one batch, at least 1.
     pub eviction_batch_size: u32,
+    /// The range of `eviction_batch_size`.
     pub ghost has_batch: { 1 ≤ eviction_batch_size },
 }
 
 impl HousekeeperConfig {
-    /// Creates limits. A batch has at least one record.
+    /// Creates limits. `eviction_batch_size` must be at least 1.
     pub fn new(
         maintenance_task_timeout: Duration,
         max_log_sync_repeats: u32,
@@ -48,7 +52,8 @@ impl Default for HousekeeperConfig {
     }
 }
 
-/// Returns the number of hashes for which a sketch is made, if a cache holds this many.
+/// Returns the number of hashes for which a sketch is made if a cache has this capacity: the capacity itself, at least 128 and at most 2^32
+/// - 1.
 pub fn sketch_capacity(capacity: u64) -> u32
     ensures { result ≡ min (max capacity 128) (2 ^ 32 - 1) }
 {

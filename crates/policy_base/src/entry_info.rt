@@ -141,7 +141,7 @@ impl<K> EntryInfo<K> {
         }
     }
 
-    /// Returns whether a write is not yet applied.
+    /// Returns whether the entry has a write that is not yet applied.
     pub fn is_dirty(&self) -> bool
         ensures { IsTrue result ↔ (self.now.entry_gen ≢ self.now.policy_gen) }
     {
@@ -183,7 +183,7 @@ impl<K> EntryInfo<K> {
         self.is_retired
     }
 
-    /// Notes that the entry has left the cache. It must not have left before.
+    /// Notes that the entry, which must not have left before, has left the cache.
     pub fn retire(&mut self)
         requires { self.old.is_retired ≡ false }
         ensures { self.new ≡ record self.old { is_retired = true } }
@@ -191,14 +191,14 @@ impl<K> EntryInfo<K> {
         self.is_retired = true;
     }
 
-    /// Returns the entry's own expiration.
+    /// Returns the moment at which the entry expires by itself, or `None` if it does not.
     pub fn expiration_time(&self) -> Option<Instant>
         ensures { result ≡ self.now.expiration_time }
     {
         self.expiration_time
     }
 
-    /// Returns the entry's own expiration, with its generation.
+    /// Returns the moment at which the entry expires by itself, if it does, with the generation of this expiration, from 0 to 4095.
     pub fn expiration_state(&self) -> (Option<Instant>, u16)
         ensures time { result.0 ≡ self.now.expiration_time }
         ensures generation { result.1 ≡ self.now.expiry_gen }
@@ -207,7 +207,8 @@ impl<K> EntryInfo<K> {
         (self.expiration_time, self.expiry_gen)
     }
 
-    /// Sets the entry's own expiration, rounded down to a multiple of 4096 nanoseconds, and starts its next generation.
+    /// Sets the moment at which the entry expires by itself, rounded down to a multiple of 4096 nanoseconds, or that it does not, and
+    /// starts the next generation of its expiration.
     pub fn set_expiration_time(&mut self, time: Option<Instant>)
         ensures { self.new ≡ record self.old {
           expiration_time

@@ -25,7 +25,7 @@ impl Model for Instant {
 }
 
 impl Instant {
-    /// Returns the moment with this number.
+    /// Returns the moment with this number of nanoseconds, at most `MAX_NANOS`.
     pub fn from_nanos(nanos: u64) -> Self
         requires { nanos ≤ MAX_NANOS }
         ensures { result ≡ nanos }
@@ -42,7 +42,7 @@ impl Instant {
         }
     }
 
-    /// Returns the moment's number.
+    /// Returns the number of nanoseconds from the clock's start to the moment.
     pub fn as_nanos(self) -> u64
         ensures nanos { result ≡ self }
         ensures in_range { result ≤ MAX_NANOS }
@@ -90,16 +90,20 @@ pub trait AccessTime {
     /// The moment of the last write.
     ghost modified: { Self → ℕ };
 
+    /// Returns the moment of the last use.
     fn last_accessed(&self) -> Instant
         ensures { result ≡ accessed self.now };
 
+    /// Returns the moment of the last write.
     fn last_modified(&self) -> Instant
         ensures { result ≡ modified self.now };
 
+    /// Sets the moment of the last use. The moment of the last write stays.
     fn set_last_accessed(&mut self, moment: Instant)
         ensures accessed { accessed self.new ≡ moment }
         ensures modified { modified self.new ≡ modified self.old };
 
+    /// Sets the moment of the last write. The moment of the last use stays.
     fn set_last_modified(&mut self, moment: Instant)
         ensures accessed { accessed self.new ≡ accessed self.old }
         ensures modified { modified self.new ≡ moment };

@@ -12,7 +12,9 @@ use std::sync::Arc;
 /// A key with its hash.
 #[derive(Drop)]
 pub struct KeyHash<K> {
+    /// The key, which others may share.
     pub key: Arc<K>,
+    /// The hash of the key.
     pub hash: u64,
 }
 
@@ -27,7 +29,7 @@ impl<K> KeyHash<K> {
 }
 
 impl<K: Drop> KeyHash<K> {
-    /// Returns the same key with the same hash.
+    /// Returns the same key with the same hash. Returns an error if there is not enough memory.
     pub fn clone(&self) -> Result<Self, AllocError>
         ensures key { IfOk result (λ copy. arc_value copy.key ≡ arc_value self.now.key) }
         ensures hash { IfOk result (λ copy. copy.hash ≡ self.now.hash) }
@@ -42,6 +44,7 @@ impl<K: Drop> KeyHash<K> {
 /// An entry, as a queue holds it.
 #[derive(Clone, Copy, Debug, PartialEq, Eq)]
 pub struct KeyHashDate {
+    /// The number of the entry.
     pub entry: usize,
 }
 
@@ -57,7 +60,9 @@ impl KeyHashDate {
 /// A value with its entry's number.
 #[derive(Drop)]
 pub struct ValueEntry<V> {
+    /// The value itself.
     pub value: V,
+    /// The number of the value's entry.
     pub entry: usize,
 }
 
@@ -85,7 +90,9 @@ impl<V> ValueEntry<V> {
 /// A key with its value and its entry's number.
 #[derive(Drop)]
 pub struct KvEntry<K, V> {
+    /// The key, which others may share.
     pub key: Arc<K>,
+    /// The value with its entry's number.
     pub entry: ValueEntry<V>,
 }
 
@@ -100,7 +107,7 @@ impl<K, V> KvEntry<K, V> {
 }
 
 impl<K: Drop, V: Clone> KvEntry<K, V> {
-    /// Returns the same key with a clone of the value.
+    /// Returns the same key with a clone of the value. Returns an error if there is not enough memory.
     pub fn clone(&self) -> Result<Self, AllocError>
         ensures key { IfOk result (λ copy. arc_value copy.key ≡ arc_value self.now.key) }
         ensures value { IfOk result (λ copy. V.is_clone self.now.entry.value copy.entry.value) }
@@ -121,8 +128,11 @@ impl<K: Drop, V: Clone> KvEntry<K, V> {
 /// A value that was replaced, with what its entry knew about it.
 #[derive(Drop)]
 pub struct OldEntryInfo<V> {
+    /// The value that was replaced, with its entry's number.
     pub entry: ValueEntry<V>,
+    /// The moment of the entry's last use before.
     pub last_accessed: Instant,
+    /// The moment of the entry's last write before.
     pub last_modified: Instant,
 }
 
@@ -174,7 +184,7 @@ pub enum WriteOp<K, V> {
 impl<K: Drop, V: Clone> WriteOp<K, V> {
     ghost use Rattle.policy_base.specs.Operations.{IsCopy};
 
-    /// Returns the same operation.
+    /// Returns the same operation. Returns an error if there is not enough memory.
     pub fn clone(&self) -> Result<Self, AllocError>
         ensures { IfOk result (IsCopy V.is_clone self.now) }
     {
@@ -215,6 +225,7 @@ impl<K, V> fmt::Debug for WriteOp<K, V> {
 /// What a node of a queue holds.
 #[derive(Clone, Copy, Debug, PartialEq, Eq)]
 pub struct DeqNode<T> {
+    /// The element that the node holds.
     pub element: T,
 }
 
@@ -230,12 +241,16 @@ impl<T> DeqNode<T> {
 /// The places of an entry in the queues and among the timers.
 #[derive(Clone, Copy, Debug, PartialEq, Eq)]
 pub struct DeqNodes {
+    /// The entry's node in the queue of its region, which is in order of use, if it has one.
     pub access_queue: Option<NodeId>,
+    /// The entry's node in the queue in order of writes, if it has one.
     pub write_queue: Option<NodeId>,
+    /// The entry's timer, if it has one.
     pub timer: Option<NodeId>,
 }
 
 impl DeqNodes {
+    /// Creates the places of an entry.
     pub fn new(
         access_queue: Option<NodeId>,
         write_queue: Option<NodeId>,
@@ -270,7 +285,9 @@ impl Default for DeqNodes {
 /// An entry with its places.
 #[derive(Drop)]
 pub struct Slot<K> {
+    /// What is known about the entry.
     pub info: EntryInfo<K>,
+    /// The entry's places.
     pub nodes: DeqNodes,
 }
 

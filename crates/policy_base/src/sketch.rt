@@ -199,7 +199,7 @@ fn wanted_words(capacity: u32) -> usize
 }
 
 impl FrequencySketch {
-    /// Creates a sketch without a table.
+    /// Creates a sketch without a table. The call allocates nothing.
     pub fn default(alloc: Global) -> Self
         ensures words { result.words ≡ 0 }
         ensures counts { result.counts ≡ [] }
@@ -212,8 +212,8 @@ impl FrequencySketch {
         }
     }
 
-    /// Creates a table for this many hashes, unless there is one as large. It has as many words as the next power of two, at most 2^24,
-    /// and each count in it is 0. Returns an error if there is no memory for it; then nothing has changed.
+    /// Creates a table for this many hashes, unless there is one as large. The table has as many words as the next power of two, at most
+    /// 2^24, and each count in it is 0. Returns an error if there is no memory for it; then nothing has changed.
     pub fn ensure_capacity(&mut self, capacity: u32) -> Result<(), AllocError>
         ensures grown { OnOk result ((words : ℕ) × IsNextPowerOfTwo (min capacity (2 ^ 24)) words
             × (self.new ≡ grown self.old words capacity)) }
@@ -238,7 +238,7 @@ impl FrequencySketch {
         self.table.len() > 0
     }
 
-    /// Returns the minimum of the hash's four counts, or 0 without a table.
+    /// Returns the minimum of the hash's four counts, from 0 to 15, or 0 without a table.
     pub fn frequency(&self, hash: u64) -> u8
         ensures least { result ≡ frequency_of self.now hash }
         ensures top { result ≤ 15 }
@@ -250,7 +250,7 @@ impl FrequencySketch {
         least_count(table, hash)
     }
 
-    /// Counts the hash once more.
+    /// Counts the hash once more, up to 15, and halves all counts when enough were counted. Without a table nothing changes.
     pub fn increment(&mut self, hash: u64)
         ensures { self.new ≡ incremented self.old hash }
     {

@@ -19,7 +19,7 @@ use thiserror::Error;
 #[error("stale")]
 pub struct Stale;
 
-/// Why a push was refused, with the element.
+/// Why a push was refused, with the element that was to be appended.
 #[derive(Debug, Drop, Error)]
 pub enum PushError<T> {
     /// There was not enough memory for a node.
@@ -74,7 +74,7 @@ impl<T> Model for Deque<T> {
 impl<T: Drop> Deque<T> {
     ghost use Rattle.policy_queue.specs.Walks.{walks};
 
-    /// Creates an empty queue. This allocates nothing.
+    /// Creates an empty queue. The call allocates nothing.
     pub fn new(alloc: Global, region: CacheRegion) -> Self
         ensures nodes { result.nodes ≡ [] }
         ensures region { result.region ≡ region }
@@ -97,7 +97,7 @@ impl<T: Drop> Deque<T> {
         self.slots.len()
     }
 
-    /// Returns whether the queue has the node.
+    /// Returns whether the queue has a node of this name.
     pub fn contains(&self, id: NodeId) -> bool
         ensures { IsTrue result ↔ IsSome (find id self.now.nodes) }
     {
@@ -111,7 +111,7 @@ impl<T: Drop> Deque<T> {
         self.region
     }
 
-    /// Returns the first element.
+    /// Returns the first element, or `None` if the queue is empty.
     pub fn peek_front(&self) -> Option<&T>
         ensures { option_copied result ≡ option_map (λ n. n.element) (head self.now.nodes) }
     {
@@ -121,7 +121,7 @@ impl<T: Drop> Deque<T> {
         }
     }
 
-    /// Returns the name of the first node.
+    /// Returns the name of the first node, or `None` if the queue is empty.
     pub fn peek_front_ptr(&self) -> Option<NodeId>
         ensures { result ≡ option_map (λ n. n.id) (head self.now.nodes) }
     {
@@ -131,7 +131,7 @@ impl<T: Drop> Deque<T> {
         }
     }
 
-    /// Returns the last element.
+    /// Returns the last element, or `None` if the queue is empty.
     pub fn peek_back(&self) -> Option<&T>
         ensures { option_copied result ≡ option_map (λ n. n.element) (final self.now.nodes) }
     {
@@ -141,7 +141,8 @@ impl<T: Drop> Deque<T> {
         }
     }
 
-    /// Returns the first element, from the front on, for which `passes` returns true. `passes` is not called on any element after that one.
+    /// Returns the first element, from the front on, for which `passes` returns true, or `None` if there is none. `passes` is not called on
+    /// any element after that one.
     pub fn first_where<F: Fn(&T) -> bool>(&self, passes: F) -> Option<&T>
         requires { F.IsAlwaysCallable passes }
         ensures found { IfSome result
@@ -159,7 +160,8 @@ impl<T: Drop> Deque<T> {
         None
     }
 
-    /// Reserves room for `n` pushes, which then allocate nothing and are not refused.
+    /// Reserves room for `n` pushes, which then allocate nothing and are not refused. Returns `UsedUp` if the queue would then have had
+    /// more than 2^64 - 1 nodes, and `OutOfMemory` if there is not enough memory; the nodes then stay as they are.
     pub fn reserve(&mut self, n: usize) -> Result<(), ReserveError>
         ensures room { OnOk result (n ≤ self.new.room) }
         ensures had_room { n ≤ self.old.room → IsOk result }
@@ -179,7 +181,8 @@ impl<T: Drop> Deque<T> {
         Ok(())
     }
 
-    /// Appends an element and returns the name of its node, or returns the element in the error.
+    /// Appends an element and returns the name of its node. Returns the element in `UsedUp` if the queue has had 2^64 - 1 nodes, and in
+    /// `OutOfMemory` if there is not enough memory for a node; the nodes then stay as they are.
     pub fn push_back(&mut self, element: T) -> Result<NodeId, PushError<T>>
         ensures pushes { IfOk result (λ id. Pushes self.old self.new id element) }
         ensures had_room { 0 < self.old.room → IsOk result }
@@ -263,7 +266,7 @@ impl<T: Drop> Deque<T> {
         Ok(())
     }
 
-    /// Removes the first node and returns its element.
+    /// Removes the first node and returns its element, or `None` if the queue is empty.
     pub fn pop_front(&mut self) -> Option<T>
         ensures value { result ≡ option_map (λ n. n.element) (head self.old.nodes) }
         ensures leaves { MatchOption (head self.old.nodes) (self.new ≡ self.old)
@@ -278,7 +281,7 @@ impl<T: Drop> Deque<T> {
         }
     }
 
-    /// Moves the first node to the back.
+    /// Moves the first node, which keeps its name, to the back. An empty queue stays as it is.
     pub fn move_front_to_back(&mut self)
         ensures { MatchOption (head self.old.nodes) (self.new ≡ self.old)
             (λ n. MovesToBack self.old self.new n.id) }
@@ -317,7 +320,8 @@ impl<T: Drop> Deque<T> {
         }
     }
 
-    /// Returns the name of the node after this one.
+    /// Returns the name of the node after the node with this name, or `None` after the last one. Returns `Stale` if the queue does not have
+    /// the node.
     pub fn next_node_ptr(&self, id: NodeId) -> Result<Option<NodeId>, Stale>
         ensures { MatchResult result (λ next. IsSome (find id self.now.nodes)
             × (next ≡ option_map (λ n. n.id) (head (tail (from_id id self.now.nodes)))))
@@ -346,7 +350,7 @@ impl<T: Drop> Deque<T> {
         }
     }
 
-    /// Returns the name of the next node of the walk.
+    /// Returns the name of the next node of the walk, from the front on; after the last one `None`, and then the first one again.
     pub fn next_id(&mut self) -> Option<NodeId>
         ensures value { result
             ≡ option_map (λ n. n.id) (head (to_give self.old.cursor self.old.nodes)) }

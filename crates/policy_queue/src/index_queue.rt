@@ -61,7 +61,7 @@ impl Model for IndexQueue {
 }
 
 impl IndexQueue {
-    /// Creates an empty queue. This allocates nothing.
+    /// Creates an empty queue. The call allocates nothing.
     pub fn new(alloc: Global) -> Self
         ensures indices { result.indices ≡ [] }
         ensures bound { result.bound ≡ 0 }
@@ -97,7 +97,7 @@ impl IndexQueue {
         }
     }
 
-    /// Returns the first index.
+    /// Returns the first index, or `None` if the queue is empty.
     #[tactic(auto, using(crate::proofs::Arranged::head_front))]
     pub fn first(&self) -> Option<u32>
         ensures { result ≡ head self.now.indices }
@@ -108,7 +108,7 @@ impl IndexQueue {
         Some(self.places[self.cursors.front])
     }
 
-    /// Returns the last index.
+    /// Returns the last index, or `None` if the queue is empty.
     #[tactic(auto, using(crate::proofs::Arranged::final_last))]
     pub fn last(&self) -> Option<u32>
         ensures { result ≡ final self.now.indices }
@@ -119,7 +119,7 @@ impl IndexQueue {
         Some(self.places[self.places.len() - 1])
     }
 
-    /// Returns the index after this one, which must be in the queue.
+    /// Returns the index after this one, which must be in the queue, or `None` if this is the last one.
     #[tactic(auto, using(crate::proofs::Arranged::seat_there, crate::proofs::Arranged::place_there))]
     pub fn behind(&self, index: u32) -> Option<u32>
         requires { IsTrue (has_index index self.now.indices) }
@@ -140,7 +140,8 @@ impl IndexQueue {
         self.places.as_slice()
     }
 
-    /// Reserves room for `n` more indices, each below `bound`: their pushes then allocate nothing.
+    /// Reserves room for `n` more indices, each below `bound`: their pushes then allocate nothing. Returns an error if there would be too
+    /// many indices or there is not enough memory; the indices then stay as they are.
     #[inline]
     pub fn reserve(&mut self, n: usize, bound: u32) -> Result<(), AllocError>
         ensures room { OnOk result (n ≤ self.new.room) }
@@ -156,7 +157,7 @@ impl IndexQueue {
         reserve_seats(&mut self.seats, bound as usize)
     }
 
-    /// Appends an index that is not in the queue.
+    /// Appends an index that is not in the queue. There must be room for it.
     #[tactic(auto, using(crate::proofs::Order::order_push, crate::proofs::Listed::lacks_not_had))]
     pub fn push_back(&mut self, index: u32)
         requires new { has_index index self.old.indices ≡ false }

@@ -13,15 +13,20 @@ use std::alloc::AllocError;
 /// An element with its name.
 #[derive(Drop)]
 pub struct Node<T> {
+    /// The name of the node.
     pub id: NodeId,
+    /// The element that the node holds.
     pub element: T,
 }
 
 /// The position of a walk: before its start, at the node that it returns next, or after the last one.
 #[derive(Clone, Copy)]
 pub enum Cursor {
+    /// Before the walk's start: the first node is returned next.
     Unstarted,
+    /// At the node with this name, which is returned next.
     At(NodeId),
+    /// After the last node.
     Done,
 }
 

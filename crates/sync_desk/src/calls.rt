@@ -23,7 +23,8 @@ impl<
     E: Env + Drop,
     C: Drop,
 > Desk<K, V, S, R, E, C> {
-    /// Returns a clone of the visible value of a key, which counts as a use of it.
+    /// Returns a clone of the visible value of a key, or `None`, which counts as a use of it. Returns `OutOfMemory` if there is no memory
+    /// for the clone, and `UsedUp` if 2^64 - 1 calls have been made; then nothing has changed.
     pub fn get(&mut self, key: &K) -> Result<Option<V>, CacheError>
         requires exact { (x y : V) → V.is_clone x y → y ≡ x }
         ensures found { IfOk result
@@ -38,7 +39,7 @@ impl<
         self.get_by_name(&LentKey { key })
     }
 
-    /// Returns whether a key has a visible value. It does not count as a use, and changes nothing.
+    /// Returns whether a key has a visible value. The call does not count as a use, and changes nothing.
     pub fn contains_key(&mut self, key: &K) -> bool
         ensures found { (found : Option V)
             × SeesAsDrawn ⟦<R as HasWays<K, V, S>>⟧.ways key.now self.old.state found
@@ -50,7 +51,8 @@ impl<
         self.contains_key_by_name(&LentKey { key })
     }
 
-    /// Inserts a value. A cache of capacity 0 stores none.
+    /// Inserts a value. A cache of capacity 0 stores none. Returns `OutOfMemory` if there is not enough memory, and `UsedUp` if 2^64 - 1
+    /// calls have been made or the 64-bit numbers of writes are used up; then nothing has changed.
     pub fn insert(&mut self, key: K, value: V) -> Result<(), CacheError>
         ensures inserts { OnOk result (InsertsAsDrawn ⟦<R as HasWays<K, V, S>>⟧.ways key value
             self.old.state self.new.state) }
@@ -82,7 +84,9 @@ impl<
         }
     }
 
-    /// Removes a key, whether its deadline has come or not, and returns its value.
+    /// Removes a key, whether its deadline has come or not, and returns its value, or `None` if nothing is held under it. Returns
+    /// `OutOfMemory` if there is not enough memory, and `UsedUp` if 2^64 - 1 calls have been made or the 64-bit numbers of writes are used
+    /// up; then nothing has changed.
     pub fn remove(&mut self, key: &K) -> Result<Option<V>, CacheError>
         requires exact { (x y : V) → V.is_clone x y → y ≡ x }
         ensures value { IfOk result (λ value. value
@@ -100,7 +104,8 @@ impl<
         self.remove_by_name(&LentKey { key })
     }
 
-    /// Removes a key, whether its deadline has come or not.
+    /// Removes a key, whether its deadline has come or not. Returns `OutOfMemory` if there is not enough memory, and `UsedUp` if 2^64 - 1
+    /// calls have been made or the 64-bit numbers of writes are used up; then nothing has changed.
     pub fn invalidate(&mut self, key: &K) -> Result<(), CacheError>
         requires exact { (x y : V) → V.is_clone x y → y ≡ x }
         ensures removes { OnOk result (RemovesAsDrawn ⟦<R as HasWays<K, V, S>>⟧.ways key.now
@@ -116,7 +121,7 @@ impl<
         self.invalidate_by_name(&LentKey { key })
     }
 
-    /// Covers every value that was written before.
+    /// Invalidates every value that was written before. Returns `UsedUp` if 2^64 - 1 calls have been made; then nothing has changed.
     pub fn invalidate_all(&mut self) -> Result<(), CacheError>
         ensures clears { OnOk result (ClearsAsDrawn self.old.state self.new.state) }
         ensures err { OnErr result (self.new.state ≡ self.old.state) }
@@ -132,7 +137,7 @@ impl<
         Ok(())
     }
 
-    /// Runs maintenance to its end.
+    /// Runs maintenance to its end. Returns `UsedUp` if 2^64 - 1 calls have been made; then nothing has changed.
     pub fn run_pending_tasks(&mut self) -> Result<(), CacheError>
         ensures runs { OnOk result (RunsAsDrawn R.answers self.old.state self.new.state) }
         ensures err { OnErr result (self.new.state ≡ self.old.state) }

@@ -35,7 +35,7 @@ impl<
     E: Env + Drop,
     C: Drop,
 > Desk<K, V, S, R, E, C> {
-    /// A state with no turn under way, and the environment that gives its moments.
+    /// Creates what a lock guards, of a state with no turn under way and the environment that gives its moments.
     pub fn new(alloc: Global, state: LentState<K, V, S, R, C>, env: E) -> Self
         ensures { result.state ≡ state }
     {
@@ -64,8 +64,8 @@ impl<
         Some(At { now, step })
     }
 
-    /// Returns the step at which a value of a key, or of another key that shares its place, was last written. If it is the same as before,
-    /// so is the visible value, unless there is none any more.
+    /// Returns the step at which a value of a key, or of another key that shares its place, was last written. If the step is the same as
+    /// before, so is the visible value, unless there is none any more.
     pub fn last_write(&self, key: &K) -> u64
         ensures { result ≡ last_in (hash_in ⟦<R as HasWays<K, V, S>>⟧.ways self.now.state key.now)
             self.now.writes.steps }

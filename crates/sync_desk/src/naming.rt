@@ -23,7 +23,7 @@ impl<
     E: Env + Drop,
     C: Drop,
 > Desk<K, V, S, R, E, C> {
-    /// `get` by what names the key.
+    /// Does what `get` does, by what names the key, and returns its errors.
     pub fn get_by_name<Q: HashedName<K>>(&mut self, name: &Q) -> Result<Option<V>, CacheError>
         requires exact { (x y : V) → V.is_clone x y → y ≡ x }
         ensures found { IfOk result (LooksUpAsDrawn ⟦<R as HasWays<K, V, S>>⟧.ways
@@ -44,7 +44,7 @@ impl<
         }
     }
 
-    /// `contains_key` by what names the key.
+    /// Does what `contains_key` does, by what names the key.
     pub fn contains_key_by_name<Q: HashedName<K>>(&mut self, name: &Q) -> bool
         ensures found { (found : Option V)
             × SeesAsDrawn ⟦<R as HasWays<K, V, S>>⟧.ways (Q.named_key name.now)
@@ -58,7 +58,7 @@ impl<
         self.state.contains_key_by_name(name, now)
     }
 
-    /// `remove` by what names the key.
+    /// Does what `remove` does, by what names the key, and returns its errors.
     pub fn remove_by_name<Q: HashedName<K>>(&mut self, name: &Q) -> Result<Option<V>, CacheError>
         requires exact { (x y : V) → V.is_clone x y → y ≡ x }
         ensures value { IfOk result (λ value. value ≡ held_value_in
@@ -79,7 +79,7 @@ impl<
         self.state.remove_by_name(name, at)
     }
 
-    /// `invalidate` by what names the key.
+    /// Does what `invalidate` does, by what names the key, and returns its errors.
     pub fn invalidate_by_name<Q: HashedName<K>>(&mut self, name: &Q) -> Result<(), CacheError>
         requires exact { (x y : V) → V.is_clone x y → y ≡ x }
         ensures removes { OnOk result (RemovesAsDrawn ⟦<R as HasWays<K, V, S>>⟧.ways

@@ -21,8 +21,10 @@ impl<
     R: Rules<K, V> + Drop,
     E: Env + Drop,
 > Desk<K, V, S, R, E, Sharded> {
-    /// The first half of a predicate: makes room for it, and draws its identifier. `commit_cover` registers it, or `release_cover` gives
-    /// its room up; until then nothing is invalidated.
+    /// Does the first half of a predicate: makes room for it, and draws its identifier. `commit_cover` registers the predicate, or
+    /// `release_cover` gives its room up; until then nothing is invalidated. Returns `InvalidationClosuresDisabled` if the cache accepts no
+    /// predicates, `OutOfMemory`, `UsedUp` if the 64-bit numbers are used up, and `IdsInUse` if each of a thousand identifiers that were
+    /// drawn is registered; then the cache is as before.
     pub fn prepare_cover(&mut self) -> Result<u128, CacheError>
         ensures prepares { IfOk result (λ id. PreparesAsDrawn id self.old.state self.new.state) }
         ensures takes { OnOk result (self.old.state.common.settings.takes_predicates ≡ true) }
@@ -43,7 +45,7 @@ impl<
         }
     }
 
-    /// The second half, which is never refused: registers a predicate under its identifier, in the room that `prepare_cover` made.
+    /// Does the second half, which is never refused: registers a predicate under its identifier, in the room that `prepare_cover` made.
     pub fn commit_cover(&mut self, id: u128, predicate: Shared<R::Predicate>)
         requires room { FirstHasRoom self.old.state }
         requires steps { self.old.state.step + 1 < 2 ^ 64 }

@@ -31,9 +31,9 @@ use std::hash::{BuildHasher, Hash};
 /// How a call that makes a value begins.
 #[derive(Drop)]
 pub enum Start<A, V> {
-    /// The visible value.
+    /// The value of the key is visible.
     Found(V),
-    /// The turn of this number is under way. The caller waits for it, and may try again with this name of its key.
+    /// The turn of this number is under way. The caller waits for the turn, and may try again with this name of its key.
     Wait(u64, A),
     /// The turn of this number began, and the caller leads it.
     Lead(u64),
@@ -42,7 +42,7 @@ pub enum Start<A, V> {
 /// How a compute call begins.
 #[derive(Drop)]
 pub enum ComputeStart<V> {
-    /// The turn of this number is under way, and the caller waits for it.
+    /// The turn of this number is under way, and the caller waits for the turn.
     Wait(u64),
     /// The turn of this number began, and the caller leads it. The value is the visible one, which the call uses.
     Lead(u64, Option<V>),
@@ -58,8 +58,9 @@ impl<
 > Desk<K, V, S, R, E, C> {
     /// Begins a call that makes a value. Returns the visible value, which counts as a use of it; or the turn of this kind and key that is
     /// under way, for which the caller waits from now on; or a new turn. A visible value for which `replace_if` returns true counts as
-    /// none; `replace_if` is called here, and so under the lock.
-    /// The key is made only if a turn begins, and waiting allocates nothing.
+    /// none; `replace_if` is called here, and so under the lock. The key is made only if a turn begins, and waiting allocates nothing.
+    /// Returns `OutOfMemory` if there is not enough memory, and `UsedUp` if the 64-bit numbers of calls or turns, or of callers that wait
+    /// for a turn, are used up; then neither the cache nor the turns have changed.
     pub fn begin<A: Asked<K>, P: FnOnce(&V) -> bool + Drop>(
         &mut self,
         kind: TurnKind,
@@ -226,8 +227,9 @@ impl<
         }
     }
 
-    /// Begins a compute call. Returns the turn of this key that is under way, for which the caller waits from now on, or a new one. If the
-    /// value that it is to be shown is refused, the new turn is given up.
+    /// Begins a compute call. Returns the turn of this key that is under way, for which the caller waits from now on, or a new one. Returns
+    /// `OutOfMemory` if there is not enough memory, and `UsedUp` if the 64-bit numbers are used up. If only the clone of the value is
+    /// refused, the new turn is given up.
     pub fn begin_compute(&mut self, key: &Shared<K>) -> Result<ComputeStart<V>, CacheError>
         requires exact { (x y : V) → V.is_clone x y → y ≡ x }
         ensures begins { IfOk result (ComputesAsDrawn ⟦<R as HasWays<K, V, S>>⟧.ways key.now
@@ -276,8 +278,8 @@ impl<
         }
     }
 
-    /// Returns what became of a turn that the caller waits for. If it ended, or a clone of what it made is refused, the caller waits no
-    /// longer.
+    /// Returns what became of a turn that the caller waits for. If the turn ended, or a clone of what it made is refused, with
+    /// `OutOfMemory`, the caller waits no longer.
     pub fn look(
         &mut self,
         kind: TurnKind,
@@ -299,7 +301,8 @@ impl<
     }
 
     /// Ends the turn that the caller leads with what was made: a value is inserted, whatever happened to the key in the meantime, and those
-    /// that wait get clones. If an allocation or a clone is refused, the turn is given up.
+    /// that wait get clones. Returns `OutOfMemory` if there is not enough memory, `UsedUp` if the 64-bit numbers are used up, and
+    /// `UnknownTurn` if the turn is not under way. After an error the turn is given up.
     pub fn finish(
         &mut self,
         kind: TurnKind,
@@ -426,7 +429,7 @@ impl<
         Ok(())
     }
 
-    /// Gives up the turn that the caller leads: those that wait begin again. This cannot be refused.
+    /// Gives up the turn that the caller leads: those that wait begin again. The call is never refused.
     pub fn abandon(&mut self, kind: TurnKind, number: u64)
         ensures gives_up { GivesUp number self.old.state self.new.state }
         ensures told { ChangesAt kind number (ended GivenUp) self.old.slots.slots
@@ -439,7 +442,7 @@ impl<
         let _hash = self.slots.end(kind, number, Ending::GivenUp);
     }
 
-    /// Ends the compute turn that the caller leads by putting a value. If that is refused, the turn is given up.
+    /// Ends the compute turn that the caller leads by putting a value. Returns the errors of `finish`; then the turn is given up.
     pub fn put(&mut self, number: u64, value: V) -> Result<(), CacheError>
         ensures ends { OnOk result ((is_some (turn_at self.old.state.turns number) ≡ true)
             × FinishesAsDrawn ⟦<R as HasWays<K, V, S>>⟧.ways {F = R.Fault} number
@@ -464,8 +467,9 @@ impl<
         )
     }
 
-    /// Ends the compute turn that the caller leads by removing its key, whether its deadline has come or not, and returns its value. If
-    /// that is refused, the turn is given up.
+    /// Ends the compute turn that the caller leads by removing its key, whether its deadline has come or not, and returns its value, or
+    /// `None` if nothing is held. Returns `OutOfMemory` if there is not enough memory, and `UsedUp` if the 64-bit numbers are used up; then
+    /// the turn is given up.
     pub fn take_out(&mut self, number: u64, key: &K) -> Result<Option<V>, CacheError>
         requires exact { (x y : V) → V.is_clone x y → y ≡ x }
         ensures told { ChangesAt kinds.Compute number (ended GivenUp) self.old.slots.slots
@@ -484,7 +488,8 @@ impl<
     }
 
     /// Returns the visible value of a key, unless `replace_if` returns true for it, and false; or else what `make` makes, and true: a value
-    /// is then inserted. No turn is led or waited for: all this happens in one hold of the lock.
+    /// is then inserted. No turn is led or waited for: all this happens in one hold of the lock. Returns `OutOfMemory` if there is not
+    /// enough memory, and `UsedUp` if 2^64 - 1 calls have been made or the 64-bit numbers of writes are used up; then nothing has changed.
     pub fn coalesce_now<
         P: FnOnce(&V) -> bool + Drop,
         M: FnOnce() -> Result<Made<V, Shared<R::Fault>>, AllocError> + Drop,

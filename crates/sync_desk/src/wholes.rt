@@ -25,7 +25,9 @@ impl<
     E: Env + Drop,
 > Desk<K, V, S, R, E, Single> {
     /// Invalidates the values that were written before and for which the predicate returns true, in all segments or, if it is refused, in
-    /// none. Returns its identifier, in hyphenated form, 36 bytes in lower case.
+    /// none. Returns the predicate's identifier, in hyphenated form, 36 bytes in lower case. Returns `InvalidationClosuresDisabled` if the
+    /// cache accepts no predicates, `OutOfMemory` if there is not enough memory, `UsedUp` if the 64-bit numbers of calls or writes are used
+    /// up, and `IdsInUse` if each of a thousand identifiers that were drawn for a segment is registered there; then the cache is as before.
     pub fn invalidate_entries_if(
         &mut self,
         predicate: R::Predicate,
@@ -58,7 +60,9 @@ impl<
     E: Env + Drop,
 > Desk<K, V, S, R, E, Segmented> {
     /// Invalidates the values that were written before and for which the predicate returns true, in all segments or, if it is refused, in
-    /// none.
+    /// none. Returns `InvalidationClosuresDisabled` if the cache accepts no predicates, `OutOfMemory` if there is not enough memory,
+    /// `UsedUp` if the 64-bit numbers of calls or writes are used up, and `IdsInUse` if each of a thousand identifiers that were drawn for
+    /// a segment is registered there; then the cache is as before.
     pub fn invalidate_entries_if(&mut self, predicate: R::Predicate) -> Result<(), CacheError>
         ensures covers { OnOk result ((id : ℕ) × CoversAsDrawn predicate id self.old.state
             self.new.state) }
@@ -108,7 +112,7 @@ impl<
         }
     }
 
-    /// Takes the oldest notice of the first segment that has one.
+    /// Takes the oldest notice of the first segment that has one, or returns `None` if none has.
     pub fn next_notice(&mut self) -> Option<Notice<Shared<K>, V>>
         ensures notice { result ≡ next_told self.old.state.parts }
         ensures taken { self.new.state
@@ -120,6 +124,7 @@ impl<
     }
 
     /// Returns clones of the keys of a segment, including those of expired and invalidated values, or `None` if there is no such segment.
+    /// Returns `OutOfMemory` if there is no memory for the clones.
     pub fn keys(&self, segment: usize) -> Result<Option<Vec<Shared<K>>>, CacheError>
         requires exact { (x y : V) → V.is_clone x y → y ≡ x }
         ensures keys { IfOk result
@@ -133,7 +138,8 @@ impl<
         }
     }
 
-    /// Returns a clone of the visible value of a key. It does not count as a use, and changes nothing.
+    /// Returns a clone of the visible value of a key, or `None`. The call does not count as a use, and changes nothing. Returns
+    /// `OutOfMemory` if there is no memory for the clone.
     pub fn scan(&mut self, key: &K) -> Result<Option<V>, CacheError>
         requires exact { (x y : V) → V.is_clone x y → y ≡ x }
         ensures found { IfOk result

@@ -14,7 +14,7 @@ pub(crate) struct Writes {
 }
 
 impl Writes {
-    /// No writes yet.
+    /// Creates a table of no writes.
     pub fn new() -> Self {
         Writes { steps: [0; PLACES] }
     }
@@ -26,7 +26,7 @@ impl Writes {
         self.steps[place_of(hash)] = step;
     }
 
-    /// Returns when a value of a key with this hash was last written; 0 if none was.
+    /// Returns the step at which a value of a key with this hash was last written, or 0 if none was.
     pub fn last(&self, hash: u64) -> u64
         ensures { result ≡ last_in hash self.now.steps }
     {

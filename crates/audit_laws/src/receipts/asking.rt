@@ -5,7 +5,7 @@ ghost use Rattle.audit_laws.specs.Receipts.Answers.{input_of};
 use audit_model::{Bytes, Event, Input, Outcome, copy_bytes};
 use std::alloc::{AllocError, Global};
 
-/// Returns an input equal to this one, in memory of its own, or an error if there is not enough.
+/// Returns an input equal to this one, in memory of its own, or an error if there is not enough memory.
 pub fn copy_input(alloc: Global, input: &Input) -> Result<Input, AllocError>
     ensures { IfOk result (λ copy. copy ≡ input.now) }
 {
@@ -39,7 +39,7 @@ pub fn copy_input(alloc: Global, input: &Input) -> Result<Input, AllocError>
     }
 }
 
-/// Returns an outcome equal to this one, in memory of its own, or an error if there is not enough.
+/// Returns an outcome equal to this one, in memory of its own, or an error if there is not enough memory.
 pub fn copy_outcome(alloc: Global, outcome: &Outcome) -> Result<Outcome, AllocError>
     ensures { IfOk result (λ copy. copy ≡ outcome.now) }
 {

@@ -17,8 +17,8 @@ pub enum Output {
     Done,
 }
 
-/// Returns the output of the event of a record, as a service returns it: for an opening, its connection in that namespace. This allocates
-/// nothing.
+/// Returns the output of the event of a record, as a service returns it: for an opening, its connection in that namespace. The call
+/// allocates nothing.
 pub fn output_of(namespace: u64, entry: &Record) -> Output
     ensures { result ≡ output_of namespace entry.now }
 {

@@ -8,7 +8,7 @@ use crate::receipts::receipt::Receipt;
 use audit_model::Transcript;
 
 /// Returns whether these receipts of one namespace stand in its journal, in its order: their numbers rise strictly, and each is of the
-/// record with its number. Such receipts are a part of the journal (`receipts_in_order`). This allocates nothing.
+/// record with its number. Such receipts are a part of the journal (`receipts_in_order`). The call allocates nothing.
 pub fn receipts_stand(journal: &Transcript, receipts: &[Receipt]) -> bool
     ensures yes { result ≡ true → StandFrom 0 journal.now.records receipts.now }
     ensures no { result ≡ false → StandFrom 0 journal.now.records receipts.now → ⊥ }
@@ -24,7 +24,7 @@ pub fn receipts_stand(journal: &Transcript, receipts: &[Receipt]) -> bool
 }
 
 /// Returns whether the receipt is of the record with its number: its input asks for that record's event in its namespace, and its output is
-/// that of the record. This allocates nothing.
+/// that of the record. The call allocates nothing.
 pub fn stands(journal: &Transcript, receipt: &Receipt) -> bool
     ensures yes { result ≡ true → StandsInJournal journal.now.records receipt.now }
     ensures no { result ≡ false → StandsInJournal journal.now.records receipt.now → ⊥ }
@@ -45,7 +45,7 @@ pub fn stands(journal: &Transcript, receipt: &Receipt) -> bool
     }
 }
 
-/// Returns whether each receipt is of that namespace. This allocates nothing.
+/// Returns whether each receipt is of that namespace. The call allocates nothing.
 pub fn are_of(namespace: u64, receipts: &[Receipt]) -> bool
     ensures yes { result ≡ true → AreOf namespace receipts.now }
     ensures no { result ≡ false → AreOf namespace receipts.now → ⊥ }

@@ -4,34 +4,45 @@ use audit_model::{LineError, Outcome};
 /// What a step does: the commands, with deadlines in milliseconds, and what else there is.
 #[derive(Clone, Copy)]
 pub enum Doing<'a> {
+    /// `SET`.
     Set {
         key: &'a [u8],
         ms: Option<u64>,
         value: &'a [u8],
     },
+    /// `GET`.
     Get {
         key: &'a [u8],
     },
+    /// `HAS`.
     Has {
         key: &'a [u8],
     },
+    /// `LOAD`.
     Load {
         key: &'a [u8],
     },
+    /// `DEL`.
     Del {
         key: &'a [u8],
     },
+    /// `ADD`.
     Add {
         key: &'a [u8],
         ms: Option<u64>,
         number: u64,
     },
+    /// `CLEAR`.
     Clear,
+    /// `DROPIF`.
     DropIf {
         prefix: &'a [u8],
     },
+    /// `KEYS`.
     Keys,
+    /// `SYNC`.
     Sync,
+    /// `QUIT`.
     Quit,
     /// The step answers a line that cannot be read.
     Fault(LineError),

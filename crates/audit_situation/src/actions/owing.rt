@@ -16,7 +16,7 @@ use crate::notes::live;
 use crate::{State, find_load};
 use audit_model::Config;
 
-/// The live value of a key.
+/// Returns the live value of a key, or `None` if there is none.
 pub fn found<'a>(config: &Config, s: &'a State, key: &'a [u8]) -> Option<Seen<'a>>
     ensures { option_map (λ h. (held_of h).value) result
         ≡ live_at config.now s.now.latest s.now.held key.now }
@@ -24,7 +24,7 @@ pub fn found<'a>(config: &Config, s: &'a State, key: &'a [u8]) -> Option<Seen<'a
     live(config, s.latest, &s.held, key)
 }
 
-/// Whether a step may refuse its identifier.
+/// Returns whether a step may answer that the identifier of its predicate is in use: only a `DROPIF` after another one.
 pub fn may_refuse(s: &State, doing: Doing<'_>) -> bool
     ensures { (config : Config)
         → result ≡ may_refuse (view_in config (shown_situation s.now)) (action_of doing.entry) }
@@ -68,7 +68,7 @@ fn loads_key_rightly(config: &Config, s: &State, key: &[u8], load: Option<u64>) 
     }
 }
 
-/// Whether a step sends the load that it should, with its number, or none.
+/// Returns whether a step sends the load that it should, with this number, or none.
 pub fn loads_rightly(config: &Config, s: &State, doing: Doing<'_>, load: Option<u64>) -> bool
     ensures { result ≡ option_eq nat_eq load
         (load_sent_by (view_in config.now (shown_situation s.now)) (action_of doing.entry)) }

@@ -8,7 +8,7 @@ use crate::held::kept::StoredValue;
 use audit_model::{Bytes, Seq};
 use std::marker::Model;
 
-/// A value that is held.
+/// A value that a namespace holds.
 #[derive(Drop)]
 pub struct Held {
     key: Bytes,
@@ -36,7 +36,7 @@ impl Model for Held {
 }
 
 impl Held {
-    /// A value that is accepted into a part at `moment`, with its own deadline; both in nanoseconds.
+    /// Creates the value that is accepted into a part at `moment`, with its own deadline; both are in nanoseconds.
     pub fn accepted(
         key: Bytes,
         bytes: Bytes,
@@ -67,28 +67,28 @@ impl Held {
         }
     }
 
-    /// Its key.
+    /// Returns the value's key.
     pub fn key(&self) -> &[u8]
         ensures { result.now ≡ self.now.value.key }
     {
         self.key.as_slice()
     }
 
-    /// Its part.
+    /// Returns the number of the value's part.
     pub fn part(&self) -> u64
         ensures { result ≡ self.now.value.part }
     {
         self.part
     }
 
-    /// What it weighs.
+    /// Returns what the value weighs.
     pub fn weight(&self) -> u64
         ensures { result ≡ self.now.value.weight }
     {
         self.weight
     }
 
-    /// A value that a table kept.
+    /// Creates the value of what a table kept.
     pub fn from_kept(key: Vec<u8>, kept: StoredValue, covered: bool, evictable: bool) -> Held
         ensures { result ≡ record {
           value = (slot_of key.items kept).value;
@@ -110,7 +110,7 @@ impl Held {
         }
     }
 
-    /// Its key, and what a table keeps of it under that number.
+    /// Returns the value's key, and what a table keeps of the value under that number.
     pub fn into_kept(self, stamp: u64) -> (Vec<u8>, StoredValue)
         ensures { slot_of result.0.items result.1
             ≡ record { value = self.value; last_use = self.last_use; stamp = stamp } }
@@ -158,18 +158,25 @@ impl Held {
     }
 }
 
-/// A value that is held, lent. Moments are nanoseconds.
+/// A value that is held, lent. Moments are in nanoseconds.
 #[derive(Clone, Copy)]
 pub struct Seen<'a> {
+    /// The value's key.
     pub key: &'a [u8],
+    /// The value itself.
     pub bytes: &'a [u8],
+    /// The number of the value's part, counted from 0.
     pub part: u64,
+    /// What the value weighs.
     pub weight: u64,
+    /// The moment at which the value was accepted.
     pub accepted_at: u64,
+    /// The value's own deadline, or `None` if it has none.
     pub own_deadline: Option<u64>,
+    /// The moment at which the value was last used.
     pub last_use: u64,
-    /// Whether a `CLEAR` or a `DROPIF` covers it.
+    /// Whether a `CLEAR` or a `DROPIF` covers the value.
     pub covered: bool,
-    /// Whether its part was over its share at a point that still counts for it.
+    /// Whether the value's part was over its share at a point that still counts for the value.
     pub evictable: bool,
 }

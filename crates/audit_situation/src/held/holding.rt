@@ -111,7 +111,7 @@ fn hand_out(keys: &mut BTreeSet<Vec<u8>>, marks: &[u64], key: Vec<u8>, kept: Sto
 }
 
 impl Holding {
-    /// No values.
+    /// Creates an empty list of values. Returns an error if there is not enough memory.
     pub fn new(alloc: Global) -> Result<Holding, AllocError>
         ensures { IfOk result (λ h. h ≡ []) }
     {
@@ -126,7 +126,7 @@ impl Holding {
         })
     }
 
-    /// How many values there are.
+    /// Returns the number of values.
     pub fn len(&self) -> usize
         ensures number { result ≡ length self.now }
         ensures small { list_all (λ h. nat_lt h.value.part 256) self.now ≡ true }
@@ -136,21 +136,21 @@ impl Holding {
         self.table.len()
     }
 
-    /// What the values of a part weigh.
+    /// Returns what the values of a part weigh.
     pub fn weight_of(&self, part: usize) -> u128
         ensures { result ≡ weight_of_part part (values_of self.now) }
     {
         weight_at(&self.weights, part)
     }
 
-    /// What all values weigh.
+    /// Returns what all values weigh.
     pub fn total(&self) -> u128
         ensures { result ≡ sum_by (λ v. v.weight) (values_of self.now) }
     {
         self.total
     }
 
-    /// The value of a key.
+    /// Returns the value of a key, or `None` if there is none.
     pub fn get<'a>(&'a self, key: &'a [u8]) -> Option<Seen<'a>>
         ensures { option_map held_of result ≡ find (λ h. same key.now h.value.key) self.now }
     {
@@ -160,7 +160,7 @@ impl Holding {
         }
     }
 
-    /// Takes the value of a key.
+    /// Removes the value of a key, and returns it, or `None` if there is none.
     pub fn take(&mut self, key: &[u8]) -> Option<Held>
         ensures found { result ≡ find (λ h. same key.now h.value.key) self.old }
         ensures rest { self.new ≡ without_key (λ h. h.value.key) key.now self.old }
@@ -179,7 +179,7 @@ impl Holding {
         }
     }
 
-    /// Adds a value that was accepted just now, of a key that has none.
+    /// Adds a value that was accepted just now, of a key that has none. Returns an error if there is not enough memory.
     pub fn add(&mut self, held: Held) -> Result<(), AllocError>
         requires absent { find (λ h. same held.value.key h.value.key) self.old ≡ None }
         requires small { held.value.part < 256 }
@@ -200,14 +200,14 @@ impl Holding {
         Ok(())
     }
 
-    /// Uses the value of a key, if there is one.
+    /// Notes that the value of a key, if there is one, was used at `now`, in nanoseconds.
     pub fn use_at(&mut self, key: &[u8], now: u64)
         ensures { self.new ≡ map (value_used_at key.now now) self.old }
     {
         self.table.use_at(key, now);
     }
 
-    /// Covers each value whose key begins with a prefix.
+    /// Covers each value whose key begins with a prefix. Returns an error if there is not enough memory.
     pub fn cover(&mut self, prefix: &[u8]) -> Result<(), AllocError>
         ensures { OnOk result (self.new ≡ map (value_covered_by prefix.now) self.old) }
     {
@@ -223,7 +223,7 @@ impl Holding {
         put_mark(&mut self.marks, part, mark);
     }
 
-    /// All values, lent, the newest first.
+    /// Returns all values, lent, the newest first. Returns an error if there is not enough memory.
     pub fn lent(&self) -> Result<Vec<Seen<'_>>, AllocError>
         ensures { IfOk result (λ all. reverse (map held_of all.items) ≡ self.now) }
     {

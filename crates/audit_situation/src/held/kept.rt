@@ -1,21 +1,21 @@
 //! What is kept of a value beside its key.
 use audit_model::Bytes;
 
-/// A value without its key. Moments are nanoseconds.
+/// A value without its key. Moments are in nanoseconds.
 #[derive(Drop)]
 pub struct StoredValue {
-    /// Its bytes.
+    /// The bytes of the value.
     pub bytes: Bytes,
-    /// The part that it is in.
+    /// The number of the value's part.
     pub part: u64,
-    /// What it weighs.
+    /// What the value weighs.
     pub weight: u64,
-    /// When it was accepted.
+    /// The moment at which the value was accepted.
     pub accepted_at: u64,
-    /// Its own deadline, if it has one.
+    /// The value's own deadline, or `None` if it has none.
     pub own_deadline: Option<u64>,
-    /// When it was used last.
+    /// The moment at which the value was last used.
     pub last_use: u64,
-    /// Its number, which distinguishes it from values accepted later.
+    /// The value's number, which distinguishes it from values that were accepted later.
     pub stamp: u64,
 }

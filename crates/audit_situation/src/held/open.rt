@@ -8,14 +8,14 @@ ghost use Rattle.audit_situation.specs.Held.Holds.{is_open_key};
 use std::alloc::{AllocError, Global};
 use std::collections::BTreeSet;
 
-/// Whether a key is open: whether no prefix covered it since it was opened.
+/// Returns whether a key is open: no prefix covered it since it was opened.
 pub fn is_open(keys: &BTreeSet<Vec<u8>>, key: &[u8]) -> bool
     ensures { result ≡ is_open_key key.now keys.now }
 {
     keys.contains(key)
 }
 
-/// Opens a key.
+/// Opens a key. Returns an error if there is not enough memory.
 pub fn open_key(alloc: Global, keys: &mut BTreeSet<Vec<u8>>, key: &[u8]) -> Result<(), AllocError>
     ensures { OnOk result ((q : List ℕ) → is_open_key q keys.new
         ≡ cond (same key.now q) true (is_open_key q keys.old)) }
@@ -69,7 +69,7 @@ fn close_next(
     Ok(true)
 }
 
-/// Closes each open key that begins with a prefix.
+/// Closes each open key that begins with a prefix. Returns an error if there is not enough memory.
 pub fn close_all(
     alloc: Global,
     keys: &mut BTreeSet<Vec<u8>>,

@@ -23,7 +23,7 @@ impl Model for Parts {
 }
 
 impl Parts {
-    /// No keys.
+    /// Creates an empty map.
     pub fn new(alloc: Global) -> Parts
         ensures { result ≡ [] }
     {
@@ -33,14 +33,14 @@ impl Parts {
         }
     }
 
-    /// The part of a key.
+    /// Returns the part of a key, or `None` if it has none yet.
     pub fn get(&self, key: &[u8]) -> Option<u64>
         ensures { result ≡ part_of_key self.now key.now }
     {
         self.parts.get(key).copied()
     }
 
-    /// Whether a key has that part, or none yet.
+    /// Returns whether a key has that part, or none yet.
     pub fn agrees(&self, key: &[u8], part: u64) -> bool
         ensures { result ≡ agrees self.now key.now part }
     {
@@ -60,7 +60,7 @@ impl Parts {
         Ok(())
     }
 
-    /// Keeps the part of a key, if it had none.
+    /// Keeps the part of a key, if it had none. Returns an error if there is not enough memory.
     pub fn keep(&mut self, key: &[u8], part: u64) -> Result<(), AllocError>
         ensures { OnOk result (self.new ≡ with_part self.old key.now part) }
     {

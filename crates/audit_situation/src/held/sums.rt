@@ -3,7 +3,7 @@ ghost use Rattle.std.specs.Prelude.{◌≡◌, ◌+◌, ◌-◌, ◌<◌, ◌≤
 
 use std::alloc::AllocError;
 
-/// What a part weighs.
+/// Returns what a part weighs.
 pub fn weight_at(weights: &[u128], part: usize) -> u128
     ensures { result ≡ get_or weights.now part 0 }
 {
@@ -13,7 +13,7 @@ pub fn weight_at(weights: &[u128], part: usize) -> u128
     }
 }
 
-/// A weight more.
+/// Returns a sum of weights with one more weight. Returns an error if the sum does not fit.
 pub fn sum_with(sum: u128, weight: u64) -> Result<u128, AllocError>
     ensures { IfOk result (λ more. more ≡ sum + weight) }
 {
@@ -23,7 +23,7 @@ pub fn sum_with(sum: u128, weight: u64) -> Result<u128, AllocError>
     }
 }
 
-/// The next number.
+/// Returns the number after this one. Returns an error if there is none.
 pub fn next_number(number: u64) -> Result<u64, AllocError>
     ensures { IfOk result (λ next. next ≡ number + 1) }
 {
@@ -33,7 +33,7 @@ pub fn next_number(number: u64) -> Result<u64, AllocError>
     }
 }
 
-/// Puts what a part weighs.
+/// Sets what a part weighs.
 pub fn put_weight(weights: &mut Vec<u128>, part: usize, weight: u128)
     requires { part < length weights.old.items }
     ensures { weights.new.items ≡ set weights.old.items part weight }
@@ -41,7 +41,7 @@ pub fn put_weight(weights: &mut Vec<u128>, part: usize, weight: u128)
     weights[part] = weight;
 }
 
-/// The number at which a part's weight was last a point that counts.
+/// Returns the number at which a part's weight was last a point that counts.
 pub fn mark_at(marks: &[u64], part: usize) -> u64
     ensures { result ≡ get_or marks.now part 0 }
 {
@@ -51,7 +51,7 @@ pub fn mark_at(marks: &[u64], part: usize) -> u64
     }
 }
 
-/// Puts that number.
+/// Sets the number at which a part's weight was last a point that counts.
 pub fn put_mark(marks: &mut Vec<u64>, part: usize, mark: u64)
     requires { part < length marks.old.items }
     ensures { marks.new.items ≡ set marks.old.items part mark }
@@ -59,7 +59,8 @@ pub fn put_mark(marks: &mut Vec<u64>, part: usize, mark: u64)
     marks[part] = mark;
 }
 
-/// That number after a point, or where earlier points count no more, or as it was.
+/// Returns the number at which a part's weight was last a point that counts: `next` if it is one now, 0 if earlier points no longer count,
+/// and otherwise `mark`, as before.
 pub fn mark_after(mark: u64, next: u64, over: bool, anew: bool) -> u64
     ensures { result ≡ (if over then next else (if anew then 0 else mark)) }
 {

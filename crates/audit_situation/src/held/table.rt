@@ -32,7 +32,7 @@ impl Model for Table {
 }
 
 impl Table {
-    /// No values.
+    /// Creates an empty table.
     pub fn new(alloc: Global) -> Table
         ensures { result ≡ [] }
     {
@@ -41,7 +41,7 @@ impl Table {
         }
     }
 
-    /// How many values there are.
+    /// Returns the number of values.
     pub fn len(&self) -> usize
         ensures number { result ≡ length self.now }
         ensures apart { (key : List ℕ) → slot_at key (slots_without key self.now) ≡ None }
@@ -49,7 +49,7 @@ impl Table {
         self.values.len()
     }
 
-    /// All values with their keys, in no order.
+    /// Returns all values with their keys, in no order.
     pub fn iter(&self) -> Iter<'_, Vec<u8>, StoredValue>
         ensures rest { oldest_first (slots_of result) ≡ self.now }
         ensures numbered { have_stamps_apart result ≡ true }
@@ -58,14 +58,14 @@ impl Table {
         self.values.iter()
     }
 
-    /// What is kept of a key.
+    /// Returns what is kept of a key's value, or `None` if there is none.
     pub fn get(&self, key: &[u8]) -> Option<&StoredValue>
         ensures { option_map (λ kept. slot_of key.now kept.now) result ≡ slot_at key.now self.now }
     {
         self.values.get(key)
     }
 
-    /// Uses the value of a key, if there is one.
+    /// Notes that the value of a key, if there is one, was used at `now`, in nanoseconds.
     pub fn use_at(&mut self, key: &[u8], now: u64)
         ensures { self.new ≡ map (slot_used_at key.now now) self.old }
     {
@@ -74,7 +74,7 @@ impl Table {
         }
     }
 
-    /// Adds a value of a key that has none, as the newest.
+    /// Adds a value of a key that has none, as the newest. Returns an error if there is not enough memory; then nothing has changed.
     pub fn add(&mut self, key: Vec<u8>, kept: StoredValue) -> Result<(), AllocError>
         requires absent { slot_at key.items self.old ≡ None }
         requires newest { list_all (λ s. nat_lt s.stamp kept.stamp) self.old ≡ true }
@@ -85,7 +85,7 @@ impl Table {
         Ok(())
     }
 
-    /// Takes the value of a key, with its key.
+    /// Removes the value of a key, and returns it with its key, or `None` if there is none.
     pub fn take(&mut self, key: &[u8]) -> Option<(Vec<u8>, StoredValue)>
         ensures found { option_map (λ e. slot_of e.0.items e.1) result ≡ slot_at key.now self.old }
         ensures rest { self.new ≡ slots_without key.now self.old }

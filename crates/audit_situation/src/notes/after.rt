@@ -194,7 +194,7 @@ fn pass_on(
 }
 
 /// Judges a step's notes, and does to the values held what the step does. Returns whether the notes are true; if they are not, the values
-/// held mean nothing.
+/// held mean nothing. Returns an error if there is not enough memory.
 pub fn do_deed(
     alloc: Global,
     config: &Config,

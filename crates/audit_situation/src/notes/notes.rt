@@ -17,20 +17,24 @@ use audit_model::{Config, Note, RemovalCause};
 /// What a step's notes are judged by.
 #[derive(Clone, Copy)]
 pub struct Scene<'a> {
+    /// The configuration of the namespace.
     pub config: &'a Config,
     /// The step's moment, in nanoseconds.
     pub moment: u64,
     /// The value that the step accepts.
     pub newcomer: Option<&'a Held>,
+    /// What the step does to the other values.
     pub deed: Deed<'a>,
-    /// Whether each part is over its share just after the step's acceptance; none is behind the last one here.
+    /// Whether each part, counted from 0, is over its share just after the step's acceptance. A part behind the last one is not.
     pub overfilled: &'a [bool],
 }
 
-/// A value that a step may tell: one that is held, or the one that it accepts.
+/// A value that a step may report: one that is held, or the one that the step accepts.
 #[derive(Clone, Copy)]
 pub struct Candidate<'a> {
+    /// The value, lent.
     pub seen: Seen<'a>,
+    /// Whether the step accepts the value.
     pub new: bool,
 }
 
@@ -95,7 +99,7 @@ fn first_cause(scene: &Scene<'_>, c: Candidate<'_>) -> RemovalCause
     }
 }
 
-/// Whether the two are the same cause.
+/// Returns whether the two are the same cause.
 pub fn same_cause(a: RemovalCause, b: RemovalCause) -> bool
     ensures { result ≡ same_cause a b }
 {
@@ -224,8 +228,8 @@ fn are_all(a: bool, b: bool, c: bool) -> bool
     a && b && c
 }
 
-/// Whether each note reports the first value of its key that is not reported yet, with a true cause, and no older value of a written or
-/// deleted key is left. The values that are reported are removed; if the result is `false`, what is left means nothing.
+/// Returns whether each note reports the first value of its key that is not reported yet, with a true cause, and no older value of a
+/// written or deleted key is left. The values that are reported are removed; if the result is `false`, what is left means nothing.
 pub fn are_true_notes(
     scene: &Scene<'_>,
     held: &mut Holding,

@@ -23,7 +23,7 @@ fn is_past(moment: u64, ms: u64, now: u64) -> bool
     }
 }
 
-/// Whether a held value's deadline has come.
+/// Returns whether a held value's deadline has come at `now`, a moment in nanoseconds.
 pub fn is_dead(config: &Config, now: u64, held: &Seen<'_>) -> bool
     ensures { result ≡ is_dead_at config.now now (held_of held.entry.now) }
 {
@@ -42,14 +42,14 @@ pub fn is_dead(config: &Config, now: u64, held: &Seen<'_>) -> bool
     own || lived || idle
 }
 
-/// Whether a held value is live.
+/// Returns whether a held value is live at `now`, a moment in nanoseconds.
 pub fn is_live(config: &Config, now: u64, held: &Seen<'_>) -> bool
     ensures { result ≡ is_live_at config.now now (held_of held.entry.now) }
 {
     !held.covered && !is_dead(config, now, held)
 }
 
-/// The live value of a key.
+/// Returns the live value of a key at `now`, a moment in nanoseconds, or `None` if there is none.
 pub fn live<'a>(config: &Config, now: u64, held: &'a Holding, key: &'a [u8]) -> Option<Seen<'a>>
     ensures { option_map (λ s. (held_of s).value) result ≡ live_at config.now now held.now key.now }
 {

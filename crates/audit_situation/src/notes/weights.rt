@@ -13,10 +13,10 @@ use crate::held::{Held, Holding, Seen};
 use audit_model::Config;
 use std::alloc::{AllocError, Global};
 
-/// There are at most this many parts.
+/// The maximum number of parts.
 pub const PARTS: usize = 256;
 
-/// How many parts there are: the next power of two.
+/// Returns the number of parts, 1 to 256: the configured one, rounded up to a power of two.
 pub fn part_count(config: &Config) -> u64
     ensures count { result ≡ part_count config.now }
     ensures small { result ≤ 256 }
@@ -52,7 +52,7 @@ fn share(config: &Config, capacity: u64) -> u128
     (u128::from(capacity) + (parts - 1)) / parts
 }
 
-/// A part's share of the capacity; nothing if there is no capacity.
+/// Returns a part's share of the capacity. Without a capacity the result means nothing.
 pub fn limit_of(config: &Config) -> u128
     ensures { IsShare config.now result }
 {
@@ -62,7 +62,7 @@ pub fn limit_of(config: &Config) -> u128
     }
 }
 
-/// Whether the values of a part weigh more than its share.
+/// Returns whether the values of a part weigh more than its share.
 pub fn is_over(config: &Config, limit: u128, held: &Holding, part: usize) -> bool
     requires { IsShare config.now limit }
     ensures { result ≡ is_over config.now part (values_of held.now) }
@@ -129,7 +129,8 @@ fn overfilled_by(
     Ok(marks)
 }
 
-/// Which parts exceed their share right after a step has accepted the newcomer, if there is one.
+/// Returns which parts exceed their share right after a step has accepted the newcomer, if there is one. Returns an error if there is not
+/// enough memory.
 pub fn overfilled(
     alloc: Global,
     config: &Config,

@@ -10,21 +10,21 @@ use audit_model::{Accepted, Bytes, EvictionPolicy, RemovalCause, Seq, Weight};
 use memchr::memchr;
 use std::alloc::{AllocError, AllocFailed, Global};
 
-/// Why a text is not read.
+/// Why a text cannot be read.
 #[derive(Clone, Copy, Debug, PartialEq, Eq, Drop)]
 pub enum TextError {
-    /// The line with this number, counted from 1, is malformed; one after the last if a line is missing.
+    /// The line with this number, counted from 1, is malformed; the number after the last one if a line is missing.
     Line(u64),
-    /// There was no memory.
+    /// There was not enough memory.
     OutOfMemory,
 }
 
-/// Why a line is not read.
+/// Why a line cannot be read.
 #[derive(Clone, Copy, Drop)]
 pub enum LineFault {
-    /// It is not of the form.
+    /// The line is malformed.
     Form,
-    /// There was no memory.
+    /// There was not enough memory.
     OutOfMemory,
 }
 
@@ -45,7 +45,7 @@ impl<T: Drop> From<AllocFailed<T>> for LineFault {
 }
 
 impl LineFault {
-    /// The fault, of the line of this number.
+    /// Returns the fault as one of the line of this number.
     pub fn at(self, number: u64) -> TextError
         ensures { result ≡ at_line self number }
     {
@@ -63,14 +63,14 @@ pub struct Words<'a> {
 }
 
 impl<'a> Words<'a> {
-    /// All words of a line.
+    /// Creates the words of a line, all of them still to be read.
     pub fn new(line: &'a [u8]) -> Words<'a>
         ensures { words_left result ≡ line_words line.now }
     {
         Words { rest: Some(line) }
     }
 
-    /// The next word.
+    /// Returns the next word. Returns `Form` if there is none.
     pub fn next(&mut self) -> Result<&'a [u8], LineFault>
         ensures { IsNextWord (words_left self.old) result (words_left self.new) }
     {
@@ -82,7 +82,7 @@ impl<'a> Words<'a> {
         Ok(word)
     }
 
-    /// That there is no word more.
+    /// Checks that no word is left. Returns `Form` if one is.
     pub fn end(&self) -> Result<(), LineFault>
         ensures { IsEnd (words_left self.now) result }
     {
@@ -93,7 +93,7 @@ impl<'a> Words<'a> {
         }
     }
 
-    /// The number that the next word writes.
+    /// Returns the number that the next word writes. Returns `Form` if it writes none.
     pub fn number(&mut self) -> Result<u64, LineFault>
         ensures { IsReadOff (field number_in (words_left self.old)) result (words_left self.new) }
     {
@@ -101,7 +101,7 @@ impl<'a> Words<'a> {
         read_number(word)
     }
 
-    /// The number that the next word writes, or that there is none.
+    /// Returns the number that the next word writes, or `None` for `-`. Returns `Form` if it writes neither.
     pub fn number_or_none(&mut self) -> Result<Option<u64>, LineFault>
         ensures { IsReadOff (field (option_in number_in) (words_left self.old)) result
             (words_left self.new) }
@@ -110,7 +110,7 @@ impl<'a> Words<'a> {
         read_number_or_none(word)
     }
 
-    /// The part that the next word writes.
+    /// Returns the part that the next word writes. Returns `Form` if it writes none.
     pub fn part(&mut self) -> Result<Accepted, LineFault>
         ensures { IsReadOff (field part_in_words (words_left self.old)) result
             (words_left self.new) }
@@ -119,7 +119,7 @@ impl<'a> Words<'a> {
         Ok(Accepted { part })
     }
 
-    /// The part that the next word writes, or that there is none.
+    /// Returns the part that the next word writes, or `None` for `-`. Returns `Form` if it writes neither.
     pub fn part_or_none(&mut self) -> Result<Option<Accepted>, LineFault>
         ensures { IsReadOff (field (option_in part_in_words) (words_left self.old)) result
             (words_left self.new) }
@@ -128,7 +128,7 @@ impl<'a> Words<'a> {
         read_part_or_none(word)
     }
 
-    /// The bytes that the next word writes.
+    /// Returns the bytes that the next word writes. Returns `Form` if it writes none, and `OutOfMemory` if there is not enough memory.
     pub fn bytes(&mut self, alloc: Global) -> Result<Bytes, LineFault>
         ensures { IsReadOff (field bytes_in (words_left self.old)) result (words_left self.new) }
     {
@@ -136,7 +136,8 @@ impl<'a> Words<'a> {
         read_bytes(alloc, word)
     }
 
-    /// The bytes that the next word writes, or that there are none.
+    /// Returns the bytes that the next word writes, or `None` for `-`. Returns `Form` if it writes neither, and `OutOfMemory` if there is
+    /// not enough memory.
     pub fn bytes_or_none(&mut self, alloc: Global) -> Result<Option<Bytes>, LineFault>
         ensures { IsReadOff (field (option_in bytes_in) (words_left self.old)) result
             (words_left self.new) }
@@ -145,7 +146,7 @@ impl<'a> Words<'a> {
         read_bytes_or_none(alloc, word)
     }
 
-    /// Whether a step was held back.
+    /// Returns whether a step was held back, as the next word says. Returns `Form` if it says neither.
     pub fn held(&mut self) -> Result<bool, LineFault>
         ensures { IsReadOff (field held_in (words_left self.old)) result (words_left self.new) }
     {
@@ -153,7 +154,7 @@ impl<'a> Words<'a> {
         read_held(word)
     }
 
-    /// The cause that the next word names.
+    /// Returns the cause that the next word names. Returns `Form` if it names none.
     pub fn cause(&mut self) -> Result<RemovalCause, LineFault>
         ensures { IsReadOff (field cause_in (words_left self.old)) result (words_left self.new) }
     {
@@ -169,7 +170,7 @@ impl<'a> Words<'a> {
         read_setting(word, name)
     }
 
-    /// The number that the setting of this name has.
+    /// Returns the number that the setting of this name has. Returns `Form` if the next word is not this setting.
     #[tactic(auto, using(crate::proofs::reader::Wording::setting_field))]
     pub fn number_setting(&mut self, name: &[u8]) -> Result<u64, LineFault>
         ensures { IsReadOff (field (setting_in name.now number_in) (words_left self.old)) result
@@ -179,7 +180,7 @@ impl<'a> Words<'a> {
         read_number(word)
     }
 
-    /// The number that the setting of this name has, or that there is none.
+    /// Returns the number that the setting of this name has, or `None` if it has none. Returns `Form` if the next word is not this setting.
     #[tactic(auto, using(crate::proofs::reader::Wording::setting_field))]
     pub fn number_or_none_setting(&mut self, name: &[u8]) -> Result<Option<u64>, LineFault>
         ensures { IsReadOff
@@ -190,7 +191,7 @@ impl<'a> Words<'a> {
         read_number_or_none(word)
     }
 
-    /// The policy that the setting of this name has.
+    /// Returns the policy that the setting of this name has. Returns `Form` if the next word is not this setting.
     #[tactic(auto, using(crate::proofs::reader::Wording::setting_field))]
     pub fn policy_setting(&mut self, name: &[u8]) -> Result<EvictionPolicy, LineFault>
         ensures { IsReadOff (field (setting_in name.now policy_in) (words_left self.old)) result
@@ -200,7 +201,7 @@ impl<'a> Words<'a> {
         read_policy(word)
     }
 
-    /// The weight that the setting of this name has.
+    /// Returns the weight that the setting of this name has. Returns `Form` if the next word is not this setting.
     #[tactic(auto, using(crate::proofs::reader::Wording::setting_field))]
     pub fn weight_setting(&mut self, name: &[u8]) -> Result<Weight, LineFault>
         ensures { IsReadOff (field (setting_in name.now weight_in_words) (words_left self.old))
@@ -210,7 +211,7 @@ impl<'a> Words<'a> {
         read_weight(word)
     }
 
-    /// Yes or no, as the setting of this name says.
+    /// Returns whether the setting of this name says yes. Returns `Form` if the next word is not this setting, with yes or no.
     #[tactic(auto, using(crate::proofs::reader::Wording::setting_field))]
     pub fn flag_setting(&mut self, name: &[u8]) -> Result<bool, LineFault>
         ensures { IsReadOff (field (setting_in name.now flag_in) (words_left self.old)) result

@@ -16,14 +16,19 @@ use std::alloc::Global;
 /// What was gathered: the records that are whole, and the last record and the last step, which may go on.
 #[derive(Drop)]
 pub struct Gathered {
+    /// The configuration, once it was read.
     pub config: Option<Config>,
+    /// The moment of creation, once it was read.
     pub made: Option<Instant>,
+    /// The records that are whole.
     pub records: Seq<Record>,
+    /// The last record, to which steps may still be added.
     pub last: Option<Record>,
+    /// The last step, to which notes may still be added.
     pub step: Option<Step>,
 }
 
-/// Nothing.
+/// Creates the state in which nothing was gathered.
 pub fn nothing(alloc: Global) -> Gathered
     ensures text { gathered_text result ≡ [] }
     ensures said { result ≡ said.none_gathered }
@@ -37,7 +42,7 @@ pub fn nothing(alloc: Global) -> Gathered
     }
 }
 
-/// Appends an item, if it may come there.
+/// Appends an item. Returns `Form` if the item may not come there, and `OutOfMemory` if there is not enough memory.
 pub fn add_item(alloc: Global, gathered: &mut Gathered, item: Item) -> Result<(), LineFault>
     ensures text { OnOk result
         (gathered_text gathered.new ≡ gathered_text gathered.old ++ item_line item) }
@@ -283,7 +288,8 @@ fn close(gathered: &mut Gathered) -> Result<(), LineFault>
     close_record(gathered)
 }
 
-/// The transcript with its configuration, if both lines at the front were read.
+/// Returns the transcript with its configuration. Returns `Form` if not both lines at the front were read, and `OutOfMemory` if there is
+/// not enough memory.
 #[tactic(auto, unfolding(crate::specs::Reader::Gathering::finished))]
 pub fn finish(mut gathered: Gathered) -> Result<(Config, Transcript), LineFault>
     ensures text { IfOk result (λ r. transcript_text r.0 r.1 ≡ gathered_text gathered) }

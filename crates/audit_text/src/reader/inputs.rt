@@ -19,16 +19,22 @@ use std::alloc::{AllocError, Global};
 /// What is played: configurations, the moment of creation, and inputs.
 #[derive(Drop)]
 pub struct Replay {
+    /// The configuration of each namespace, in order.
     pub configs: Seq<Config>,
+    /// The moment of creation.
     pub made: Instant,
+    /// The inputs, in order.
     pub inputs: Seq<Input>,
 }
 
-/// What was read so far.
+/// What was read so far of a text of inputs.
 #[derive(Drop)]
 pub struct Begun {
+    /// The configurations that were read.
     pub configs: Seq<Config>,
+    /// The moment of creation, once it was read.
     pub made: Option<Instant>,
+    /// The inputs that were read.
     pub inputs: Seq<Input>,
 }
 
@@ -37,15 +43,16 @@ pub struct Begun {
 pub enum InputLine {
     /// The settings of a namespace.
     Config(Config),
-    /// The moment of the making.
+    /// The moment of creation.
     Made(Instant),
     /// An input.
     Input(Input),
 }
 
-/// The inputs that a text writes: one or more lines `config`, a line `made`, and lines `input`.
+/// Returns the inputs that a text writes: one or more lines `config`, a line `made`, and lines `input`.
 ///
-/// What is read has this text, except for empty lines and comments. Otherwise an error says which line is malformed.
+/// What is read has this text, except for empty lines and comments. Otherwise the call returns `Line` with the number of the malformed
+/// line, or `OutOfMemory` if there is not enough memory.
 pub fn read_inputs(alloc: Global, text: &[u8]) -> Result<Replay, TextError>
     ensures written { IfOk result (λ replay. replay_text replay ≡ kept text.now) }
     ensures exact { (replay : Replay) → FitsReplay replay → replay_text replay ≡ kept text.now

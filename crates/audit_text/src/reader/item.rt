@@ -12,12 +12,12 @@ use crate::{put_config, put_event, put_made, put_note, put_own, put_whole_step};
 use audit_model::{Accepted, Config, Event, Instant, Note, NoteKey, Outcome, Seq, Step};
 use std::alloc::{AllocError, Global};
 
-/// What one line says.
+/// What one line of a transcript says.
 #[derive(Drop)]
 pub enum Item {
     /// The settings.
     Config(Config),
-    /// The moment of the making.
+    /// The moment of creation.
     Made(Instant),
     /// An event, which begins a record.
     Event(Event),
@@ -31,7 +31,8 @@ pub enum Item {
     Note(Note),
 }
 
-/// What a line says. A line is of the form only as it would be written: its text is compared.
+/// Returns what a line says. Returns `Form` if the line is malformed, and `OutOfMemory` if there is not enough memory. A line is
+/// well-formed only as it would be written: its text is compared.
 #[tactic(auto, unfolding(crate::specs::Reader::Items::item_in))]
 pub fn read_item(alloc: Global, line: &[u8]) -> Result<Item, LineFault>
     ensures written { IfOk result (λ i. item_line i ≡ line.now ++ 10 ∷ []) }
@@ -57,7 +58,7 @@ fn check_item(alloc: Global, item: &Item, line: &[u8]) -> Result<(), LineFault>
     }
 }
 
-/// Whether the text is the line with its line feed.
+/// Returns whether the text is the line with its line feed.
 pub fn is_line(text: &[u8], line: &[u8]) -> bool
     ensures { result ≡ bytes_eq text.now (line.now ++ 10 ∷ []) }
 {
@@ -190,7 +191,7 @@ fn parse_event(alloc: Global, kind: &[u8], words: &mut Words<'_>) -> Result<Item
     Ok(Item::Event(event))
 }
 
-/// The settings behind the word `config`.
+/// Returns the settings behind the word `config`. Returns `Form` if they are malformed.
 #[tactic(auto, unfolding(crate::specs::Reader::Items::config_in_words))]
 pub fn read_config(words: &mut Words<'_>) -> Result<Config, LineFault>
     ensures { IsReadOff (config_in_words (words_left words.old)) result (words_left words.new) }
@@ -216,7 +217,7 @@ pub fn read_config(words: &mut Words<'_>) -> Result<Config, LineFault>
     })
 }
 
-/// The event that a word begins.
+/// Returns the event that a word begins. Returns `Form` if it is malformed, and `OutOfMemory` if there is not enough memory.
 #[tactic(auto, unfolding(crate::specs::Reader::Items::event_of))]
 pub fn read_event(alloc: Global, kind: &[u8], words: &mut Words<'_>) -> Result<Event, LineFault>
     ensures { IsReadOff (event_of kind.now (words_left words.old)) result (words_left words.new) }

@@ -4,7 +4,7 @@ ghost use Rattle.audit_text.specs.Reader.Lines.{is_skipped, kept, telling_line, 
 
 use memchr::memchr;
 
-/// The first line, without its line feed, and what stands behind it.
+/// Returns the first line, without its line feed, and what stands behind it.
 pub fn cut_line(text: &[u8]) -> (&[u8], &[u8])
     requires { text.now ≢ [] }
     ensures kept { kept text.now ≡ telling_line result.0.now ++ kept result.1.now }
@@ -17,7 +17,7 @@ pub fn cut_line(text: &[u8]) -> (&[u8], &[u8])
     }
 }
 
-/// Whether a line says nothing: it is empty or a comment.
+/// Returns whether a line says nothing: it is empty or a comment.
 pub fn is_skipped(line: &[u8]) -> bool
     ensures { result ≡ is_skipped line.now }
 {

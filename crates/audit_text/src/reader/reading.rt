@@ -15,9 +15,10 @@ use crate::reader::lines::{cut_line, is_skipped};
 use audit_model::{Config, Transcript};
 use std::alloc::Global;
 
-/// The transcript that a text writes, with its configuration.
+/// Returns the transcript that a text writes, with its configuration.
 ///
-/// What is read has this text, except for empty lines and comments. Otherwise an error says which line is malformed.
+/// What is read has this text, except for empty lines and comments. Otherwise the call returns `Line` with the number of the malformed
+/// line, or `OutOfMemory` if there is not enough memory.
 pub fn read_transcript(alloc: Global, text: &[u8]) -> Result<(Config, Transcript), TextError>
     ensures written { IfOk result (λ r. transcript_text r.0 r.1 ≡ kept text.now) }
     ensures exact { (config : Config) → (transcript : Transcript)
@@ -27,7 +28,7 @@ pub fn read_transcript(alloc: Global, text: &[u8]) -> Result<(Config, Transcript
     read_lines(alloc, text)
 }
 
-/// A law: two transcripts with one text are one, and so are their configurations. It does nothing.
+/// A law: two transcripts with one text are one, and so are their configurations. The call does nothing.
 pub fn texts_tell_transcripts_apart()
     ensures { OneText }
 {}

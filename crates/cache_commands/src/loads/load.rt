@@ -10,12 +10,15 @@ use std::alloc::{AllocError, Global};
 /// in which they joined.
 #[derive(Drop)]
 pub struct Load {
+    /// The number of the load in its namespace, counted from 1.
     pub number: u64,
+    /// The key that is loaded.
     pub key: Bytes,
+    /// The numbers of the connections that wait, in the order in which they joined.
     pub waiting: Vec<u64>,
 }
 
-/// A load for which one connection waits.
+/// Creates a load for which one connection waits. Returns an error if there is not enough memory.
 pub fn new_load(alloc: Global, number: u64, key: &[u8], conn: u64) -> Result<Load, AllocError>
     ensures { IfOk result (λ load. pending_load load
         ≡ record { number = number; key = key.now; waiting = conn ∷ [] }) }
@@ -29,7 +32,7 @@ pub fn new_load(alloc: Global, number: u64, key: &[u8], conn: u64) -> Result<Loa
     })
 }
 
-/// Adds a connection that waits. An `Err` changes nothing.
+/// Adds a connection that waits. Returns an error if there is not enough memory; then nothing has changed.
 pub fn join(load: &mut Load, conn: u64) -> Result<(), AllocError>
     ensures joined { OnOk result (pending_load load.new
         ≡ record (pending_load load.old) { waiting = load.old.waiting.items ++ conn ∷ [] }) }
@@ -39,7 +42,7 @@ pub fn join(load: &mut Load, conn: u64) -> Result<(), AllocError>
     Ok(())
 }
 
-/// Takes a connection out.
+/// Removes a connection from those that wait.
 pub fn leave(load: &mut Load, conn: u64)
     ensures left { pending_load load.new ≡ without_waiting conn (pending_load load.old) }
 {

@@ -45,7 +45,7 @@ fn remove_all(joined: &mut BTreeMap<u64, u64>, conns: &[u64])
     }
 }
 
-/// Adds a load of a key that has none, whose number is above the others. An `Err` changes nothing.
+/// Adds a load of a key that has none, whose number is above the others. If the call is refused, nothing has changed.
 fn add_keyed(
     loads: &mut Numbered,
     keys: &mut BTreeMap<Vec<u8>, u64>,
@@ -73,7 +73,7 @@ fn add_keyed(
 impl Loads {
     ghost use Rattle.cache_commands.specs.Loads.Pending.{loads_pending, sent_of, outgoing_loads, namespace_of_loads, load_with_key, load_numbered, number_to_send, when_joined, when_sent, sending, SameLoads, SameTaken, loads_taken};
 
-    /// No loads yet, which takes no memory.
+    /// Creates an empty table of loads. The call allocates nothing.
     pub fn new(alloc: Global, namespace: u64) -> Loads
         ensures none { loads_pending result ≡ [] }
         ensures sent { sent_of result ≡ 0 }
@@ -90,21 +90,21 @@ impl Loads {
         }
     }
 
-    /// How many loads are under way.
+    /// Returns how many loads are under way.
     pub fn count(&self) -> usize
         ensures { result ≡ length (loads_pending self.now) }
     {
         self.loads.len()
     }
 
-    /// The number of the key's load under way.
+    /// Returns the number of the key's load under way, or `None` if there is none.
     pub fn find(&self, key: &[u8]) -> Option<u64>
         ensures { result ≡ load_with_key key.now (loads_pending self.now) }
     {
         number_at(&self.keys, key)
     }
 
-    /// The load under way of that number.
+    /// Returns the load under way of that number, or `None` if there is none.
     pub fn get(&self, number: u64) -> Option<&Load>
         ensures { option_map (λ load. pending_load load.now) result
             ≡ load_numbered number (loads_pending self.now) }
@@ -112,8 +112,9 @@ impl Loads {
         self.loads.get(number)
     }
 
-    /// Makes a connection wait for the key's load; if none is under way, a new one goes out, and its number is returned. A connection waits
-    /// for one load: one that waits already, and a number above 2^64 - 1, are refused as for lack of memory. An `Err` changes nothing.
+    /// Makes a connection wait for the key's load. If none is under way, a new one goes out, and its number is returned; otherwise `None`.
+    /// Returns an error if there is not enough memory, the connection waits for a load already, or the number would be above 2^64 - 1; then
+    /// nothing has changed.
     pub fn wait(&mut self, alloc: Global, key: &[u8], conn: u64) -> Result<Option<u64>, AllocError>
         ensures number { IfOk result (λ number. number
             ≡ number_to_send key.now (sent_of self.old) (loads_pending self.old)) }
@@ -133,7 +134,7 @@ impl Loads {
     }
 
     /// Makes a connection wait for the key's load, and returns whether there is one. A connection that waits already is refused, as for
-    /// lack of memory. An `Err` changes nothing.
+    /// lack of memory. If the call is refused, nothing has changed.
     fn join(&mut self, key: &[u8], conn: u64) -> Result<bool, AllocError>
         ensures found { IfOk result
             (λ found. found ≡ is_some (load_with_key key.now (loads_pending self.old))) }
@@ -160,7 +161,7 @@ impl Loads {
     }
 
     /// Sends a load of a key that has none, for which the connection waits, and returns its number. A number above 2^64 - 1, and a
-    /// connection that waits already, are refused as for lack of memory. An `Err` changes nothing.
+    /// connection that waits already, are refused as for lack of memory. If the call is refused, nothing has changed.
     fn send(&mut self, alloc: Global, key: &[u8], conn: u64) -> Result<u64, AllocError>
         requires { load_with_key key.now (loads_pending self.old) ≡ None }
         ensures number { IfOk result (λ number. number ≡ suc (sent_of self.old)) }
@@ -191,7 +192,7 @@ impl Loads {
         Ok(number)
     }
 
-    /// Takes a connection that closed out of those that wait; its load stays under way.
+    /// Removes a connection that closed from those that wait. The load stays under way.
     pub fn leave(&mut self, conn: u64)
         ensures pending { loads_pending self.new
             ≡ map (without_waiting conn) (loads_pending self.old) }
@@ -204,7 +205,7 @@ impl Loads {
         }
     }
 
-    /// Takes out the load under way of that number, which is answered or given up.
+    /// Removes the load under way of that number, which is answered or given up, and returns it, or `None` if there is none.
     pub fn settle(&mut self, number: u64) -> Option<Load>
         ensures settled { option_map pending_load result
             ≡ load_numbered number (loads_pending self.old) }
@@ -220,7 +221,7 @@ impl Loads {
         Some(load)
     }
 
-    /// The loads that went out and were not taken, with their keys, in the order in which they were sent; moved out.
+    /// Returns the loads that went out and were not taken, with their keys, in the order in which they were sent, moved out.
     pub fn take(&mut self, alloc: Global) -> Vec<(LoadId, Bytes)>
         ensures taken { result.items ≡ outgoing_loads self.old }
         ensures none { outgoing_loads self.new ≡ [] }

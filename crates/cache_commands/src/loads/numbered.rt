@@ -31,7 +31,7 @@ impl Model for Numbered {
 }
 
 impl Numbered {
-    /// No loads, which takes no memory.
+    /// Creates an empty table of loads. The call allocates nothing.
     pub fn new(alloc: Global) -> Numbered
         ensures { result ≡ [] }
     {
@@ -40,14 +40,14 @@ impl Numbered {
         }
     }
 
-    /// How many there are.
+    /// Returns the number of loads.
     pub fn len(&self) -> usize
         ensures { result ≡ length self.now }
     {
         self.loads.len()
     }
 
-    /// The load of that number.
+    /// Returns the load of that number, or `None` if there is none.
     pub fn get(&self, number: u64) -> Option<&Load>
         ensures { option_map (λ load. pending_load load.now) result
             ≡ load_numbered number self.now }
@@ -55,7 +55,7 @@ impl Numbered {
         self.loads.get(&Reverse(number))
     }
 
-    /// Adds a load whose number is above the others. An `Err` changes nothing.
+    /// Adds a load whose number is above the others. Returns an error if there is not enough memory; then nothing has changed.
     pub fn add(&mut self, load: Load) -> Result<(), AllocError>
         requires newest { are_below load.number self.old ≡ true }
         ensures added { OnOk result (self.new ≡ pending_load load ∷ self.old) }
@@ -65,7 +65,7 @@ impl Numbered {
         Ok(())
     }
 
-    /// Takes out the load of that number.
+    /// Removes the load of that number, and returns it, or `None` if there is none.
     pub fn take(&mut self, number: u64) -> Option<Load>
         ensures found { option_map pending_load result ≡ load_numbered number self.old }
         ensures rest { self.new ≡ filter (λ load. not (load.number == number)) self.old }
@@ -73,7 +73,7 @@ impl Numbered {
         self.loads.remove(&Reverse(number))
     }
 
-    /// A connection waits no more for the load of that number.
+    /// Makes a connection wait no more for the load of that number.
     pub fn leave(&mut self, number: u64, conn: u64)
         ensures { self.new ≡ map (changed_at (λ load. load.number) number (without_waiting conn))
             self.old }
@@ -83,7 +83,8 @@ impl Numbered {
         }
     }
 
-    /// A connection joins those that wait for the load of that number. An `Err` changes nothing.
+    /// Makes a connection join those that wait for the load of that number. Returns an error if there is not enough memory; then nothing
+    /// has changed.
     pub fn join(&mut self, number: u64, conn: u64) -> Result<(), AllocError>
         ensures joined { OnOk result (self.new ≡ map (changed_at (λ load. load.number) number
             (λ load. record load { waiting = load.waiting ++ conn ∷ [] })) self.old) }

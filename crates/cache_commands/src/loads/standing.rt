@@ -2,25 +2,25 @@
 ghost use Rattle.std.specs.Prelude.{◌≡◌};
 ghost use Rattle.cache_commands.specs.Loads.Standings.{holds_line, waits_for_load};
 
-/// A connection runs lines, or waits before its first unread line.
+/// Whether a connection runs lines, or waits before its first unread line.
 #[derive(Clone, Copy, Debug, PartialEq, Eq, Drop)]
 pub enum Standing {
-    /// It runs lines.
+    /// The connection runs lines.
     Ready,
-    /// Its first unread line is a command that was refused for memory.
+    /// The connection's first unread line is a command for which there was not enough memory.
     Held,
-    /// Its first unread line is a `LOAD`, whose load is under way.
+    /// The connection's first unread line is a `LOAD`, whose load is under way.
     Waiting,
 }
 
-/// Whether a line is held back.
+/// Returns whether a line is held back.
 pub fn is_holding(standing: Standing) -> bool
     ensures { result ≡ holds_line standing }
 {
     matches!(standing, Standing::Held)
 }
 
-/// Whether a `LOAD` waits.
+/// Returns whether a `LOAD` waits.
 pub fn is_waiting(standing: Standing) -> bool
     ensures { result ≡ waits_for_load standing }
 {

@@ -21,7 +21,7 @@ use cache_store::Store;
 /// How often a `LOAD` may wait.
 const MAX_WAITS: u64 = 200;
 
-/// The first line.
+/// Returns the first line.
 pub fn first_line(unread: &Buffer) -> &[u8]
     requires { IsTrue (has_line unread.now.bytes) }
     ensures line { result.now ≡ held_line unread.now.bytes }
@@ -33,7 +33,7 @@ pub fn first_line(unread: &Buffer) -> &[u8]
     unread.line(len)
 }
 
-/// Takes the first line.
+/// Removes the first line.
 pub fn pass_line(unread: &mut Buffer)
     requires { IsTrue (has_line unread.old.bytes) }
     ensures bytes { unread.new.bytes ≡ behind_lines 1 unread.old.bytes }
@@ -105,8 +105,8 @@ fn load_again<S: Store, T: Tape>(
     }
 }
 
-/// Runs the waiting `LOAD` of an open connection again, in one step; at its 200th give-up it is abandoned. It allocates nothing that it
-/// needs.
+/// Runs the waiting `LOAD` of an open connection again, in one step; at its 200th give-up it is abandoned. The call allocates nothing that
+/// it cannot do without.
 pub fn run_again<S: Store, T: Tape>(
     base: &mut Base<S, T>,
     now: u64,

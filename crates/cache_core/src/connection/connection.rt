@@ -14,17 +14,21 @@ use std::alloc::Global;
 /// A connection: what came and was not used, the replies that were not taken, and why it closed.
 #[derive(Drop)]
 pub struct Connection {
+    /// The bytes that came and that no line has used.
     pub unread: Buffer,
+    /// Whether the connection runs lines, or waits before its first unread line.
     pub standing: Standing,
     /// How often the `LOAD` that is its first unread line began to wait, at most 200.
     pub waited: u64,
+    /// The replies that were not taken.
     pub output: ReplyBuffer,
+    /// Why the connection closed, or `None` while it is open.
     pub closing: Option<Closing>,
     ghost fits: { Fits standing waited closing unread.bytes },
     ghost roomy: { waits_for_load standing ≡ true → IsRoomy output },
 }
 
-/// A connection that nothing has come to.
+/// Creates a connection to which no byte has come.
 pub fn new_connection(alloc: Global) -> Connection
     ensures unread { result.unread.bytes ≡ [] }
     ensures standing { result.standing ≡ now.Ready }
@@ -43,7 +47,7 @@ pub fn new_connection(alloc: Global) -> Connection
 impl Connection {
     ghost use Rattle.std.specs.Prelude.{is_some};
 
-    /// Drops the bytes that were not used, if the connection has closed.
+    /// Drops the bytes that no line has used, if the connection has closed.
     pub fn drop_closed(&mut self)
         ensures open { self.old.closing ≡ None → self.new ≡ self.old }
         ensures closing { self.new.closing ≡ self.old.closing }

@@ -144,8 +144,9 @@ fn feed_held<S: Store, T: Tape>(
     }
 }
 
-/// Takes a piece for which there is room, for an open connection, and returns whether a line is held back then; one whose `LOAD` waits
-/// closes where too many bytes stand behind that. An `Err` has changed nothing: there was again no memory for the line that is held back.
+/// Takes a piece for which there is room, for an open connection, and returns whether a line is held back then. A connection whose `LOAD`
+/// waits closes if too many bytes stand behind that line. Returns an error if there was again no memory for the line that is held back;
+/// then nothing has changed.
 pub fn feed_connection<S: Store, T: Tape>(
     base: &mut Base<S, T>,
     now: u64,

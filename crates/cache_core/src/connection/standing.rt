@@ -24,7 +24,7 @@ fn behind_first(unread: &Buffer) -> usize
     unread.len() - len - 1
 }
 
-/// Whether it runs lines when its lines ended so.
+/// Returns whether a connection runs lines, or waits, if its lines ended so.
 pub fn ended_standing(end: End) -> Standing
     ensures { result ≡ ended_standing end }
 {
@@ -35,14 +35,14 @@ pub fn ended_standing(end: End) -> Standing
     }
 }
 
-/// How often its first line began to wait when its lines ended so.
+/// Returns how often a connection's first line began to wait if its lines ended so.
 pub fn ended_times(end: End) -> u64
     ensures { result ≡ ended_times end }
 {
     matches!(end, End::Waits) as u64
 }
 
-/// Why it closes when its lines ended so before what is unread, if it does.
+/// Returns why a connection closes if its lines ended so before what is unread, or `None` if it stays open.
 pub fn ended_closing(end: End, unread: &Buffer) -> Option<Closing>
     requires { EndsFor end unread.now.bytes }
     ensures { result ≡ ended_closing end unread.now.bytes }

@@ -40,7 +40,8 @@ fn reply_with<T: Tape>(tape: &mut T, number: u64, connection: &mut Connection, o
     connection.waited = 0;
 }
 
-/// Hands the outcome to an open connection whose `LOAD` waits, in one step and in reserved room; it runs lines then.
+/// Appends the outcome to the replies of an open connection whose `LOAD` waits, in one step and in reserved room. The connection runs lines
+/// then.
 pub fn deliver<S: Store, T: Tape>(
     base: &mut Base<S, T>,
     number: u64,

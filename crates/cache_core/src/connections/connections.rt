@@ -11,7 +11,7 @@ use std::alloc::{AllocError, Global};
 use std::marker::Model;
 use std::mem;
 
-/// The connections that were opened, in that order.
+/// The connections that were opened, in the order of their numbers.
 #[derive(Drop)]
 pub struct Connections {
     residents: Vec<Resident>,
@@ -32,7 +32,7 @@ impl Model for Connections {
 }
 
 impl Connections {
-    /// No connections. This allocates nothing.
+    /// Creates an empty list of connections. The call allocates nothing.
     pub fn new(alloc: Global) -> Connections
         ensures { result ≡ [] }
     {
@@ -42,14 +42,14 @@ impl Connections {
         }
     }
 
-    /// How many were opened.
+    /// Returns how many connections were opened.
     pub fn len(&self) -> usize
         ensures { result ≡ length self.now }
     {
         self.words.len()
     }
 
-    /// Adds a connection at the end. An `Err` changes nothing.
+    /// Adds a connection at the end. Returns an error if there is not enough memory; then nothing has changed.
     pub fn push(&mut self, connection: Connection) -> Result<(), AllocError>
         ensures pushed { OnOk result (self.new ≡ self.old ++ Here connection ∷ []) }
         ensures unchanged { OnErr result (self.new ≡ self.old) }
@@ -67,7 +67,7 @@ impl Connections {
         Ok(())
     }
 
-    /// The connection at a place, to be looked at, if it is here.
+    /// Returns the connection at an index, or `None` if it is gone or out.
     pub fn get(&self, index: usize) -> Option<&Connection>
         requires { index < length self.now }
         ensures { MatchOption result (is_here (slice_get self.now index) ≡ false)
@@ -80,7 +80,7 @@ impl Connections {
         self.residents[word as usize].connection.as_ref()
     }
 
-    /// Why the connection at a place has closed, if it has.
+    /// Returns why the connection at an index has closed, or `None` if it has not.
     pub fn closing(&self, index: usize) -> Option<Closing>
         requires { index < length self.now }
         ensures { result ≡ closing_at self.now index }
@@ -95,7 +95,7 @@ impl Connections {
         }
     }
 
-    /// Moves the connection at a place out; it has to be put back. This allocates nothing.
+    /// Moves the connection at an index out. The connection has to be put back. The call allocates nothing.
     pub fn take(&mut self, index: usize) -> Connection
         requires { is_here (slice_get self.old index) ≡ true }
         ensures taken { slice_get self.old index ≡ Some (Here result) }
@@ -109,7 +109,7 @@ impl Connections {
         }
     }
 
-    /// Puts a connection back in the place of one that is out. This allocates nothing.
+    /// Puts a connection back at the index of one that is out. The call allocates nothing.
     pub fn put(&mut self, index: usize, connection: Connection)
         requires { slice_get self.old index ≡ Some Out }
         ensures { self.new ≡ slice_set self.old index (Here connection) }
@@ -119,7 +119,8 @@ impl Connections {
         resident.connection = Some(connection);
     }
 
-    /// Drops the connection at a place if it has closed and its replies were taken; why it closed is kept. This allocates nothing.
+    /// Drops the connection at an index if it has closed and its replies were taken. The cause of its closing is kept. The call allocates
+    /// nothing.
     pub fn retire(&mut self, index: usize)
         requires { index < length self.old }
         ensures { self.new ≡ retired_at self.old index }

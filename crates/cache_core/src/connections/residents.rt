@@ -10,10 +10,12 @@ use audit_model::Closing;
 /// The first of the words that say why a connection closed.
 pub const FIRST_REASON: u32 = 0xFFFF_FFF0;
 
-/// A connection that is not gone, and its place among all that were opened; while it is out it is not there.
+/// A connection that is not gone, and its index among all that were opened. While it is out, the connection is not there.
 #[derive(Drop)]
 pub struct Resident {
+    /// The index of the connection among all that were opened.
     pub place: usize,
+    /// The connection, or `None` while it is out.
     pub connection: Option<Connection>,
 }
 
@@ -29,7 +31,7 @@ fn word_of(why: Closing) -> u32
     }
 }
 
-/// The reason that a word says.
+/// Returns the cause that a word stands for.
 pub fn reason_of(word: u32) -> Closing
     requires { first_reason ≤ word }
     ensures { result ≡ reason_numbered (word - first_reason) }
@@ -42,7 +44,7 @@ pub fn reason_of(word: u32) -> Closing
     }
 }
 
-/// Why a resident may go: its connection has closed, and its replies were taken.
+/// Returns why a resident may go, or `None` if it has to stay: its connection has closed, and its replies were taken.
 pub fn gone_for(resident: &Resident) -> Option<Closing>
     ensures { MatchOption result
         (retired (held_or_out resident.now.connection) ≡ held_or_out resident.now.connection)
@@ -54,7 +56,7 @@ pub fn gone_for(resident: &Resident) -> Option<Closing>
     }
 }
 
-/// Removes the resident of a place, and sets the word that says why. The last resident moves into the gap.
+/// Removes the resident of an index, and sets the word that says why. The last resident moves into the gap.
 pub fn remove_at(residents: &mut Vec<Resident>, words: &mut Vec<u32>, index: usize, why: Closing)
     requires settled { AreSettled residents.old.items words.old.items }
     requires within { index < length words.old.items }

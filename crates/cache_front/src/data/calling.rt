@@ -22,7 +22,8 @@ use std::hash::BuildHasher;
 /// A store holds at most this many values, so that their weight is a 64-bit number.
 const MOST_VALUES: usize = 1 << 50;
 
-/// What is kept of a value, if there may be one more than this many, with room in the queue for a notice of each.
+/// Returns what is kept of a value, and makes room in the queue for a notice of each of `count` values and this one. Returns an error if
+/// there is not enough memory.
 pub fn prepare(
     alloc: Global,
     notes: &mut Notes,
@@ -45,7 +46,7 @@ pub fn prepare(
     Ok(StoredValue::new(bytes, milliseconds))
 }
 
-/// The bytes of a value, if there is one.
+/// Returns the bytes of a value, or `None` if there is none.
 pub fn bytes_found(found: Option<&StoredValue>) -> Option<&[u8]>
     ensures { option_map (λ bytes. bytes.now) result
         ≡ option_map (λ value. value.bytes) (option_map (λ value. value.now) found.entry) }
@@ -53,7 +54,7 @@ pub fn bytes_found(found: Option<&StoredValue>) -> Option<&[u8]>
     Some(found?.as_bytes())
 }
 
-/// Hands them to `read`, with what is behind `output`.
+/// Passes the bytes of a value, and what is behind `output`, to `read`, and returns what `read` returns, also if that is an error.
 pub fn read_bytes<T, E, F: FnOnce(Option<&[u8]>, &mut Vec<u8>) -> Result<T, E> + Drop>(
     found: Option<&StoredValue>,
     output: &mut Vec<u8>,
@@ -93,7 +94,7 @@ fn kept_key<S: BuildHasher>(
     }
 }
 
-/// The moment, at the step of the last call.
+/// Returns the moment, at the step of the last call.
 pub fn at_last_step<S: BuildHasher>(front: &Front<S>, now: u64) -> At
     requires { now < 2 ^ 63 }
     ensures { result ≡ record { now = now; step = front.now.step } }
@@ -105,7 +106,8 @@ pub fn at_last_step<S: BuildHasher>(front: &Front<S>, now: u64) -> At
     }
 }
 
-/// Inserts a value, and returns its part.
+/// Inserts a value, and returns its part. Returns `OutOfMemory` if there is not enough memory, and `UsedUp` if a 64-bit number is used up;
+/// then nothing has changed.
 pub fn insert<S: BuildHasher>(
     alloc: Global,
     front: &mut Front<S>,
@@ -132,7 +134,8 @@ pub fn insert<S: BuildHasher>(
     }
 }
 
-/// Takes a key out, and answers its part.
+/// Removes a key, and returns its part. Returns `OutOfMemory` if there is not enough memory, and `UsedUp` if a 64-bit number is used up;
+/// then nothing has changed.
 pub fn invalidate<S: BuildHasher>(
     front: &mut Front<S>,
     key: &Key,
@@ -173,7 +176,7 @@ fn at_next_step<S: BuildHasher>(front: &Front<S>, now: u64) -> Result<At, StoreE
     }
 }
 
-/// Covers all that was written before.
+/// Covers all that was written before. Returns `UsedUp` if the 64-bit steps are used up; then nothing has changed.
 pub fn clear<S: BuildHasher>(front: &mut Front<S>, now: u64) -> Result<(), StoreError>
     requires later { front.old.moment ≤ now }
     requires moment { now < 2 ^ 63 }
@@ -188,7 +191,8 @@ pub fn clear<S: BuildHasher>(front: &mut Front<S>, now: u64) -> Result<(), Store
     Ok(())
 }
 
-/// Covers the keys of a prefix in all parts, and returns true; or, if a part lacked identifiers, in none, and returns false.
+/// Covers the keys of a prefix in all parts, and returns true; or, if a part lacked identifiers, in none, and returns false. Returns
+/// `OutOfMemory` if there is not enough memory, and `UsedUp` if a 64-bit number is used up; then nothing has changed.
 pub fn cover<S: BuildHasher, R: Rng>(
     alloc: Global,
     front: &mut Front<S>,

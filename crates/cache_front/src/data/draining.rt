@@ -15,7 +15,8 @@ use std::hash::BuildHasher;
 use std::marker::Model;
 use std::sync::Arc;
 
-/// Takes what the parts of a front told, and puts it as notes behind those that wait, for which there is room. So many fewer are held.
+/// Takes what the parts of a front reported, and appends it as notes to those that wait, for which there is room. `count`, the number of
+/// values held, falls by as many.
 pub fn drain<S: BuildHasher>(front: &mut Front<S>, notes: &mut Notes, count: &mut usize)
     requires room { length notes.old.items + length (waiting front.old.parts)
         ≤ deque_capacity notes.old }
@@ -30,7 +31,7 @@ pub fn drain<S: BuildHasher>(front: &mut Front<S>, notes: &mut Notes, count: &mu
     }
 }
 
-/// Takes what the part at a place told, and puts it there too. So many fewer are held.
+/// Takes what the part at an index reported, and appends it in the same way. `count` falls by as many.
 pub fn drain_at<S: BuildHasher>(
     front: &mut Front<S>,
     place: usize,
@@ -51,7 +52,8 @@ pub fn drain_at<S: BuildHasher>(
     }
 }
 
-/// A note that waits, which shares its key with the cache. It takes 24 bytes less than a `Note`, and a place is kept for each value held.
+/// A note that waits, which shares its key with the cache. A waiting note takes 24 bytes less than a `Note`, and room for one is kept for
+/// each value held.
 #[derive(Drop)]
 pub struct WaitingNote {
     cause: RemovalCause,
@@ -69,7 +71,7 @@ impl Model for WaitingNote {
 }
 
 impl WaitingNote {
-    /// The note as the service tells it, for which no memory is taken.
+    /// Returns the note as the service reports it. The call allocates nothing.
     pub fn into_note(self) -> Note
         ensures { result ≡ self }
     {

@@ -17,7 +17,8 @@ use std::alloc::{AllocError, Global};
 use std::collections::BTreeMap;
 use std::hash::{BuildHasher, Hasher};
 
-/// Appends the keys that have a visible value to `output`, in byte order, each with a line feed. After an error nothing was written.
+/// Appends the keys that have a visible value to `output`, in byte order, each with a line feed. Returns an error if there is not enough
+/// memory; then nothing is written.
 pub fn write_keys<S: BuildHasher>(
     alloc: Global,
     front: &Front<S>,

@@ -7,7 +7,7 @@ ghost use Rattle.cache_front.specs.Making.{whole_settings};
 use audit_model::Config;
 use front_state::{EvictionPolicy, Settings};
 
-/// How many bits say a key's part: there are 2^bits parts, the next power of two.
+/// Returns how many bits of a hash are the key's part: there are 2^bits parts, the configured number rounded up to a power of two.
 pub fn bits_of(config: &Config) -> u32
     ensures parts { 2 ^ result ≡ part_count config.now }
     ensures few { result ≤ 8 }
@@ -25,7 +25,7 @@ pub fn bits_of(config: &Config) -> u32
     }
 }
 
-/// What all parts together are made with.
+/// Returns the settings of all parts together.
 pub fn settings_of(config: &Config, made: u64) -> Settings
     requires { IsBrief config.now }
     ensures { result ≡ whole_settings config.now made }

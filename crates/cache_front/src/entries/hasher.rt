@@ -32,7 +32,7 @@ pub struct WordBuilder<S> {
 }
 
 impl<S> WordBuilder<S> {
-    /// Over this builder.
+    /// Creates a builder over this one.
     pub fn new(inner: S) -> WordBuilder<S>
         ensures { result ≡ record { inner = inner } }
     {
@@ -61,7 +61,7 @@ pub struct KeyedHasher {
 }
 
 impl KeyedHasher {
-    /// The hasher of a secret, of 16 random bytes or more. No clause says which hashes it gives: a cache is right by any.
+    /// Creates the hasher of a secret, of 16 random bytes or more. No clause says which hashes it gives: a cache is right by any.
     pub fn new(secret: &[u8]) -> KeyedHasher {
         let mut start = DefaultHasher::new();
         start.write(secret);

@@ -28,7 +28,7 @@ impl Model for StoredValue {
 }
 
 impl StoredValue {
-    /// A value of these bytes, which are moved into it.
+    /// Creates a value of these bytes, which are moved into it.
     pub fn new(bytes: Vec<u8>, milliseconds: Option<u64>) -> StoredValue
         requires { length bytes.items ≤ 8192 }
         ensures { result ≡ record { bytes = bytes.items; milliseconds = milliseconds } }
@@ -39,14 +39,14 @@ impl StoredValue {
         }
     }
 
-    /// Its bytes.
+    /// Returns the value's bytes.
     pub fn as_bytes(&self) -> &[u8]
         ensures { result.now ≡ self.now.bytes }
     {
         self.bytes.as_slice()
     }
 
-    /// What it weighs.
+    /// Returns what the value weighs.
     pub fn weigh(&self, weight: Weight) -> u32
         ensures { result ≡ weight_of weight self.now.bytes }
     {
@@ -56,7 +56,7 @@ impl StoredValue {
         }
     }
 
-    /// For how long it is to live by itself.
+    /// Returns how long the value is to live by itself, or `None` without a limit.
     pub fn lifetime(&self) -> Option<Duration>
         ensures { option_map as_nanos result ≡ option_map nanos self.now.milliseconds }
     {
@@ -66,7 +66,7 @@ impl StoredValue {
         }
     }
 
-    /// Its bytes, moved out.
+    /// Returns the value's bytes, moved out.
     pub fn into_vec(self) -> Vec<u8>
         ensures { result.items ≡ self.bytes }
     {

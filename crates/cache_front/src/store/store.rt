@@ -20,7 +20,7 @@ use std::marker::Model;
 /// The values of a namespace, in the parts of a front.
 ///
 /// Calls come at the step of the last one, except for those that cover, which come at the next. What the front reports is taken after each
-/// call that reports, and waits in one queue as notes. A place in it is kept for each value, so only an acceptance allocates for it.
+/// call that reports, and waits in one queue as notes. Room in the queue is kept for each value, so only an acceptance allocates for it.
 #[derive(Drop)]
 pub struct FrontStore<R: Rng + Drop, S: BuildHasher + Drop> {
     alloc: Global,
@@ -60,7 +60,7 @@ impl<R: Rng + Drop, S: BuildHasher + Drop> Model for FrontStore<R, S> {
 
 impl<R: Rng + Drop, S: BuildHasher + Drop> FrontStore<R, S> {
     /// Creates a store that holds nothing and has reported nothing. The hasher determines the part of a key; if untrusted clients choose
-    /// the keys, it should be one that they cannot predict.
+    /// the keys, it should be one that they cannot predict. Returns an error if there is not enough memory.
     pub fn new(
         alloc: Global,
         config: Config,

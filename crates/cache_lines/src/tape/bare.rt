@@ -5,14 +5,14 @@ use crate::tape::tape::Tape;
 use audit_model::{Accepted, Event, Note, Seq};
 use std::alloc::{AllocError, Global};
 
-/// Keeps no records, and takes no memory.
+/// A tape that keeps no records, and takes no memory.
 #[derive(Drop)]
 pub struct Bare {
     alloc: Global,
 }
 
 impl Bare {
-    /// A tape that keeps nothing.
+    /// Creates a tape that keeps nothing.
     pub fn new(alloc: Global) -> Bare {
         Bare { alloc }
     }

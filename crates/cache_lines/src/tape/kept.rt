@@ -47,7 +47,7 @@ impl Model for Kept {
 }
 
 impl Kept {
-    /// A tape without records, whose journal begins at this moment. This allocates nothing.
+    /// Creates a tape without records, whose journal begins at this moment. The call allocates nothing.
     pub fn new(alloc: Global, made: Instant) -> Kept
         ensures { result ≡ record {
           journal = record { made = made; records = [] };
@@ -70,7 +70,7 @@ impl Kept {
         }
     }
 
-    /// The journal, if no record is under way.
+    /// Returns the journal, if no record is under way.
     pub fn journal(&self) -> &Transcript
         requires rests { self.now.begun ≡ false }
         ensures { result.now ≡ self.now.journal }
@@ -78,7 +78,7 @@ impl Kept {
         &self.journal
     }
 
-    /// The journal, if no record is under way, moved out. This allocates nothing.
+    /// Returns the journal, if no record is under way, moved out. The call allocates nothing.
     pub fn into_journal(self) -> Transcript
         requires rests { self.begun ≡ false }
         ensures { result ≡ self.journal }

@@ -7,6 +7,7 @@ use std::alloc::{AllocError, Global};
 /// Room for one line, of at most 8192 bytes.
 #[derive(Drop)]
 pub struct Spare {
+    /// The memory for the line.
     pub bytes: Vec<u8>,
     ghost empty: { vec_len bytes ≡ 0 },
     ghost room: { 8192 ≤ vec_capacity bytes },
@@ -18,7 +19,7 @@ fn new_spare(alloc: Global) -> Result<Spare, AllocError> {
     Ok(Spare { bytes })
 }
 
-/// Room for as many lines as that.
+/// Creates room for this many lines. Returns an error if there is not enough memory.
 pub fn new_spares(alloc: Global, count: usize) -> Result<Vec<Spare>, AllocError>
     ensures { IfOk result (λ spares. vec_len spares ≡ count) }
 {

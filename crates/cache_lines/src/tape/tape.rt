@@ -17,18 +17,20 @@ pub trait Tape: Drop {
     // what it keeps, if it keeps anything
     ghost view: { Self → Option Taped };
 
-    /// Whether it keeps records.
+    /// Returns whether the tape keeps records.
     fn keeps(&self) -> bool
         ensures { result ≡ is_some (view self.now) };
 
-    /// Begins a record, if any are kept, with room to add this many lines to it without allocating (`hold`, `say`).
+    /// Begins a record, if any are kept, with room to add this many lines to it without allocating (`hold`, `say`). Returns an error if
+    /// there is not enough memory; then nothing has changed.
     fn start(&mut self, spare: usize) -> Result<(), AllocError>
         requires { IsAtRest (view self.old) }
         ensures started { OnOk result (view self.new ≡ option_map (started spare) (view self.old)) }
         ensures unchanged { OnErr result (self.new ≡ self.old) }
         ensures kept { OnErr result (is_some (view self.old) ≡ true) };
 
-    /// Makes room for a step of this line, and returns room for its notes, as many as `most` if records are kept.
+    /// Makes room for a step of this line, and returns room for its notes, as many as `most` if records are kept. Returns an error if there
+    /// is not enough memory; then nothing has changed.
     fn begin(&mut self, line: &[u8], most: usize) -> Result<Vec<Note>, AllocError>
         ensures drafted { OnOk result
             (view self.new ≡ option_map (drafts line.now) (view self.old)) }
@@ -65,7 +67,7 @@ pub trait Tape: Drop {
             (spends (step_saying conn line.now text.old.items None [])) (view self.old) }
         ensures text { text.new.items ≡ text_left (view self.old) text.old.items };
 
-    /// Forgets the record under way: the tape is as any that keeps the same records beside.
+    /// Drops the record under way. The tape is then as it was before the record, apart from room.
     fn abandon(&mut self)
         ensures { (before : Self) → view before ≡ option_map forgets (view self.old)
             → self.new ≡ before };

@@ -41,7 +41,7 @@ impl<T> Watched<T> {
         &self.inner
     }
 
-    /// Returns how many of its calls failed; the count stops at `u64::MAX`.
+    /// Returns how many of the device's calls failed. The count stops at `u64::MAX`.
     pub fn failed(&self) -> u64
         ensures { result ≡ failures self.now }
     {

@@ -17,13 +17,13 @@ use std::io::{Read, Write};
 /// Whether a driver continues.
 #[derive(Clone, Copy, Debug, PartialEq, Eq, Drop)]
 pub enum Progress {
-    /// It continues; if `converse` returns this, its turns are used up.
+    /// The connection continues. If `converse` returns this, its turns are used up.
     More,
-    /// It is over.
+    /// The connection is over.
     Over,
 }
 
-/// Returns how a connection ended that is not continued: turns that were used up are an error.
+/// Returns how a connection ended that is not continued: `UsedUp` if its turns were used up, and otherwise its error, if it had one.
 pub fn outcome_of(ended: Result<Progress, RunError>) -> Result<(), RunError>
     ensures { result ≡ outcome_by ended }
 {
@@ -34,7 +34,7 @@ pub fn outcome_of(ended: Result<Progress, RunError>) -> Result<(), RunError>
     }
 }
 
-/// Opens a connection of a namespace.
+/// Opens a connection of a namespace. Returns `OutOfMemory` or the host's error; then no connection is open.
 pub fn open<H: Host>(
     host: &mut H,
     place: &mut H::Place,
@@ -106,8 +106,9 @@ fn take_turn<H: Host, I: Read, O: Write, K: Clock, D: Loader>(
     feed_piece(host, place, session, count, writer, clock)
 }
 
-/// Answers what is read, and settles the loads that go out, to the end of the input or until the connection has closed. If its turns are
-/// used up before, it can be called again.
+/// Answers what is read, and settles the loads that go out, to the end of the input or until the connection has closed. Returns `More` if
+/// the turns are used up before; then the call can be made again. Returns `Read` or `Write` if the device failed, `Moment` if the clock
+/// gave more than 2^63 - 1 nanoseconds, `UsedUp`, or `OutOfMemory`.
 pub fn converse<H: Host, I: Read, O: Write, K: Clock, D: Loader>(
     host: &mut H,
     place: &mut H::Place,
@@ -142,7 +143,8 @@ pub fn converse<H: Host, I: Read, O: Write, K: Clock, D: Loader>(
     Ok(Progress::More)
 }
 
-/// Closes a connection, unless it has closed; after an error the loads in hand are dropped, and those that have gone out.
+/// Closes a connection, unless it has closed. After an error the loads in hand are dropped, and those that have gone out. Returns
+/// `outcome`.
 pub fn close<H: Host, D: Loader>(
     host: &mut H,
     place: &mut H::Place,

@@ -12,8 +12,9 @@ use crate::driver::host::Host;
 use crate::driver::session::Session;
 use std::io::Write;
 
-/// Feeds this many bytes of the inbox with the clock's reading, and hands out the results. `Over` if others had closed the connection.
-/// If a command is held back for lack of memory, that is an error.
+/// Feeds this many bytes of the inbox with the clock's reading, and hands out the results. Returns `Over` if others had closed the
+/// connection. Returns `OutOfMemory` if a command is held back for lack of memory, `Write` if the writer failed, `Moment` if the clock gave
+/// more than 2^63 - 1 nanoseconds, and the host's errors.
 pub fn feed_piece<H: Host, O: Write, K: Clock>(
     host: &mut H,
     place: &mut H::Place,

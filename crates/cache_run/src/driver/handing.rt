@@ -31,7 +31,8 @@ fn send_whole<W: Write>(text: &[u8], writer: &mut Watched<W>) -> Result<(), RunE
     }
 }
 
-/// Keeps the loads, and sends the replies. If there was not enough memory for the replies, they are left to be taken.
+/// Keeps the loads, and sends the replies. Returns `Write` if the writer failed, and `OutOfMemory` if there was not enough memory for the
+/// replies, which are then left to be taken.
 pub fn hand_out<W: Write>(
     session: &mut Session,
     given: Given,

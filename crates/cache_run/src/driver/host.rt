@@ -13,17 +13,17 @@ use audit_model::{Bytes, Closing, Conn, LoadId, Outcome};
 pub struct Given {
     /// Whether a command is held back for lack of memory.
     pub held: bool,
-    /// Its replies that were not taken; `None` if there was not enough memory for them.
+    /// The connection's replies that were not taken, or `None` if there was not enough memory for them.
     pub replies: Option<Vec<u8>>,
-    /// The loads of its namespace that had gone out and were not taken, if they were requested.
+    /// The loads of the connection's namespace that had gone out and were not taken, if they were requested.
     pub loads: Option<Vec<(LoadId, Bytes)>>,
-    /// Why it has closed, if it has.
+    /// Why the connection has closed, or `None` while it is open.
     pub closing: Option<Closing>,
-    /// Whether a `LOAD` of it waits for a load that is requested from another connection's loader.
+    /// Whether a `LOAD` of the connection waits for a load that is requested from another connection's loader.
     pub waits: bool,
 }
 
-/// Serves connections: a lent service, or a seat of one that threads share.
+/// Whoever serves connections: a lent service, or a seat of one that threads share.
 pub trait Host {
     /// What changes while a connection is served.
     type Place;
@@ -58,7 +58,7 @@ pub trait Host {
     /// Loads in hand were dropped, and then those that had gone out, for which a loader was asked in this way.
     ghost drops: { Conn → Outs → Self.Place → List Asking → Self.Place → Type 0 };
 
-    /// Opens a connection.
+    /// Opens a connection. Returns `OutOfMemory`, or `UsedUp` if a 64-bit count is used up; then no connection was opened.
     fn open(&mut self, place: &mut Self::Place, namespace: u64) -> Result<Conn, RunError>
         ensures opens { IfOk result
             (λ conn. opens namespace conn place.old place.new × knows conn place.new) }
@@ -73,7 +73,8 @@ pub trait Host {
         ensures whole { LENT ≡ true → result ≡ length bytes.now }
         ensures fits { fits (take result bytes.now) };
 
-    /// Feeds a piece, and takes the loads that have gone out. Returns `None` if the connection had closed.
+    /// Feeds a piece, and takes the loads that have gone out. Returns `None` if the connection had closed. Returns `Moment` if the moment
+    /// is above 2^63 - 1 nanoseconds, `OutOfMemory`, or `UsedUp` if a 64-bit count is used up.
     fn feed(
         &mut self,
         place: &mut Self::Place,
@@ -94,7 +95,7 @@ pub trait Host {
             (Stops (exhausts (counted place.old) (counted place.new)) (2 ^ 63 ≤ moment)) };
 
     /// Settles a load by what the loader returned: it is answered, or given up if there is no outcome or one that is refused for its bytes
-    /// or its time.
+    /// or its time. Returns `Moment` if the moment is above 2^63 - 1 nanoseconds, `OutOfMemory`, or `UsedUp` if a 64-bit count is used up.
     fn settle(
         &mut self,
         place: &mut Self::Place,
@@ -115,7 +116,7 @@ pub trait Host {
         ensures why { IfErr result
             (Stops (exhausts (counted place.old) (counted place.new)) (2 ^ 63 ≤ moment)) };
 
-    /// Waits while a `LOAD` of the connection waits, and returns what it is owed then.
+    /// Waits while a `LOAD` of the connection waits, and returns what the connection is owed then.
     fn await_owed(&mut self, place: &mut Self::Place, conn: Conn) -> Given
         requires known { knows conn place.old }
         ensures came { came conn place.old (exchange_of Looked result) place.new }

@@ -11,7 +11,7 @@ use std::marker::Model;
 /// The maximum number of bytes that are read at once.
 const PIECE_BYTES: usize = 8192;
 
-/// Bytes that were read and not fed.
+/// Bytes of a connection that were read and not fed.
 #[derive(Drop)]
 pub struct Inbox {
     buffer: Vec<u8>,
@@ -31,7 +31,7 @@ impl Model for Inbox {
 }
 
 impl Inbox {
-    /// Creates an empty inbox.
+    /// Creates an empty inbox. Returns an error if there is not enough memory.
     pub fn new(alloc: Global) -> Result<Inbox, AllocError>
         ensures { IfOk result (λ inbox. inbox ≡ []) }
     {
@@ -43,7 +43,8 @@ impl Inbox {
         })
     }
 
-    /// Creates an empty inbox with room for one byte, for a connection of which nothing is read for now.
+    /// Creates an empty inbox with room for one byte, for a connection of which nothing is read for now. Returns an error if there is not
+    /// enough memory.
     pub fn small(alloc: Global) -> Result<Inbox, AllocError>
         ensures { IfOk result (λ inbox. inbox ≡ []) }
     {
@@ -77,8 +78,8 @@ impl Inbox {
         self.from += count;
     }
 
-    /// Reads once, if all bytes were fed, as many bytes as there is room for. Returns how many: none at the end of the input. After an error
-    /// none was read.
+    /// Reads once, if all bytes were fed, as many bytes as there is room for. Returns how many: none at the end of the input. Returns the
+    /// reader's error; then no byte was read.
     pub fn fill<I: Read>(&mut self, reader: &mut I) -> io::Result<usize>
         requires { self.old ≡ [] }
         ensures { Obtains (I.remaining reader.old) (I.remaining reader.new) self.new result }
@@ -90,7 +91,7 @@ impl Inbox {
         Ok(count)
     }
 
-    /// Returns whether it has no room for more than this many bytes. It never has room for more than 8,192.
+    /// Returns whether the inbox has no room for more than this many bytes. An inbox never has room for more than 8,192.
     pub fn is_filled_by(&self, count: usize) -> bool
         ensures { result ≡ false → count < 8192 }
     {
@@ -106,7 +107,7 @@ impl Inbox {
     }
 
     /// Reads a piece, if all bytes were fed. Returns whether there may be more: not at the end of the input. After an interrupted read
-    /// there is no piece.
+    /// there is no piece. Returns `Read` if the reader failed otherwise.
     pub fn refill<I: Read>(&mut self, reader: &mut Watched<I>) -> Result<bool, RunError>
         ensures { Fills I.remaining self.old self.new reader.old reader.new result }
     {

@@ -8,11 +8,11 @@ use audit_model::{Bytes, Closing, Conn, LoadId};
 /// The state of a connection after the last exchange.
 #[derive(Clone, Copy, Debug, PartialEq, Eq, Drop)]
 pub enum Footing {
-    /// It takes commands.
+    /// The connection takes commands.
     Ready,
-    /// A `LOAD` of it waits for a load that is requested from another connection's loader.
+    /// A `LOAD` of the connection waits for a load that is requested from another connection's loader.
     Waiting,
-    /// It has closed.
+    /// The connection has closed.
     Closed,
 }
 
@@ -21,11 +21,11 @@ pub enum Footing {
 pub struct Session {
     /// The connection.
     pub conn: Conn,
-    /// Loads of its namespace that have gone out, and that are to be requested from its loader.
+    /// Loads of the connection's namespace that have gone out, and that are to be requested from its loader.
     pub taken: Vec<(LoadId, Bytes)>,
     /// What was read and not fed.
     pub inbox: Inbox,
-    /// Its state.
+    /// The connection's state.
     pub footing: Footing,
 }
 

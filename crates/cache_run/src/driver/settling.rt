@@ -50,8 +50,8 @@ fn settle_one<H: Host, O: Write, K: Clock, D: Loader>(
     hand_out(session, given, writer)
 }
 
-/// Settles the last load in hand, or else waits for others'; if none is left after that, runs what may be held back. `Over` if others had
-/// closed the connection.
+/// Settles the last load in hand, or else waits for others'; if none is left after that, runs what may be held back. Returns `Over` if
+/// others had closed the connection, and the errors of `feed_piece`.
 pub fn settle_next<H: Host, O: Write, K: Clock, D: Loader>(
     host: &mut H,
     place: &mut H::Place,

@@ -15,13 +15,13 @@ pub enum Fault {
     Read,
     /// Standard output could not be written.
     Write,
-    /// There was no memory.
+    /// There was not enough memory.
     OutOfMemory,
-    /// A count was used up.
+    /// A 64-bit count was used up.
     UsedUp,
-    /// The file is no good configuration.
+    /// The file is not a configuration that is accepted.
     BadConfiguration,
-    /// A listener could not be had, or could not go on.
+    /// The program cannot listen, or a listener failed.
     CannotListen,
 }
 
@@ -35,7 +35,7 @@ impl From<AllocError> for Fault {
 
 const USAGE: &[u8] = b"usage: cached --script | --config FILE\n";
 
-/// The text of a fault, with its line end.
+/// Returns the text of a fault, with its line end.
 pub fn text_of(fault: Fault) -> &'static [u8]
     ensures { result.now ≡ fault_message fault }
 {
@@ -69,7 +69,7 @@ pub fn tell_both<E: Write>(first: &[u8], second: &[u8], errors: &mut Watched<E>)
     }
 }
 
-/// Writes the text of a fault, and returns the status after it. What cannot be written is lost.
+/// Writes the text of a fault, and returns the status of the program. What cannot be written is lost.
 pub fn fail<E: Write>(errors: &mut Watched<E>, fault: Fault) -> u8
     ensures status { result ≡ 1 }
     ensures told { Tells (fault_message fault) (E.contents (device errors.old))
@@ -80,7 +80,8 @@ pub fn fail<E: Write>(errors: &mut Watched<E>, fault: Fault) -> u8
     1
 }
 
-/// The program if its arguments cannot be read, or are wrong: writes the text, and returns the status. If memory ran out, that is 1.
+/// Ends the program if its arguments cannot be read, or are wrong: writes the text, and returns the status, 2, or 1 if there was not enough
+/// memory.
 pub fn without_words<E: Write>(cause: ErrorKind, errors: &mut Watched<E>) -> u8
     ensures memory { cause ≡ ErrorKind.OutOfMemory
         → EndsTelling E.contents result 1 (fault_message Fault.OutOfMemory) errors.old errors.new }
@@ -94,7 +95,7 @@ pub fn without_words<E: Write>(cause: ErrorKind, errors: &mut Watched<E>) -> u8
     2
 }
 
-/// Why the program ends after a connection ended with an error.
+/// Returns why the program ends after a connection ended with an error.
 pub fn fault_of(error: RunError) -> Fault
     ensures { result ≡ fault_after error }
 {

@@ -7,8 +7,8 @@ ghost use Rattle.cached_server.specs.Script.Gathering.{Gathers};
 use cache_run::{RunError, Watched, send};
 use std::io::Write;
 
-/// Appends a text to what was gathered. If there is no room for it, both are written. This allocates nothing. Returns `Write` if the writer
-/// fails.
+/// Appends a text to what was gathered. If there is no room for the text, both are written. The call allocates nothing. Returns `Write` if
+/// the writer fails.
 pub fn put<W: Write>(
     gathered: &mut Vec<u8>,
     text: &[u8],

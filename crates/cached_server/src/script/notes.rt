@@ -13,7 +13,7 @@ use cache_run::{RunError, Watched};
 use cache_spaces::Service;
 use std::io::Write;
 
-/// Gathers the line of a note. This allocates nothing.
+/// Gathers the line of a note. The call allocates nothing. Returns `Write` if the writer fails.
 pub fn write_note<W: Write>(
     note: &Note,
     gathered: &mut Vec<u8>,
@@ -50,7 +50,7 @@ fn next_note(service: &mut Service, namespace: u64) -> Option<Note>
 }
 
 /// Takes all notes of a namespace, and writes their lines. Lines are gathered within the capacity of `gathered`, so that few writes are
-/// made, and nothing is allocated.
+/// made, and nothing is allocated. Returns `Write` if the writer fails.
 pub fn tell_notes<W: Write>(
     service: &mut Service,
     namespace: u64,

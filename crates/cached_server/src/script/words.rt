@@ -11,14 +11,14 @@ use std::io::ErrorKind;
 /// What the words ask for.
 #[derive(Clone, Copy, Debug, PartialEq, Eq, Drop)]
 pub enum Chosen<'a> {
-    /// To serve standard input to standard output.
+    /// Serve standard input to standard output.
     Script,
-    /// To serve what the configuration file at this path says.
+    /// Serve what the configuration file at this path says.
     Config(&'a str),
 }
 
-/// Takes the arguments: exactly one of `--script` and `--config FILE`. The first is the program's name. The error is `OutOfMemory`, or
-/// `InvalidInput` for others.
+/// Takes the arguments: exactly one of `--script` and `--config FILE`. The first is the program's name. Returns `OutOfMemory` if there is
+/// not enough memory, and `InvalidInput` for other arguments.
 pub fn take_words<'a, S: AsStr>(alloc: Global, words: &'a [S]) -> Result<Chosen<'a>, ErrorKind>
     ensures taken { IfOk result
         (λ asked. call_of (map S.text words.entry.now) ≡ Some (path_of asked)) }

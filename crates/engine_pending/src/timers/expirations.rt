@@ -8,7 +8,7 @@ use policy_queue::TimerWheel;
 use std::alloc::Global;
 use std::marker::Model;
 
-/// When places expire: a timer for each place that does. Where there was no memory for one, that is remembered.
+/// When places expire: a timer for each place that does. If there was no memory for one, that is remembered.
 #[derive(Drop)]
 pub struct Expirations {
     wheel: TimerWheel<()>,
@@ -27,7 +27,7 @@ impl Model for Expirations {
 }
 
 impl Expirations {
-    /// No place expires.
+    /// Creates an empty table: no place expires.
     pub fn new(alloc: Global) -> Self
         ensures { result ≡ record { timers = []; is_whole = true } }
     {
@@ -40,21 +40,21 @@ impl Expirations {
         }
     }
 
-    /// Whether there was memory for all timers.
+    /// Returns whether there was memory for all timers.
     pub fn is_whole(&self) -> bool
         ensures { result ≡ self.now.is_whole }
     {
         self.is_whole
     }
 
-    /// As if there had been memory for all timers. The caller then sets each place again.
+    /// Forgets all timers, and that there was no memory for some. The caller then sets each place again.
     pub fn start_again(&mut self)
         ensures { self.new ≡ record self.old { is_whole = true } }
     {
         self.is_whole = true;
     }
 
-    /// A place expires at a moment in nanoseconds, or no longer does.
+    /// Sets the moment in nanoseconds at which a place expires, or that it does not.
     pub fn set(&mut self, place: usize, time: Option<u64>)
         ensures others { KeepsOthers place self.old.timers self.new.timers }
         ensures set { IsSet self.new place time }
@@ -64,7 +64,7 @@ impl Expirations {
         self.is_whole = both(self.is_whole, is_set);
     }
 
-    /// The place that expires first, if its timer has come.
+    /// Returns the place that expires first, if its timer has come at `now`, or `None`.
     pub fn first_due(&self, now: Instant) -> Option<usize>
         ensures found { IfSome result (λ place. IsAwaited self.now place now) }
         ensures none { IfNone result

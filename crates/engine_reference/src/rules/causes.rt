@@ -6,7 +6,7 @@ use thiserror::Error;
 /// Why a value left a cache.
 #[derive(Clone, Copy, Debug, PartialEq, Eq)]
 pub enum RemovalCause {
-    /// The time of the value was over.
+    /// The value had reached its deadline.
     Expired,
     /// The value was removed by its key, or invalidated by a clear or a predicate.
     Explicit,

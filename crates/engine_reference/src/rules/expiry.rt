@@ -6,8 +6,9 @@ ghost use Rattle.engine_reference.specs.Rules.Changes.{change_of, change_from};
 use policy_base::Instant;
 use std::time::Duration;
 
-/// When a value expires by itself, in addition to the times of its cache. Each method returns a duration from the moment, or `None`
-/// for a value that does not expire by itself. The result is a function of the arguments, which the ghost members give in nanoseconds.
+/// When a value expires by itself, in addition to the times of its cache. Each method returns how long after the moment of its call the
+/// value expires, or `None` for a value that does not expire by itself. The result is a function of the arguments, which the ghost members
+/// give in nanoseconds.
 ///
 /// The trait in `moka` has default bodies; here `NoExpiry` returns what they do.
 pub trait Expiry<K, V> {
@@ -20,11 +21,13 @@ pub trait Expiry<K, V> {
     /// The result for an update, by key, value, moment, and the time left until the value expires.
     ghost updated: { Self → K → V → ℕ → Option ℕ → Option ℕ };
 
-    /// Returns the expiration of a value that was written under a new key.
+    /// Returns how long after `created_at` a value expires that was written under a new key then, or `None` if it does not expire by
+    /// itself.
     fn expire_after_create(&self, key: &K, value: &V, created_at: Instant) -> Option<Duration>
         ensures { option_map as_nanos result ≡ created self.now key.now value.now created_at };
 
-    /// Returns the expiration of a value that was read.
+    /// Returns how long after `read_at` a value expires that was read then, or `None` if it does not expire by itself. `remaining` is the
+    /// time that was left until its expiration; if the result is equal to it, the expiration stays as it is.
     fn expire_after_read(
         &self,
         key: &K,
@@ -36,7 +39,9 @@ pub trait Expiry<K, V> {
         ensures { option_map as_nanos result ≡ read self.now key.now value.now read_at
             (option_map as_nanos remaining) last_modified_at };
 
-    /// Returns the expiration of a value that replaced another.
+    /// Returns how long after `updated_at` a value expires that replaced another then, or `None` if it does not expire by itself.
+    /// `remaining` is the time that was left until the expiration of the other; if the result is equal to it, the expiration stays as it
+    /// is.
     fn expire_after_update(
         &self,
         key: &K,
@@ -48,7 +53,7 @@ pub trait Expiry<K, V> {
             ≡ updated self.now key.now value.now updated_at (option_map as_nanos remaining) };
 }
 
-/// Values do not expire by themselves, and reads and updates do not change the remaining time.
+/// An `Expiry` under which values do not expire by themselves, and reads and updates do not change the remaining time.
 #[derive(Clone, Copy, Debug, PartialEq, Eq)]
 pub struct NoExpiry;
 
@@ -90,7 +95,7 @@ impl<K, V> Expiry<K, V> for NoExpiry {
 pub enum Expiration {
     /// The expiration of the value stays as it is.
     Keep,
-    /// The value expires this long after the moment, or does not expire by itself.
+    /// The value expires this long after the moment of the read or update, or with `None` does not expire by itself.
     Set(Option<Duration>),
 }
 

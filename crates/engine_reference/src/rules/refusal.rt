@@ -6,19 +6,19 @@ use thiserror::Error;
 /// Why a call is refused. After a refusal nothing has changed.
 #[derive(Clone, Copy, Debug, PartialEq, Eq, Drop, Error)]
 pub enum Refusal {
-    /// An allocation failed.
+    /// There was not enough memory.
     #[error("out of memory")]
     OutOfMemory,
     /// No write waits under this ticket.
     #[error("unknown ticket")]
     UnknownTicket,
-    /// The queue of writes is full until the next run.
+    /// The queue of writes is full until the next run: 128 writes wait.
     #[error("queue full")]
     QueueFull,
     /// The cache was created without support for predicates.
     #[error("invalidation closures disabled")]
     InvalidationClosuresDisabled,
-    /// Each identifier that was drawn is registered.
+    /// Each of a thousand identifiers that were drawn is registered.
     #[error("ids in use")]
     IdsInUse,
     /// The 64-bit tickets are used up.

@@ -25,7 +25,8 @@ pub trait Rules<K, V> {
     fn weight(&self, key: &K, value: &V) -> u32
         ensures { result ≡ answers.weight_of self.now key.now value.now };
 
-    /// Returns the expiration of a value that was written under a new key.
+    /// Returns how long after `created_at` a value expires that was written under a new key then, or `None` if it does not expire by
+    /// itself.
     fn created_expiration(&self, key: &K, value: &V, created_at: Instant) -> Option<Duration>
         ensures { option_map as_nanos result
             ≡ answers.created self.now key.now value.now created_at };
@@ -67,7 +68,7 @@ pub trait Weigher<K, V> {
         ensures { result ≡ weight_of self.now key.now value.now };
 }
 
-/// Selects the values to invalidate.
+/// A predicate that selects the values to invalidate.
 pub trait Predicate<K, V>: Drop {
     ghost covers: { Self → K → V → Bool };
 
@@ -76,7 +77,7 @@ pub trait Predicate<K, V>: Drop {
         ensures { result ≡ covers self.now key.now value.now };
 }
 
-/// Each value weighs one.
+/// A `Weigher` under which each value weighs one.
 #[derive(Clone, Copy, Debug, PartialEq, Eq)]
 pub struct WeighOne;
 
@@ -103,8 +104,11 @@ impl<K, V> Predicate<K, V> for NoPredicate {
 /// Rules that consist of an `Expiry`, a `Weigher`, a type of predicates and a type of faults.
 #[derive(Drop)]
 pub struct Bundle<X, W, P, F> {
+    /// When values expire by themselves.
     pub expiry: X,
+    /// How much values weigh.
     pub weigher: W,
+    /// The types of the predicates and of the faults.
     pub parts: PhantomData<(P, F)>,
 }
 

@@ -13,7 +13,7 @@ pub enum EvictionPolicy {
 }
 
 impl EvictionPolicy {
-    /// Returns the policy that evicts by how often and how recently entries are used. This is the default.
+    /// Returns the policy that evicts by how often and how recently entries are used, which is the default.
     pub fn tiny_lfu() -> Self
         ensures { result ≡ EvictionPolicy.TinyLfu }
     {
@@ -47,14 +47,14 @@ pub struct ExpirationPolicy {
 }
 
 impl ExpirationPolicy {
-    /// Returns how long a value lives after it was written.
+    /// Returns how long a value lives after it was written, or `None` without a limit.
     pub fn time_to_live(&self) -> Option<Duration>
         ensures { result ≡ self.now.time_to_live }
     {
         self.time_to_live
     }
 
-    /// Returns how long a value lives after its last use.
+    /// Returns how long a value lives after its last use, or `None` without a limit.
     pub fn time_to_idle(&self) -> Option<Duration>
         ensures { result ≡ self.now.time_to_idle }
     {
@@ -120,28 +120,28 @@ impl Policy {
         }
     }
 
-    /// Returns the maximum weight of the cache.
+    /// Returns the maximum weight of the cache, or `None` without a limit.
     pub fn max_capacity(&self) -> Option<u64>
         ensures { result ≡ self.now.max_capacity }
     {
         self.max_capacity
     }
 
-    /// Returns the number of parts.
+    /// Returns the number of parts. (`moka` calls a part a segment.)
     pub fn num_segments(&self) -> usize
         ensures { result ≡ self.now.num_segments }
     {
         self.num_segments
     }
 
-    /// Returns how long a value lives after it was written.
+    /// Returns how long a value lives after it was written, or `None` without a limit.
     pub fn time_to_live(&self) -> Option<Duration>
         ensures { result ≡ self.now.time_to_live }
     {
         self.time_to_live
     }
 
-    /// Returns how long a value lives after its last use.
+    /// Returns how long a value lives after its last use, or `None` without a limit.
     pub fn time_to_idle(&self) -> Option<Duration>
         ensures { result ≡ self.now.time_to_idle }
     {

@@ -18,7 +18,8 @@ use std::hash::{BuildHasher, Hash};
 const WAITING: usize = 128;
 
 impl<K: Eq + Hash, V, S: BuildHasher, R: Rules<K, V>> Tables<K, V, S, R> {
-    /// The place of the record of a number, by the hash of its key. If it is there it is held.
+    /// Returns the place of the record of a number, by the hash of its key, or `None` if there is no such record. A record that is there is
+    /// held.
     pub fn place_of_number(&self, number: u64, hash: u64) -> Option<usize>
         requires held { (r : Record K V) → record_at self.now.state.records number ≡ Some r
             → (r.is_held ≡ true) × (r.hash ≡ hash) }
@@ -29,7 +30,7 @@ impl<K: Eq + Hash, V, S: BuildHasher, R: Rules<K, V>> Tables<K, V, S, R> {
         find_number(&self.cells, &self.keys, number, hash)
     }
 
-    /// A look-up that found a record which is gone waits to be counted, for which there is room.
+    /// Adds the read of a look-up that found a record which is gone, to be counted. There must be room for it.
     pub fn push_gone(&mut self, number: u64, hash: u64)
         requires room { length self.old.state.reads < 64 }
         requires gone { record_at self.old.state.records number ≡ None }
@@ -46,8 +47,8 @@ impl<K: Eq + Hash, V, S: BuildHasher, R: Rules<K, V>> Tables<K, V, S, R> {
         });
     }
 
-    /// Makes space for so many records, and for those that wait for a run, in tables that have none, and answers whether there was memory
-    /// for it.
+    /// Makes space for so many records, and for those that wait for a run, in tables that have none. Returns whether there was enough
+    /// memory.
     pub fn make_space(&mut self, records: usize) -> bool
         ensures { self.new ≡ self.old }
     {
@@ -62,7 +63,8 @@ impl<K: Eq + Hash, V, S: BuildHasher, R: Rules<K, V>> Tables<K, V, S, R> {
         )
     }
 
-    /// Clones of the keys of all held records, in the order in which these were made.
+    /// Returns clones of the keys of all held records, in the order in which the records were made. Returns an error if there is not enough
+    /// memory.
     pub fn keys(&self) -> Result<Vec<K>, AllocError>
     where
         K: Clone + Drop,
@@ -74,7 +76,7 @@ impl<K: Eq + Hash, V, S: BuildHasher, R: Rules<K, V>> Tables<K, V, S, R> {
         Ok(keys)
     }
 
-    /// How many keys have a visible value, by a look at every record.
+    /// Returns how many keys have a visible value at `now`, a moment in nanoseconds. Every record is looked at.
     pub fn count_visible(&self, now: u64) -> usize
         ensures { (answers : Answers K V R.Predicate R) → answers.covers ≡ R.answers.covers
             → result ≡ length (visible_keys answers K.eq self.now.state now) }
@@ -82,7 +84,7 @@ impl<K: Eq + Hash, V, S: BuildHasher, R: Rules<K, V>> Tables<K, V, S, R> {
         count_shown(&self.cells, &self.backlog, now)
     }
 
-    /// There is a ticket for each write that has room, and one more.
+    /// There is a ticket for each write that has room, and one more. The call does nothing: its contract says so.
     pub fn tickets_last(&self)
         ensures { self.now.state.next_ticket + self.now.state.reserved < 2 ^ 64 }
     {

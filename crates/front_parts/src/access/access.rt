@@ -14,7 +14,7 @@ use std::alloc::AllocError;
 
 /// The two calls of a cache with which selectors are implemented.
 ///
-/// A lent cache requires that no turn of the kind and key is under way; a shared one waits for it, and says nothing about values.
+/// A lent cache requires that no turn of the kind and key is under way; a shared one waits for the turn, and says nothing about values.
 pub trait Access<K, V: Clone> {
     /// The moment and the step of a call, for a cache whose callers name them.
     type When: Copy;
@@ -42,8 +42,8 @@ pub trait Access<K, V: Clone> {
     ghost refuses_computed: { Self → K → CacheError → Type 0 };
 
     /// Returns the visible value of a key for which `replace_if` does not return true, and false; or else what `make` makes, and whether
-    /// this call made it. A value that was made is stored.
-    /// Without a kind, the call does not wait for other calls. If `make` fails to allocate, the call is refused.
+    /// this call made it. A value that was made is stored. Without a kind, the call does not wait for other calls. Returns `OutOfMemory` if
+    /// `make` fails to allocate, and otherwise the errors of the cache's calls; a lent cache is then as before.
     fn coalesce<
         P: FnOnce(&V) -> bool + Drop,
         M: FnOnce() -> Result<Made<V, Shared<Self::Fault>>, AllocError> + Drop,
@@ -66,7 +66,7 @@ pub trait Access<K, V: Clone> {
         ensures cause { IfErr result (refuses_coalesced self.old kind key) };
 
     /// Calls `decide` with the visible value of a key, does what it decides, and returns what was done; or returns the error of `decide`,
-    /// and writes nothing.
+    /// and writes nothing. Returns a `CacheError` if the cache refuses the call; a lent cache is then as before.
     fn compute<E: Drop, D: FnOnce(Option<V>) -> Result<Op<V>, E> + Drop>(
         &mut self,
         key: Shared<K>,

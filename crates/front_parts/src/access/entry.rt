@@ -137,7 +137,7 @@ impl<K, V> CompResult<K, V> {
         }
     }
 
-    /// Returns the entry, if there is one.
+    /// Returns the entry, or `None` if there was no value and still is none.
     /// ```
     /// let value = done.into_entry().map(|entry| entry.into_value());
     /// ```

@@ -9,7 +9,7 @@ ghost use Rattle.front_parts.specs.Access.Selecting.{with_fault};
 use front_reference::{Made, Shared};
 use std::sync::Arc;
 
-/// The value that was made.
+/// Returns the value that was made. One must have been made.
 pub fn value_made<V, F: Drop>(made: Made<V, F>) -> V
     requires { Suits None made }
     ensures { outcome.Value result ≡ made }
@@ -20,7 +20,7 @@ pub fn value_made<V, F: Drop>(made: Made<V, F>) -> V
     }
 }
 
-/// The value that was made, if any.
+/// Returns the value that was made, or `None` if none was.
 pub fn option_made<V, F: Drop>(made: Made<V, F>) -> Option<V>
     requires { Suits (Some turns.Optionally) made }
     ensures { made_option result ≡ made }
@@ -32,7 +32,7 @@ pub fn option_made<V, F: Drop>(made: Made<V, F>) -> Option<V>
     }
 }
 
-/// The value that was made, or why none was.
+/// Returns the value that was made, or as an error the fault for which none was. One of both must have been made.
 pub fn result_made<V, F: Drop>(made: Made<V, Shared<F>>) -> Result<V, Arc<F>>
     requires { Suits (Some turns.Try) made }
     ensures { made_result (with_fault arc_value result) ≡ made }

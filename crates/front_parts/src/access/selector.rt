@@ -90,7 +90,8 @@ impl<'a, K, A, W: Copy> EntrySelector<'a, K, A, W> {
     }
 
     /// Returns the visible value of the key, or the one that `make` makes, which is stored. Of several callers for the key one makes it,
-    /// and the others wait for it.
+    /// and the others wait for it. Returns `OutOfMemory` if there is not enough memory, `UsedUp` if the cache's 64-bit numbers are used up,
+    /// and, from a shared cache, `Abandoned` if each of 200 turns that the call waited for was given up; a lent cache is then as before.
     /// ```
     /// let entry = cache.entry(7, at).or_insert_with(|| 49)?;
     /// let value = entry.into_value();
@@ -121,7 +122,7 @@ impl<'a, K, A, W: Copy> EntrySelector<'a, K, A, W> {
     }
 
     /// Like `or_insert_with`, except that a visible value for which `replace_if` returns true counts as none. The entry does not say that a
-    /// value was replaced.
+    /// value was replaced. Returns the errors of `or_insert_with`.
     /// ```
     /// let entry = cache.entry(7, at).or_insert_with_if(|| 50, |old| *old < 50)?;
     /// ```
@@ -153,6 +154,8 @@ impl<'a, K, A, W: Copy> EntrySelector<'a, K, A, W> {
     }
 
     /// Returns the visible value of the key, or else this one, which is then stored. The call is not coalesced: it waits for no other call.
+    /// Returns `OutOfMemory` if there is not enough memory, and `UsedUp` if the cache's 64-bit numbers are used up; a lent cache is then as
+    /// before.
     /// ```
     /// let entry = cache.entry(7, at).or_insert(49)?;
     /// ```
@@ -178,7 +181,8 @@ impl<'a, K, A, W: Copy> EntrySelector<'a, K, A, W> {
     }
 
     /// Returns the visible value of the key, or else the default value, which is then stored. The call is not coalesced: it waits for no
-    /// other call.
+    /// other call. Returns `OutOfMemory` if there is not enough memory, and `UsedUp` if the cache's 64-bit numbers are used up; a lent
+    /// cache is then as before.
     /// ```
     /// let entry = cache.entry(7, at).or_default()?;
     /// ```
@@ -204,7 +208,7 @@ impl<'a, K, A, W: Copy> EntrySelector<'a, K, A, W> {
     }
 
     /// Returns the visible value of the key, or the one that `make` makes, which is stored, or `None` if it makes none. The call is
-    /// coalesced with calls of its kind.
+    /// coalesced with calls of its kind. Returns the errors of `or_insert_with`.
     /// ```
     /// match cache.entry(7, at).or_optionally_insert_with(|| find_user(7))? {
     ///     Some(entry) => show(entry.value()),
@@ -245,7 +249,7 @@ impl<'a, K, A, W: Copy> EntrySelector<'a, K, A, W> {
     }
 
     /// Returns the visible value of the key, or the one that `make` makes, which is stored, or its error if it fails. The call is coalesced
-    /// with calls of its kind, which then return the same error.
+    /// with calls of its kind, which then return the same error. Returns the errors of `or_insert_with` as `CacheError`.
     /// ```
     /// match cache.entry(7, at).or_try_insert_with(|| read_row(7))? {
     ///     Ok(entry) => show(entry.value()),
@@ -296,7 +300,8 @@ impl<'a, K, A, W: Copy> EntrySelector<'a, K, A, W> {
     }
 
     /// Calls `decide` with the entry, if there is one, and does what it decides; if `decide` fails, nothing is written. Calls of this kind
-    /// for one key come one after another.
+    /// for one key come one after another. Returns `OutOfMemory` if there is not enough memory, and `UsedUp` if the cache's 64-bit numbers
+    /// are used up; a lent cache is then as before.
     /// ```
     /// let answer = cache.entry(7, at).and_try_compute_with(|seen| match seen {
     ///     Some(entry) => Ok(Op::Put(parse(entry.value())?)),
@@ -341,6 +346,8 @@ impl<'a, K, A, W: Copy> EntrySelector<'a, K, A, W> {
     }
 
     /// Calls `decide` with the entry, if there is one, and does what it decides. Calls of this kind for one key come one after another.
+    /// Returns `OutOfMemory` if there is not enough memory, and `UsedUp` if the cache's 64-bit numbers are used up; a lent cache is then as
+    /// before.
     /// ```
     /// let done = cache.entry(7, at).and_compute_with(|seen| match seen {
     ///     Some(_) => Op::Remove,
@@ -377,7 +384,8 @@ impl<'a, K, A, W: Copy> EntrySelector<'a, K, A, W> {
     }
 
     /// Puts the value that `make` computes from the entry, if there is one. The returned entry is fresh, and says whether a visible value
-    /// was replaced. Calls of this kind for one key come one after another.
+    /// was replaced. Calls of this kind for one key come one after another. Returns `OutOfMemory` if there is not enough memory, and
+    /// `UsedUp` if the cache's 64-bit numbers are used up; a lent cache is then as before.
     /// ```
     /// let entry = cache.entry(7, at).and_upsert_with(|seen| match seen {
     ///     Some(entry) => entry.into_value().saturating_add(1),

@@ -35,7 +35,7 @@ impl<'a, K, V, C: ScanningGet<K, V>> Model for Iter<'a, K, V, C> {
 }
 
 impl<'a, K: Drop, V, C: ScanningGet<K, V>> Iter<'a, K, V, C> {
-    /// Creates an iterator over what is visible at a moment. This allocates nothing.
+    /// Creates an iterator over what is visible at a moment. The call allocates nothing.
     /// ```
     /// let pairs = Iter::new(alloc, &cache, now);
     /// ```

@@ -28,8 +28,8 @@ pub trait ScanningGet<K, V> {
         requires { can_scan self.now }
         ensures { IfOk result (λ found. found ≡ value_of self.now now key.now) };
 
-    /// Returns clones of the keys of a segment, counted from 0, or `None` if there is no such segment. Returns an error if there is no memory
-    /// for them.
+    /// Returns clones of the keys of a segment, counted from 0, or `None` if there is no such segment. Returns an error if there is no
+    /// memory for them.
     fn keys(&self, segment: usize) -> Result<Option<Vec<K>>, AllocError>
         requires { can_scan self.now }
         ensures { IfOk result (λ keys. MatchOption keys (segments self.now ≤ segment)

@@ -2,7 +2,7 @@
 ghost use Rattle.std.specs.Prelude.{◌≡◌, ◌-◌, ◌/◌, ◌<◌, ◌≤◌, ◌^◌};
 ghost use Rattle.front_reference.specs.Fronts.{part_of};
 
-/// The part of a hash among 2^bits parts: its upper bits.
+/// Returns the part that a hash belongs to among 2^bits parts: the number that its upper bits are.
 pub fn place_of(bits: u32, hash: u64) -> usize
     requires { bits ≤ 16 }
     ensures part { result ≡ part_of bits hash }

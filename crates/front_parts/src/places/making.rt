@@ -20,7 +20,7 @@ fn share_of(parts: u64, capacity: u64) -> u64
     (wanted / u128::from(parts)) as u64
 }
 
-/// What each of this many parts is made with: its share of the capacity of all.
+/// Returns the settings of each of this many parts: those of all, with a share of the capacity.
 pub fn for_part(parts: u64, settings: Settings) -> Settings
     requires some { 0 < parts }
     requires few { parts ≤ 65536 }
@@ -41,7 +41,7 @@ pub fn for_part(parts: u64, settings: Settings) -> Settings
     }
 }
 
-/// Creates `count` parts, each with room for `initial_capacity` entries.
+/// Creates `count` parts, each with room for `initial_capacity` entries. Returns an error if there is not enough memory.
 pub fn new_parts<
     K: Eq + Hash + Drop,
     V: Drop,

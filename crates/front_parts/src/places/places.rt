@@ -20,7 +20,7 @@ use policy_base::Instant;
 use std::alloc::AllocError;
 use std::hash::{BuildHasher, Hash};
 
-/// Calls `get` of the part at a place.
+/// Calls `get` of the part at a place, with its errors.
 pub fn get_at<K: Eq + Hash + Drop, V: Clone + Drop, S: BuildHasher, R: Rules<K, V>, Q: Names<K>>(
     parts: &mut Vec<BaseCache<K, V, S, R>>,
     place: usize,
@@ -42,7 +42,7 @@ pub fn get_at<K: Eq + Hash + Drop, V: Clone + Drop, S: BuildHasher, R: Rules<K, 
     Ok(found)
 }
 
-/// Whether a key has a visible value in the part at a place.
+/// Returns whether a key has a visible value in the part at a place.
 pub fn contains_key_at<K: Eq + Hash, V, S: BuildHasher, R: Rules<K, V>, Q: Names<K>>(
     parts: &[BaseCache<K, V, S, R>],
     place: usize,
@@ -58,7 +58,7 @@ pub fn contains_key_at<K: Eq + Hash, V, S: BuildHasher, R: Rules<K, V>, Q: Names
     contains_key(&parts[place], key, hash, now)
 }
 
-/// `insert` into the part at a place.
+/// Calls `insert` of the part at a place, with its errors.
 pub fn insert_at<K: Eq + Hash + Drop, V: Drop, S: BuildHasher, R: Rules<K, V>>(
     parts: &mut Vec<BaseCache<K, V, S, R>>,
     place: usize,
@@ -81,7 +81,7 @@ pub fn insert_at<K: Eq + Hash + Drop, V: Drop, S: BuildHasher, R: Rules<K, V>>(
     }
 }
 
-/// `remove` from the part at a place.
+/// Calls `remove` of the part at a place, with its errors.
 pub fn remove_at<
     K: Eq + Hash + Clone + Drop,
     V: Clone + Drop,
@@ -114,7 +114,7 @@ pub fn remove_at<
     }
 }
 
-/// Calls `invalidate` of the part at a place.
+/// Calls `invalidate` of the part at a place, with its errors.
 pub fn invalidate_at<
     K: Eq + Hash + Clone + Drop,
     V: Clone + Drop,
@@ -145,7 +145,7 @@ pub fn invalidate_at<
     }
 }
 
-/// `coalesce` on the part at a place.
+/// Calls `coalesce` of the part at a place, with its errors.
 pub fn coalesce_at<
     K: Eq + Hash + Drop,
     V: Clone + Drop,
@@ -183,7 +183,7 @@ pub fn coalesce_at<
     }
 }
 
-/// `compute` on the part at a place.
+/// Calls `compute` of the part at a place, with its errors.
 pub fn compute_at<
     K: Eq + Hash + Clone + Drop,
     V: Clone + Drop,
@@ -219,7 +219,8 @@ pub fn compute_at<
     }
 }
 
-/// `look` at the part at a place: whether what is visible is passed over, and a clone of what is not.
+/// Calls `look` of the part at a place: returns whether the visible value is passed over, and a clone of one that is not. Returns an error
+/// if there is no memory for the clone.
 pub fn look_at<
     K: Eq + Hash,
     V: Clone,
@@ -267,7 +268,7 @@ pub fn note_at<K: Eq + Hash + Drop, V: Drop, S: BuildHasher, R: Rules<K, V>, Q: 
     part.note_look_up(key, hash, now, ignored);
 }
 
-/// Calls `look_up_with_hash` of the part at a place.
+/// Calls `look_up_with_hash` of the part at a place, with the errors of `see`.
 pub fn look_up_at<
     K: Eq + Hash + Drop,
     V: Drop,
@@ -303,7 +304,7 @@ pub fn look_up_at<
     }
 }
 
-/// `insert` into the part at a place; a refused value is returned.
+/// Calls `insert_or_back` of the part at a place, with its errors, which return the value.
 pub fn insert_or_back_at<K: Eq + Hash + Drop, V: Drop, S: BuildHasher, R: Rules<K, V>>(
     parts: &mut Vec<BaseCache<K, V, S, R>>,
     place: usize,
@@ -327,7 +328,7 @@ pub fn insert_or_back_at<K: Eq + Hash + Drop, V: Drop, S: BuildHasher, R: Rules<
     }
 }
 
-/// Takes the oldest notice of the part at a place, or none if there is no such part.
+/// Takes the oldest notice of the part at a place, or returns `None` if it has none or there is no such part.
 pub fn next_notice_at<K: Eq + Hash, V, S: BuildHasher, R: Rules<K, V>>(
     parts: &mut Vec<BaseCache<K, V, S, R>>,
     place: usize,

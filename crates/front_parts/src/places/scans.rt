@@ -9,7 +9,8 @@ use policy_base::Instant;
 use std::alloc::AllocError;
 use std::hash::{BuildHasher, Hash};
 
-/// Returns the value of a key that is visible in the part at a place, without a clone. This does not count as a use of the value.
+/// Returns the value of a key that is visible in the part at a place, without a clone, or `None`. The call does not count as a use of the
+/// value.
 pub fn peek_at<'a, K: Eq + Hash, V, S: BuildHasher, R: Rules<K, V>, Q: Names<K>>(
     parts: &'a [BaseCache<K, V, S, R>],
     place: usize,
@@ -25,7 +26,8 @@ pub fn peek_at<'a, K: Eq + Hash, V, S: BuildHasher, R: Rules<K, V>, Q: Names<K>>
     parts[place].peek(key, hash, now)
 }
 
-/// Returns a clone of the value of a key that is visible in the part at a place. This does not count as a use of the value.
+/// Returns a clone of the value of a key that is visible in the part at a place, or `None`. The call does not count as a use of the value.
+/// Returns an error if there is no memory for the clone.
 pub fn scan_at<K: Eq + Hash, V: Clone, S: BuildHasher, R: Rules<K, V>, Q: Names<K>>(
     parts: &[BaseCache<K, V, S, R>],
     place: usize,
@@ -42,8 +44,8 @@ pub fn scan_at<K: Eq + Hash, V: Clone, S: BuildHasher, R: Rules<K, V>, Q: Names<
     parts[place].get_with_hash_without_recording(key, hash, now)
 }
 
-/// Returns a clone of the key that the part at a place holds under what names it, whether its value is visible or not. This does not count
-/// as a use of the value.
+/// Returns a clone of the key that the part at a place holds under what names it, whether its value is visible or not, or `None`. The call
+/// does not count as a use of the value. Returns an error if there is no memory for the clone.
 pub fn held_key_at<K: Eq + Hash + Clone + Drop, V, S: BuildHasher, R: Rules<K, V>, Q: Names<K>>(
     parts: &[BaseCache<K, V, S, R>],
     place: usize,
@@ -59,7 +61,8 @@ pub fn held_key_at<K: Eq + Hash + Clone + Drop, V, S: BuildHasher, R: Rules<K, V
     parts[place].get_key_with_hash(key, hash)
 }
 
-/// Clones of the keys that the part at a place holds.
+/// Returns clones of the keys that the part at a place holds, or `None` if there is no such part. Returns an error if there is no memory
+/// for the clones.
 pub fn keys_at<K: Eq + Hash + Clone + Drop, V, S: BuildHasher, R: Rules<K, V>>(
     parts: &[BaseCache<K, V, S, R>],
     place: usize,

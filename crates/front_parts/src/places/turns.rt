@@ -11,7 +11,7 @@ use std::alloc::{AllocError, Global};
 use std::collections::{BTreeMap, BTreeSet};
 use std::marker::Model;
 
-/// Turns by number, and their numbers by the hashes of their keys. They are seen as the list of them, the oldest first.
+/// Turns by number, and their numbers by the hashes of their keys. Contracts see the list of the turns, the oldest first.
 #[derive(Drop)]
 pub struct Turns<K> {
     turns: BTreeMap<u64, OpenTurn<K>>,
@@ -32,7 +32,7 @@ impl<K> Model for Turns<K> {
 }
 
 impl<K> Turns<K> {
-    /// Creates an empty table of turns. This allocates nothing.
+    /// Creates an empty table of turns. The call allocates nothing.
     pub fn new(alloc: Global) -> Turns<K>
         ensures { result ≡ [] }
     {
@@ -42,7 +42,7 @@ impl<K> Turns<K> {
         }
     }
 
-    /// The turn of a number.
+    /// Returns the turn of a number, or `None` if it is not under way.
     pub fn get(&self, number: u64) -> Option<&OpenTurn<K>>
         ensures { option_map (λ turn. turn.now) result ≡ turn_at self.now number }
     {
@@ -61,7 +61,7 @@ impl<K> Turns<K> {
         }
     }
 
-    /// The number of the turn of a kind and a key, whose hash this is.
+    /// Returns the number of the turn of a kind and a key, whose hash this is, or `None` if none is under way.
     pub fn find<Q: Names<K>>(&self, kind: TurnKind, key: &Q, hash: u64) -> Option<u64>
     where
         K: PartialEq,
@@ -81,7 +81,7 @@ impl<K> Turns<K> {
         None
     }
 
-    /// Adds a turn whose number is above the others'. An `Err` changes nothing.
+    /// Adds a turn whose number is above the others'. Returns an error if there is not enough memory; then nothing has changed.
     pub fn add(&mut self, turn: OpenTurn<K>) -> Result<(), AllocError>
     where
         K: Drop,
@@ -101,7 +101,7 @@ impl<K> Turns<K> {
         }
     }
 
-    /// Ends the turn of a number, if it is under way, and says whether it was.
+    /// Ends the turn of a number, if it is under way, and returns whether it was.
     pub fn end(&mut self, number: u64) -> bool
     where
         K: Drop,
@@ -119,7 +119,8 @@ impl<K> Turns<K> {
     }
 }
 
-/// Makes a new turn, and its key.
+/// Makes a new turn, and its key. Returns `OutOfMemory` if there is no memory for the key, and `UsedUp` if the 64-bit numbers of turns are
+/// used up.
 pub fn make_turn<K: PartialEq, Q: IntoKey<K>>(
     next_turn: u64,
     kind: TurnKind,

@@ -27,7 +27,7 @@ pub fn run_all<K: Eq + Hash + Drop, V: Drop, S: BuildHasher, R: Rules<K, V>>(
     }
 }
 
-/// Whether a part's last run wanted the sketch's table and there was no memory for it.
+/// Returns whether the last run of a part needed the sketch's table and there was no memory for it.
 pub fn is_table_refused<K: Eq + Hash, V, S: BuildHasher, R: Rules<K, V>>(
     parts: &[BaseCache<K, V, S, R>],
 ) -> bool
@@ -57,7 +57,7 @@ pub fn clear_all<K: Eq + Hash, V, S: BuildHasher, R: Rules<K, V>>(
     }
 }
 
-/// How many records the parts admitted, as of their last runs.
+/// Returns how many records the parts admitted, as of the last run of each part.
 pub fn sum_numbers<K: Eq + Hash, V, S: BuildHasher, R: Rules<K, V>>(
     parts: &[BaseCache<K, V, S, R>],
 ) -> u64
@@ -87,7 +87,7 @@ pub fn sum_weights<K: Eq + Hash, V, S: BuildHasher, R: Rules<K, V>>(
     total
 }
 
-/// How many keys have a visible value.
+/// Returns how many keys have a visible value at `now`.
 pub fn count_visible<K: Eq + Hash, V, S: BuildHasher, R: Rules<K, V>>(
     parts: &[BaseCache<K, V, S, R>],
     now: Instant,

@@ -6,7 +6,7 @@ ghost use Rattle.front_parts.specs.Wholes.Covering.{AreAll, id_text};
 use std::alloc::{AllocError, Global};
 use uuid::Uuid;
 
-/// Returns `count` clones of a predicate.
+/// Returns `count` clones of a predicate. Returns an error if there is not enough memory.
 pub fn clone_each<P: Clone + Drop>(
     alloc: Global,
     count: usize,

@@ -64,8 +64,11 @@ fn commit_all<K: Eq + Hash, V, S: BuildHasher, R: Rules<K, V>>(
     }
 }
 
-/// Registers a predicate, given as a clone for each part, in all parts, under an identifier that is drawn for each, or in none.
-/// Room is made in all parts first, then identifiers are drawn, and after that nothing is refused. Returns the first identifier.
+/// Registers a predicate, given as a clone for each part, in all parts, under an identifier that is drawn for each, or in none. Room is
+/// made in all parts first, then identifiers are drawn, and after that nothing is refused. Returns the first identifier. Returns
+/// `OutOfMemory` if there is not enough memory, `UsedUp` if the 64-bit numbers of writes of a part are used up, and `IdsInUse` if each of a
+/// thousand identifiers that were drawn for a part is registered there; then the parts are as before, and only `IdsInUse` has drawn from
+/// the generator.
 pub fn cover_all<K: Eq + Hash, V, S: BuildHasher, R: Rules<K, V>, G: Rng>(
     alloc: Global,
     parts: &mut Vec<BaseCache<K, V, S, R>>,

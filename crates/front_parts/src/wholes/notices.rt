@@ -6,7 +6,7 @@ use engine_reference::Rules;
 use moka_engine::{BaseCache, Notice};
 use std::hash::{BuildHasher, Hash};
 
-/// Takes the oldest notice of the first part that has one.
+/// Takes the oldest notice of the first part that has one, or returns `None` if none has.
 pub fn next_notice<K: Eq + Hash, V, S: BuildHasher, R: Rules<K, V>>(
     parts: &mut Vec<BaseCache<K, V, S, R>>,
 ) -> Option<Notice<K, V>>

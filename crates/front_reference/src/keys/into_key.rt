@@ -5,7 +5,7 @@ use crate::keys::shared::Shared;
 use engine_reference::Names;
 use std::alloc::{AllocError, Global};
 
-/// A name of a key, which becomes the key if it is to be stored. So a look-up that finds its value makes no key.
+/// A name of a key, which becomes the key only if the key is to be stored. So a look-up that finds its value makes no key.
 pub trait IntoKey<K: PartialEq>: Names<K> + Drop {
     /// What is required before it becomes the key.
     ghost can_become: { Self → Type 0 };
@@ -27,7 +27,9 @@ impl<K: PartialEq + Drop> IntoKey<K> for K {
 /// An owned key, which is moved behind an `Arc` only if it is to be stored.
 #[derive(Drop)]
 pub struct OwnedKey<K> {
+    /// The key itself.
     pub key: K,
+    /// The allocator, which makes room for the `Arc`.
     pub alloc: Global,
 }
 
@@ -51,7 +53,9 @@ impl<K: PartialEq + Drop> IntoKey<Shared<K>> for OwnedKey<K> {
 /// A borrowed key, which is cloned only if it is to be stored. Its clone is required to equal it.
 #[derive(Drop)]
 pub struct ClonedKey<'a, K> {
+    /// The key itself.
     pub key: &'a K,
+    /// The allocator, which makes room for the `Arc`.
     pub alloc: Global,
 }
 

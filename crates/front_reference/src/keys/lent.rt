@@ -8,6 +8,7 @@ use engine_reference::Names;
 /// nothing.
 #[derive(Clone, Copy)]
 pub struct LentKey<'a, K> {
+    /// The key itself.
     pub key: &'a K,
 }
 

@@ -39,7 +39,7 @@ impl<T: Drop> Shared<T> {
 }
 
 impl<T> Shared<T> {
-    /// Returns the `Arc` of the value. This allocates nothing.
+    /// Returns the `Arc` of the value. The call allocates nothing.
     pub fn into_arc(self) -> Arc<T>
         ensures { arc_value result ≡ self }
     {

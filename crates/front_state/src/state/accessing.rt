@@ -86,7 +86,7 @@ impl<K: Eq + Hash + Drop, V: Clone + Drop, S: BuildHasher, R: Rules<K, V>, C> Ac
 }
 
 impl<K: Eq + Hash, V, S: BuildHasher, R: Rules<K, V>, C> LentState<K, V, S, R, C> {
-    /// Returns a selector of the entry of a key. One call can be made on it, which has this moment and step.
+    /// Returns a selector of the entry of a key. One call can be made on the selector, which has this moment and step.
     /// ```
     /// let entry = cache.entry(7, at).or_insert_with(|| 49)?;
     /// let was_made_now = entry.is_fresh();
@@ -101,13 +101,8 @@ impl<K: Eq + Hash, V, S: BuildHasher, R: Rules<K, V>, C> LentState<K, V, S, R, C
         OwnedKeyEntrySelector::new(self, key, at, alloc)
     }
 
-    /// Like `entry`, with a borrowed key, which is cloned.
-    /// ```
-    /// let count = cache.entry_by_ref(&name, at)?.and_upsert_with(|seen| match seen {
-    ///     Some(entry) => entry.into_value().saturating_add(1),
-    ///     None => 1,
-    /// })?;
-    /// ```
+    /// Like `entry`, with a borrowed key, which is cloned. Returns `OutOfMemory` if there is no memory for the clone; then nothing has
+    /// changed.
     pub fn entry_by_ref<'a>(
         &'a mut self,
         key: &K,

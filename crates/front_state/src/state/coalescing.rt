@@ -118,9 +118,10 @@ impl<K: Eq + Hash + Drop, V: Clone + Drop, S: BuildHasher, R: Rules<K, V>, C> Le
         Ok(result_made(made))
     }
 
-    /// Returns the visible value of a key, which counts as a use of it, or the one that `make` makes, which is stored.
-    /// No other caller can interfere with a lent cache: `make` runs once if nothing is visible, and otherwise not at all. It runs before
-    /// anything changes; if an allocation fails after it, the value is dropped, and the cache is as before.
+    /// Returns the visible value of a key, which counts as a use of it, or the one that `make` makes, which is stored. No other caller can
+    /// interfere with a lent cache: `make` runs once if nothing is visible, and otherwise not at all. The closure runs before anything
+    /// changes; if the call is refused after it, the value is dropped. Returns `OutOfMemory` if there is not enough memory, and `UsedUp` if
+    /// the 64-bit numbers of writes are used up; then nothing has changed.
     /// ```
     /// let square = cache.get_with(7, || 49, at)?;
     /// ```
@@ -155,7 +156,7 @@ impl<K: Eq + Hash + Drop, V: Clone + Drop, S: BuildHasher, R: Rules<K, V>, C> Le
         )
     }
 
-    /// Like `get_with`, with a borrowed key, which is cloned only if a value is stored.
+    /// Like `get_with`, with a borrowed key, which is cloned only if a value is stored. Returns the errors of `get_with`.
     /// ```
     /// let page = cache.get_with_by_ref(&address, || fetch(&address), at)?;
     /// ```
@@ -193,8 +194,8 @@ impl<K: Eq + Hash + Drop, V: Clone + Drop, S: BuildHasher, R: Rules<K, V>, C> Le
         )
     }
 
-    /// Like `get_with`, except that a visible value for which `replace_if` returns true counts as none.
-    /// `replace_if` is called on a visible value, once; a value for which it returns true counts as a miss.
+    /// Like `get_with`, except that a visible value for which `replace_if` returns true counts as none. `replace_if` is called on a visible
+    /// value, once; a value for which it returns true counts as a miss. Returns the errors of `get_with`.
     /// ```
     /// let fresh = cache.get_with_if(7, || 50, |old| *old < 50, at)?;
     /// ```
@@ -223,8 +224,7 @@ impl<K: Eq + Hash + Drop, V: Clone + Drop, S: BuildHasher, R: Rules<K, V>, C> Le
     }
 
     /// Returns the visible value of a key, which counts as a use of it, or the one that `make` makes, which is stored, or `None` if it
-    /// makes none.
-    /// A `None` is not stored: the next call runs `make` again.
+    /// makes none. A `None` is not stored: the next call runs `make` again. Returns the errors of `get_with`.
     /// ```
     /// let user = cache.optionally_get_with(7, || find_user(7), at)?;
     /// ```
@@ -251,7 +251,7 @@ impl<K: Eq + Hash + Drop, V: Clone + Drop, S: BuildHasher, R: Rules<K, V>, C> Le
         self.make_option(name, hash, make, at)
     }
 
-    /// Like `optionally_get_with`, with a borrowed key, which is cloned only if a value is stored.
+    /// Like `optionally_get_with`, with a borrowed key, which is cloned only if a value is stored. Returns the errors of `get_with`.
     /// ```
     /// let user = cache.optionally_get_with_by_ref(&name, || find_named(&name), at)?;
     /// ```
@@ -282,8 +282,8 @@ impl<K: Eq + Hash + Drop, V: Clone + Drop, S: BuildHasher, R: Rules<K, V>, C> Le
     }
 
     /// Returns the visible value of a key, which counts as a use of it, or the one that `make` makes, which is stored, or its error if it
-    /// fails.
-    /// An error is not stored: the next call runs `make` again. It is behind an `Arc`, since callers that share a cache get the same one.
+    /// fails. An error is not stored: the next call runs `make` again. The error is behind an `Arc`, since callers that share a cache get
+    /// the same one. The outer errors are those of `get_with`.
     /// ```
     /// match cache.try_get_with(7, || read_row(7), at)? {
     ///     Ok(row) => show(&row),
@@ -313,7 +313,7 @@ impl<K: Eq + Hash + Drop, V: Clone + Drop, S: BuildHasher, R: Rules<K, V>, C> Le
         self.make_result(name, hash, make, at)
     }
 
-    /// Like `try_get_with`, with a borrowed key, which is cloned only if a value is stored.
+    /// Like `try_get_with`, with a borrowed key, which is cloned only if a value is stored. Returns the errors of `try_get_with`.
     /// ```
     /// let row = cache.try_get_with_by_ref(&name, || read_named(&name), at)?;
     /// ```
@@ -351,10 +351,7 @@ impl<K: Eq + Hash + Drop, V: Clone + Drop, S: BuildHasher, R: Rules<K, V>> LentS
     R,
     Segmented,
 > {
-    /// The same as `get_with`, by the name that a segmented cache has for it.
-    /// ```
-    /// let square = cache.get_or_insert_with(7, || 49, at)?;
-    /// ```
+    /// Does what `get_with` does, by the name that a segmented cache has for it, and returns its errors.
     pub fn get_or_insert_with<M: FnOnce() -> V + Drop>(
         &mut self,
         key: K,
@@ -373,10 +370,7 @@ impl<K: Eq + Hash + Drop, V: Clone + Drop, S: BuildHasher, R: Rules<K, V>> LentS
         self.get_with(key, make, at)
     }
 
-    /// The same as `try_get_with`, by the name that a segmented cache has for it.
-    /// ```
-    /// let row = cache.get_or_try_insert_with(7, || read_row(7), at)?;
-    /// ```
+    /// Does what `try_get_with` does, by the name that a segmented cache has for it, and returns its errors.
     pub fn get_or_try_insert_with<F: Drop, M: FnOnce() -> Result<V, F> + Drop>(
         &mut self,
         key: K,

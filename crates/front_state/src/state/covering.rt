@@ -58,9 +58,9 @@ impl<K: Eq + Hash, V, S: BuildHasher, R: Rules<K, V>, C> LentState<K, V, S, R, C
         let _step = self.step;
     }
 
-    /// Takes the oldest notice of the first part that has one.
-    /// A cache has notices only if its builder called `eviction_listener`. A removal is reported when it happens; expired, invalidated and
-    /// evicted values are removed by runs, and so later than they became invisible. Notices are kept until they are taken.
+    /// Takes the oldest notice of the first part that has one, or returns `None` if none has. A cache has notices only if its builder
+    /// called `eviction_listener`. A removal is reported when it happens; expired, invalidated and evicted values are removed by runs, and
+    /// so later than they became invisible. Notices are kept until they are taken.
     /// ```
     /// while let Some(notice) = cache.next_notice() {
     ///     log(&notice.key, notice.cause);
@@ -73,7 +73,8 @@ impl<K: Eq + Hash, V, S: BuildHasher, R: Rules<K, V>, C> LentState<K, V, S, R, C
         next_notice(&mut self.parts)
     }
 
-    /// Takes the oldest notice of a part, or none if there is no such part. After a call on one key only its part may have further notices.
+    /// Takes the oldest notice of a part, or returns `None` if it has none or there is no such part. After a call on one key only its part
+    /// may have further notices.
     /// ```
     /// let segment = cache.part(&7);
     /// while let Some(notice) = cache.next_notice_of_part(segment) {
@@ -121,11 +122,12 @@ impl<K: Eq + Hash, V, S: BuildHasher, R: Rules<K, V>, C> LentState<K, V, S, R, C
 }
 
 impl<K: Eq + Hash, V, S: BuildHasher, R: Rules<K, V>> LentState<K, V, S, R, Single> {
-    /// Invalidates the values of earlier steps for which the predicate returns true, in all parts or, if it is refused, in none. It needs a
-    /// later step than any call before. An identifier is drawn for each part, and that of the first one is returned, hyphenated and in
-    /// lower case, 36 bytes.
-    /// A cache that was not built to accept predicates returns `InvalidationClosuresDisabled`, before any other error. A refusal for lack
-    /// of memory or of tickets draws nothing.
+    /// Invalidates the values of earlier steps for which the predicate returns true, in all parts or, if it is refused, in none. The call
+    /// needs a later step than any call before. An identifier is drawn for each part, and that of the first one is returned, hyphenated and
+    /// in lower case, 36 bytes. A cache that was not built to accept predicates returns `InvalidationClosuresDisabled`, before any other
+    /// error. Returns `OutOfMemory` if there is not enough memory and `UsedUp` if the 64-bit numbers of writes of a part are used up, and
+    /// then has drawn nothing; or `IdsInUse` if each of a thousand identifiers that were drawn for a part is registered there. After each
+    /// error the cache is as before.
     /// ```
     /// let id = cache.invalidate_entries_if(OlderThan(30), &mut generator, at)?;
     /// ```
@@ -159,10 +161,12 @@ impl<K: Eq + Hash, V, S: BuildHasher, R: Rules<K, V>> LentState<K, V, S, R, Sing
 }
 
 impl<K: Eq + Hash, V, S: BuildHasher, R: Rules<K, V>> LentState<K, V, S, R, Segmented> {
-    /// Invalidates the values of earlier steps for which the predicate returns true, in all segments or, if it is refused, in none. It
-    /// needs a later step than any call before, and an identifier is drawn for each segment.
-    /// A cache that was not built to accept predicates returns `InvalidationClosuresDisabled`, before any other error. A refusal for lack
-    /// of memory or of tickets draws nothing.
+    /// Invalidates the values of earlier steps for which the predicate returns true, in all segments or, if it is refused, in none. The
+    /// call needs a later step than any call before, and an identifier is drawn for each segment. A cache that was not built to accept
+    /// predicates returns `InvalidationClosuresDisabled`, before any other error. Returns `OutOfMemory` if there is not enough memory and
+    /// `UsedUp` if the 64-bit numbers of writes of a segment are used up, and then has drawn nothing; or `IdsInUse` if each of a thousand
+    /// identifiers that were drawn for a segment is registered there. After each error the cache is as before. (`moka` may stop halfway
+    /// over the segments.)
     /// ```
     /// cache.invalidate_entries_if(OlderThan(30), &mut generator, at)?;
     /// ```
@@ -219,9 +223,9 @@ impl<K: Eq + Hash + Drop, V: Clone, S: BuildHasher, R: Rules<K, V>, C> ScanningG
 }
 
 impl<K: Eq + Hash + Drop, V: Clone, S: BuildHasher, R: Rules<K, V>, C> LentState<K, V, S, R, C> {
-    /// Returns an iterator over what is visible at a moment: each key once, with a clone of its value. It allocates nothing, but its items
-    /// do; no item counts as a use.
-    /// The keys of one segment are cloned at a time, in an unspecified order, and a value that is removed before its turn is not returned.
+    /// Returns an iterator over what is visible at a moment: each key once, with a clone of its value. The call allocates nothing, but the
+    /// items do; no item counts as a use. The keys of one segment are cloned at a time, in an unspecified order, and a value that is
+    /// removed before its turn is not returned.
     /// ```
     /// for pair in cache.iter(now) {
     ///     let (key, value) = pair?;

@@ -13,7 +13,7 @@ use std::alloc::AllocError;
 use std::hash::{BuildHasher, Hash};
 
 impl<K: Eq + Hash, V, S: BuildHasher, R: Rules<K, V>, C> LentState<K, V, S, R, C> {
-    /// Returns the visible value of a key, lent. This does not count as a use of the value.
+    /// Returns the visible value of a key, lent, or `None`. The call does not count as a use of the value.
     /// ```
     /// let length = cache.peek(&7, now).map(|text| text.len());
     /// ```
@@ -26,8 +26,8 @@ impl<K: Eq + Hash, V, S: BuildHasher, R: Rules<K, V>, C> LentState<K, V, S, R, C
         peek_at(self.parts.as_slice(), place, &LentKey { key }, hash, now)
     }
 
-    /// Returns the key that is held and equal to this one, shared with the cache, whether its value is visible or not. This does not count
-    /// as a use of the value, and allocates nothing.
+    /// Returns the key that is held and equal to this one, shared with the cache, whether its value is visible or not, or `None` if none is
+    /// held. The call does not count as a use of the value. Returns an error if the key cannot be shared once more.
     /// ```
     /// let held = cache.held_key(&7, cache.hash(&7))?;
     /// ```
@@ -43,8 +43,8 @@ impl<K: Eq + Hash, V, S: BuildHasher, R: Rules<K, V>, C> LentState<K, V, S, R, C
         held_key_at(self.parts.as_slice(), place, &LentKey { key }, hash)
     }
 
-    /// Returns how many keys have a visible value, up to 2^64 - 1. This does not count as a use of any value, allocates nothing, and looks
-    /// at every record.
+    /// Returns how many keys have a visible value, up to 2^64 - 1. The call counts as a use of no value, allocates nothing, and looks at
+    /// every record.
     /// ```
     /// let number = cache.count_visible(now);
     /// ```
@@ -86,7 +86,7 @@ impl<K: Eq + Hash, V, S: BuildHasher, R: Rules<K, V>, C> LentState<K, V, S, R, C
         self.look_up_with_hash(key, hash, now, output, see)
     }
 
-    /// Like `look_up`, with the hash of the key.
+    /// Like `look_up`, with the hash of the key. Returns the errors of `see`.
     /// ```
     /// let hash = cache.hash(&7);
     /// cache.look_up_with_hash(&7, hash, now, &mut lengths, |found, lengths| match found {

@@ -21,7 +21,7 @@ impl<K: Eq + Hash + Drop, V: Drop, S: BuildHasher + Drop, R: Rules<K, V> + Drop,
 > {
     /// Creates an empty cache of 2^bits parts, at most 2^16. The capacity in its settings is that of all parts together, each of which gets
     /// its share. `initial_capacity` is the number of entries, in all parts together, for which there is room from the start.
-    /// `CacheBuilder` computes and checks the arguments.
+    /// `CacheBuilder` computes and checks the arguments. Returns an error if there is not enough memory.
     /// ```
     /// let cache: CacheState<u64, u64> = LentState::with_parts(alloc, None, 2, 0, settings, hasher, rules)?;
     /// ```
@@ -44,7 +44,7 @@ impl<K: Eq + Hash + Drop, V: Drop, S: BuildHasher + Drop, R: Rules<K, V> + Drop,
         LentState::with_shared(alloc, name, bits, initial_capacity, settings, hasher, rules)
     }
 
-    /// Like `with_parts`, with a hasher and rules that other caches use, too.
+    /// Like `with_parts`, with a hasher and rules that other caches use, too. Returns an error if there is not enough memory.
     /// ```
     /// let cache: LentState<u64, u64, StdHasher, PlainRules, Sharded> =
     ///     LentState::with_shared(alloc, None, 0, 0, settings, hasher.clone()?, rules.clone()?)?;

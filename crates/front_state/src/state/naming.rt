@@ -14,10 +14,10 @@ use front_reference::{At, CacheError, LentKey, Shared};
 use policy_base::Instant;
 use std::hash::{BuildHasher, Hash};
 
-/// Names a key, and hashes as that key does, so that a call by a name makes no key. A `TextName` names a `String`, a `BytesName` a
+/// A name of a key, which hashes as that key does, so that a call by a name makes no key. A `TextName` names a `String`, a `BytesName` a
 /// `Vec<u8>`, and a `LentKey` the key that it lends.
 pub trait HashedName<K: Eq + Hash>: Names<Shared<K>> {
-    /// Returns the hash of the key that it names.
+    /// Returns the hash of the key that the name stands for.
     fn hash_name<S: BuildHasher>(&self, hasher: &S) -> u64
         ensures { result ≡ hash_of_key S.Hasher.finish S.Hasher.write S.build_hasher K.hash_input
             hasher.now (Self.named_key self.now) };
@@ -29,10 +29,7 @@ impl<'a, K: Eq + Hash> HashedName<K> for LentKey<'a, K> {
     }
 }
 
-/// Names the `String` with this text.
-/// ```
-/// let price = cache.get_by_name(&TextName::new("pear"), at)?;
-/// ```
+/// The name of the `String` with this text.
 #[derive(Clone, Copy)]
 pub struct TextName<'a> {
     text: &'a str,
@@ -65,10 +62,7 @@ impl<'a> HashedName<String> for TextName<'a> {
     }
 }
 
-/// Names the `Vec<u8>` with these bytes.
-/// ```
-/// let price = cache.get_by_name(&BytesName::new(b"pear"), at)?;
-/// ```
+/// The name of the `Vec<u8>` with these bytes.
 #[derive(Clone, Copy)]
 pub struct BytesName<'a> {
     bytes: &'a [u8],
@@ -101,7 +95,7 @@ impl<'a> HashedName<Vec<u8>> for BytesName<'a> {
 }
 
 impl<K: Eq + Hash, V, S: BuildHasher, R: Rules<K, V>, C> LentState<K, V, S, R, C> {
-    /// Like `get`, by what names the key.
+    /// Like `get`, by what names the key. Returns `OutOfMemory` if there is no memory for the clone; then nothing has changed.
     /// ```
     /// let price = cache.get_by_name(&TextName::new("pear"), at)?;
     /// ```
@@ -144,7 +138,8 @@ impl<K: Eq + Hash, V, S: BuildHasher, R: Rules<K, V>, C> LentState<K, V, S, R, C
         contains_key_at(self.parts.as_slice(), place, name, hash, now)
     }
 
-    /// Like `remove`, by what names the key.
+    /// Like `remove`, by what names the key. Returns `OutOfMemory` if there is not enough memory, and `UsedUp` if the 64-bit numbers of
+    /// writes are used up; then nothing has changed.
     /// ```
     /// let last = cache.remove_by_name(&TextName::new("pear"), at)?;
     /// ```
@@ -175,7 +170,8 @@ impl<K: Eq + Hash, V, S: BuildHasher, R: Rules<K, V>, C> LentState<K, V, S, R, C
         Ok(value)
     }
 
-    /// Like `invalidate`, by what names the key.
+    /// Like `invalidate`, by what names the key. Returns `OutOfMemory` if there is not enough memory, and `UsedUp` if the 64-bit numbers of
+    /// writes are used up; then nothing has changed.
     /// ```
     /// cache.invalidate_by_name(&TextName::new("pear"), at)?;
     /// ```

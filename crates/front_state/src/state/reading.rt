@@ -12,7 +12,7 @@ use std::hash::{BuildHasher, Hash};
 use std::time::Duration;
 
 impl<K: Eq + Hash, V, S: BuildHasher, R: Rules<K, V>, C> LentState<K, V, S, R, C> {
-    /// Returns the name of the cache, if it has one.
+    /// Returns the name of the cache, or `None` if it has none.
     /// ```
     /// let title = cache.name().unwrap_or("a cache");
     /// ```
@@ -25,8 +25,8 @@ impl<K: Eq + Hash, V, S: BuildHasher, R: Rules<K, V>, C> LentState<K, V, S, R, C
         }
     }
 
-    /// Returns the settings of the cache: the maximum capacity, the number of parts, and the time to live and to idle, each at most 2^64 - 2
-    /// nanoseconds.
+    /// Returns the settings of the cache: the maximum capacity, the number of parts, and the time to live and to idle, each at most 2^64 -
+    /// 2 nanoseconds.
     /// ```
     /// let capacity = cache.policy().max_capacity();
     /// ```
@@ -64,8 +64,8 @@ impl<K: Eq + Hash, V, S: BuildHasher, R: Rules<K, V>, C> LentState<K, V, S, R, C
         sum_numbers(self.parts.as_slice())
     }
 
-    /// Returns the total weight of the entries as of the last run of each part, at most 2^64 - 1.
-    /// It is as approximate as `entry_count`.
+    /// Returns the total weight of the entries as of the last run of each part, at most 2^64 - 1. The weight is as approximate as
+    /// `entry_count`.
     /// ```
     /// cache.run_pending_tasks(at);
     /// let weight = cache.weighted_size();

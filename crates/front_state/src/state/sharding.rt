@@ -26,8 +26,10 @@ fn cover_error(refused: Refusal) -> CacheError
 }
 
 impl<K: Eq + Hash, V, S: BuildHasher, R: Rules<K, V>> LentState<K, V, S, R, Sharded> {
-    /// The first half of a predicate in the first part, and a shard has no other: makes room for it, and draws an identifier.
-    /// `commit_cover` registers the predicate, or `release_cover` gives its room up; until then nothing is invalidated.
+    /// Does the first half of a predicate in the first part, the only one that a shard has: makes room for the predicate, and draws an
+    /// identifier. `commit_cover` registers the predicate, or `release_cover` gives its room up; until then nothing is invalidated. Returns
+    /// `InvalidationClosuresDisabled` if the cache accepts no predicates, `OutOfMemory`, `UsedUp` if the 64-bit numbers of writes are used
+    /// up, and `IdsInUse` if each of a thousand identifiers that were drawn is registered; then the cache is as before.
     /// ```
     /// let id = shard.prepare_cover(&mut generator)?;
     /// shard.commit_cover(id, predicate, at);
@@ -50,8 +52,8 @@ impl<K: Eq + Hash, V, S: BuildHasher, R: Rules<K, V>> LentState<K, V, S, R, Shar
         }
     }
 
-    /// The second half, which is never refused: registers a predicate under its identifier, in the room that `prepare_cover` made. It
-    /// covers what was written at earlier steps, so it needs a later step than any call before.
+    /// Does the second half, which is never refused: registers a predicate under its identifier, in the room that `prepare_cover` made. The
+    /// predicate covers what was written at earlier steps, so the call needs a later step than any before.
     pub fn commit_cover(&mut self, id: u128, predicate: Shared<R::Predicate>, at: At)
         requires room { FirstHasRoom self.old }
         requires follows { ComesAfter at.now at.step self.old }

@@ -36,7 +36,8 @@ impl<K: Eq + Hash, V, S: BuildHasher, R: Rules<K, V>, C> LentState<K, V, S, R, C
         self.turn_number(kind, &LentKey { key }, hash).is_none()
     }
 
-    /// Returns the number of the turn of a kind and a key that is under way, for what names the key, and its hash.
+    /// Returns the number of the turn of a kind and a key that is under way, or `None` if none is. `key` names the key, and `hash` is its
+    /// hash.
     pub fn turn_number<Q: Names<Shared<K>>>(
         &self,
         kind: TurnKind,
@@ -51,7 +52,7 @@ impl<K: Eq + Hash, V, S: BuildHasher, R: Rules<K, V>, C> LentState<K, V, S, R, C
     }
 
     /// Returns whether `replace_if` returned true for the visible value of a key, which is then passed over, and otherwise a clone of that
-    /// value. This does not count as a use of the value.
+    /// value. The call does not count as a use of the value.
     fn look<Q: Names<Shared<K>>, P: FnOnce(&V) -> bool + Drop>(
         &self,
         key: &Q,
@@ -265,7 +266,10 @@ impl<K: Eq + Hash, V, S: BuildHasher, R: Rules<K, V>, C> LentState<K, V, S, R, C
         }
     }
 
-    /// Begins a call that waits for others of its kind and key. One that makes a value is answered the visible value, of which it is a use; else, and where it is a compute call, which looks nothing up, the turn of its kind and key that is under way, or a new one, which the caller leads.
+    /// Begins a call that waits for others of its kind and key. A call that makes a value returns the visible value, which counts as a use
+    /// of it. If there is none, and for a compute call, which looks nothing up, it returns the turn of its kind and key that is under way,
+    /// or a new one, which the caller leads. Returns `OutOfMemory` if there is not enough memory, and `UsedUp` if the 64-bit numbers of
+    /// turns are used up; then nothing has changed.
     /// ```
     /// match cache.begin(TurnKind::With, 7, at)? {
     ///     TurnStart::Found(value) => show(value),
@@ -300,8 +304,8 @@ impl<K: Eq + Hash, V, S: BuildHasher, R: Rules<K, V>, C> LentState<K, V, S, R, C
         )
     }
 
-    /// Like `begin`, with what names a key, and its hash. A visible value of which `replace_if` says yes counts as none.
-    /// The key is made only where a turn begins. A compute call never asks `replace_if`.
+    /// Like `begin`, with what names a key, and its hash. A visible value for which `replace_if` returns true counts as none. The key is
+    /// made only if a turn begins. A compute call never calls `replace_if`. Returns the errors of `begin`.
     /// ```
     /// let hash = cache.hash(&name);
     /// cache.begin_with_hash(TurnKind::Try, ClonedKey { key: &name, alloc }, hash, at, |v| v.is_old())?;
@@ -334,7 +338,7 @@ impl<K: Eq + Hash, V, S: BuildHasher, R: Rules<K, V>, C> LentState<K, V, S, R, C
         }
     }
 
-    /// Gives up a turn. The call is refused only if no turn of this number is under way.
+    /// Gives up a turn. Returns `UnknownTurn` if no turn of this number is under way; then nothing has changed.
     /// ```
     /// cache.abandon(turn, at)?;
     /// ```
@@ -394,7 +398,8 @@ impl<K: Eq + Hash, V, S: BuildHasher, R: Rules<K, V>, C> LentState<K, V, S, R, C
 
     /// Ends a turn with what was made. A value is inserted under the key of the turn, whatever happened to that key in the meantime; if no
     /// value was made, nothing else changes. If the call is refused, what was made is returned with the error, and a turn that is under way
-    /// stays so.
+    /// stays so: `UnknownTurn` if no turn of this number is under way, and otherwise `OutOfMemory` if there is not enough memory, and
+    /// `UsedUp` if the 64-bit numbers of writes are used up.
     /// ```
     /// let made: Made<u64, ()> = Made::Value(49);
     /// match cache.finish(turn, made, at) {

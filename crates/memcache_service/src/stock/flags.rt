@@ -6,7 +6,7 @@ ghost use Rattle.memcache_model.specs.Meta.{behind_letter, direction_of, exptime
 use memcache_lines::{exptime, next_token, number, short_number};
 use memcache_model::{Direction, Exptime, ProtocolError};
 
-/// The letter of a word, or 0 if it is empty.
+/// Returns the letter of a word, or 0 if the word is empty.
 pub fn letter_of(word: &[u8]) -> u8
     ensures { result ≡ letter_of word.now }
 {
@@ -26,7 +26,7 @@ fn behind(word: &[u8]) -> &[u8]
     }
 }
 
-/// What stands behind a letter, in the first word that begins with it.
+/// Returns what stands behind a letter, in the first word that begins with it, or `None` if there is no such word.
 pub fn behind_letter(letter: u8, words: &[u8]) -> Option<&[u8]>
     ensures { option_map (λ argument. argument.now) result
         ≡ behind_letter letter (tokens words.now) }
@@ -41,7 +41,7 @@ pub fn behind_letter(letter: u8, words: &[u8]) -> Option<&[u8]>
     None
 }
 
-/// Whether a flag is there.
+/// Returns whether there is a flag of this letter.
 pub fn has_flag(letter: u8, words: &[u8]) -> bool
     ensures { result ≡ is_some (behind_letter letter (tokens words.now)) }
 {
@@ -62,7 +62,7 @@ fn number_behind(letter: u8, argument: &[u8]) -> Option<u64>
     }
 }
 
-/// The number behind a letter, in the first word that begins with it.
+/// Returns the number behind a letter, in the first word that begins with it, or `None` if there is none.
 pub fn number_of(letter: u8, words: &[u8]) -> Option<u64>
     ensures { result ≡ number_of (letter ∷ []) (tokens words.now) }
 {
@@ -72,7 +72,7 @@ pub fn number_of(letter: u8, words: &[u8]) -> Option<u64>
     }
 }
 
-/// The client's flags behind `F`, or none.
+/// Returns the client's flags behind `F`, or 0 without one.
 pub fn flags_of(words: &[u8]) -> u32
     ensures { result ≡ unwrap_or (number_of (codes "F") (tokens words.now)) 0 }
 {
@@ -82,7 +82,7 @@ pub fn flags_of(words: &[u8]) -> u32
     }
 }
 
-/// The expiry behind a letter.
+/// Returns the expiry behind a letter, or `None` if there is none.
 pub fn exptime_of(letter: u8, words: &[u8]) -> Option<Exptime>
     ensures { result ≡ exptime_of (letter ∷ []) (tokens words.now) }
 {
@@ -95,13 +95,16 @@ pub fn exptime_of(letter: u8, words: &[u8]) -> Option<Exptime>
 /// The letters that a command's flags may have: those with anything behind them, with a number, and with an expiry.
 #[derive(Clone, Copy)]
 pub struct Letters {
+    /// The letters that may have anything behind them.
     pub others: &'static [u8],
+    /// The letters that have a number behind them.
     pub numbers: &'static [u8],
+    /// The letters that have an expiry behind them.
     pub times: &'static [u8],
 }
 
 impl Letters {
-    /// What is wrong with the flags, if anything is.
+    /// Returns what is wrong with the flags, or `None` if nothing is.
     pub fn fault(&self, words: &[u8]) -> Option<ProtocolError>
         ensures { result ≡ flags_fault self.now.others.now self.now.numbers.now self.now.times.now
             (tokens words.now) }
@@ -152,7 +155,7 @@ fn fault_unless(is_right: bool) -> Option<ProtocolError>
     }
 }
 
-/// The mode that `M` names, by its letter; that of a `set` if there is no `M`.
+/// Returns the mode that `M` names, by its letter, or that of a `set` if there is no `M`.
 pub fn mode_of(words: &[u8]) -> u8
     ensures { result ≡ mode_of (tokens words.now) }
 {
@@ -162,7 +165,7 @@ pub fn mode_of(words: &[u8]) -> u8
     }
 }
 
-/// What is wrong with the mode of a `ms`, if anything is.
+/// Returns what is wrong with the mode of a `ms`, or `None` if nothing is.
 pub fn mode_fault(words: &[u8]) -> Option<ProtocolError>
     ensures { result ≡ mode_fault (tokens words.now) }
 {
@@ -173,7 +176,7 @@ pub fn mode_fault(words: &[u8]) -> Option<ProtocolError>
     }
 }
 
-/// Which way a `ma` counts.
+/// Returns which way a `ma` counts.
 pub fn direction_of(words: &[u8]) -> Direction
     ensures { result ≡ direction_of (tokens words.now) }
 {

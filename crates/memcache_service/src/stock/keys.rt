@@ -17,7 +17,8 @@ use memcache_model::{Direction, Exptime};
 use std::alloc::AllocError;
 
 impl<T: Shelf> Stock<T> {
-    /// Deletes the live item of a key.
+    /// Deletes the live item of a key, and returns the reply. Returns an error if there is not enough memory; then the request has done
+    /// nothing.
     pub fn delete(&mut self, key: &[u8], moment: u64) -> Result<Reply, AllocError>
         requires { IsMoment (T.view self.old.shelf) moment }
         ensures ok { IfOk result (λ reply. Does T.view moment (deletes key.now
@@ -35,7 +36,8 @@ impl<T: Shelf> Stock<T> {
         Ok(Reply::Deleted)
     }
 
-    /// Counts the live item of a key.
+    /// Counts the live item of a key up or down, and returns the reply. Returns an error if there is not enough memory; then the request
+    /// has done nothing.
     pub fn count(
         &mut self,
         direction: Direction,
@@ -64,7 +66,8 @@ impl<T: Shelf> Stock<T> {
         Ok(Reply::Number(number))
     }
 
-    /// Gives the live item of a key another expiry.
+    /// Gives the live item of a key another expiry, and returns the reply. Returns an error if there is not enough memory; then the request
+    /// has done nothing.
     pub fn touch(&mut self, key: &[u8], exptime: Exptime, moment: u64) -> Result<Reply, AllocError>
         requires { IsMoment (T.view self.old.shelf) moment }
         ensures ok { IfOk result (λ reply. Does T.view moment (touches_one key.now
@@ -77,7 +80,8 @@ impl<T: Shelf> Stock<T> {
         self.retime(deadline, moment)
     }
 
-    /// Takes all items away, now or at a moment to come.
+    /// Removes all items, now or at a moment to come, and returns the reply. Returns an error if there is not enough memory; then the
+    /// request has done nothing.
     pub fn flush_all(&mut self, exptime: Exptime, moment: u64) -> Result<Reply, AllocError>
         requires { IsMoment (T.view self.old.shelf) moment }
         ensures ok { IfOk result (λ reply. Does T.view moment (flushes moment exptime
@@ -112,7 +116,7 @@ fn hit_of(direction: Direction) -> Tally {
     }
 }
 
-/// The number, counted up, from 2^64 - 1 on to 0, or down, and never below 0.
+/// Returns the number, counted up, from 2^64 - 1 on to 0, or down, and never below 0.
 pub fn counted(direction: Direction, number: u64, delta: u64) -> u64
     ensures { result ≡ counted direction number delta }
 {

@@ -66,7 +66,8 @@ struct Asked<'a> {
 }
 
 impl<T: Shelf> Stock<T> {
-    /// Does what a meta command on a key asks for.
+    /// Does what a meta command on a key asks for, and returns the reply, or `Written` if it is in `output`. Returns an error if there is
+    /// not enough memory; then the request has done nothing.
     pub fn meta(
         &mut self,
         kind: Meta,
@@ -92,7 +93,8 @@ impl<T: Shelf> Stock<T> {
         }
     }
 
-    /// Does what a `ms` asks for.
+    /// Does what a `ms` asks for, and returns the reply, or `Written` if it is in `output`. Returns an error if there is not enough memory;
+    /// then the request has done nothing.
     pub fn meta_set(
         &mut self,
         key: &[u8],

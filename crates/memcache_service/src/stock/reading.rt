@@ -22,7 +22,8 @@ use std::alloc::AllocError;
 const MAX_REPLY: usize = 1 << 26;
 
 impl<T: Shelf> Stock<T> {
-    /// Tells the live items of the keys, and uses them.
+    /// Appends the live items of the keys to `output`, uses them, and returns the rest of the reply. Returns an error if there is not
+    /// enough memory; then the request has done nothing.
     pub fn get(
         &mut self,
         uniques: bool,
@@ -72,8 +73,8 @@ impl<T: Shelf> Stock<T> {
         }
     }
 
-    /// Tells the live items of the keys, and then gives them another expiry. If there is no memory for one, those of the keys before it
-    /// have it.
+    /// Appends the live items of the keys to `output`, gives them another expiry, and returns the rest of the reply. Returns an error if
+    /// there is not enough memory; the keys before the one that lacked it then have the expiry.
     pub fn gat(
         &mut self,
         uniques: bool,
@@ -125,7 +126,8 @@ impl<T: Shelf> Stock<T> {
         Ok(())
     }
 
-    /// Gives the live item of the key that was named another deadline.
+    /// Gives the live item of the key that was named another deadline, and returns the reply. Returns an error if there is not enough
+    /// memory; then the request has done nothing.
     pub fn retime(&mut self, deadline: Option<u64>, moment: u64) -> Result<Reply, AllocError>
         requires { IsMoment (T.view self.old.shelf) moment }
         ensures ok { IfOk result (λ reply. Does T.view moment (touches_one self.old.key deadline

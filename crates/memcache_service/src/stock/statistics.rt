@@ -10,7 +10,7 @@ use memcache_lines::next_token;
 use std::alloc::AllocError;
 
 impl<T: Shelf> Stock<T> {
-    /// Tells statistics, or resets them.
+    /// Appends statistics to `output`, or resets them, and returns the rest of the reply. Returns an error if there is not enough memory.
     pub fn stats(
         &mut self,
         words: &[u8],

@@ -18,8 +18,11 @@ use std::alloc::{AllocError, Global};
 /// A block that a storage command brings, with its flags and when it expires.
 #[derive(Clone, Copy)]
 pub struct Block<'a> {
+    /// The bytes of the block.
     pub bytes: &'a [u8],
+    /// The client's flags.
     pub flags: u32,
+    /// The moment at which the item expires, in milliseconds of Unix time, or `None` if it does not.
     pub deadline: Option<u64>,
 }
 
@@ -34,7 +37,8 @@ impl<'a> Block<'a> {
 }
 
 impl<T: Shelf> Stock<T> {
-    /// Stores a block as the command says.
+    /// Stores a block as the command says, and returns the reply. Returns an error if there is not enough memory; then the request has done
+    /// nothing.
     pub fn store(
         &mut self,
         storage: Storage,
@@ -108,7 +112,8 @@ impl<T: Shelf> Stock<T> {
         Ok(Reply::Stored)
     }
 
-    /// Gives the key an item, with the next unique.
+    /// Stores the item under the key that was named, with the next unique. Returns an error if there is not enough memory; then the request
+    /// has done nothing.
     pub fn put(&mut self, item: StoredItem, moment: u64) -> Result<(), AllocError>
         requires { IsMoment (T.view self.old.shelf) moment }
         ensures numbered { OnOk result (self.old.uniques + 1 < 2 ^ 64) }
@@ -199,7 +204,8 @@ impl<T: Shelf> Stock<T> {
         self.put_block(block, moment)
     }
 
-    /// A block was too large: what a `set` was to replace goes.
+    /// Passes over a block that was too large, and returns the reply. The item that a `set` was to replace is removed. Returns an error if
+    /// there is not enough memory; then the request has done nothing.
     pub fn pass_over(
         &mut self,
         storage: Storage,
@@ -223,7 +229,8 @@ impl<T: Shelf> Stock<T> {
     }
 }
 
-/// The item with more bytes behind its own; none if it would have more than `most`.
+/// Returns the item with more bytes behind its own, or `None` if it would have more than `most`. Returns an error if there is not enough
+/// memory.
 pub fn behind_within(
     alloc: Global,
     most: u32,
@@ -239,7 +246,8 @@ pub fn behind_within(
     Ok(Some(old.with_behind(alloc, more)?))
 }
 
-/// The item with more bytes before its own; none if it would have more than `most`.
+/// Returns the item with more bytes before its own, or `None` if it would have more than `most`. Returns an error if there is not enough
+/// memory.
 pub fn before_within(
     alloc: Global,
     most: u32,

@@ -14,24 +14,33 @@ use std::alloc::AllocError;
 /// Who holds the lease of an item, as a `mg` tells it.
 #[derive(Clone, Copy)]
 pub struct Lease {
+    /// Whether a client holds the lease.
     pub held: bool,
+    /// Whether the item is stale.
     pub stale: bool,
+    /// Whether this client wins the lease.
     pub wins: bool,
 }
 
 /// What a reply tells of an item.
 #[derive(Clone, Copy)]
 pub struct Told<'a> {
+    /// The key.
     pub key: &'a [u8],
+    /// The item's bytes.
     pub bytes: &'a [u8],
+    /// The item's unique.
     pub unique: u64,
+    /// The client's flags.
     pub flags: u32,
+    /// The moment at which the item expires, in milliseconds of Unix time, or `None` if it does not.
     pub deadline: Option<u64>,
+    /// The moment of the request, in milliseconds of Unix time.
     pub moment: u64,
 }
 
 impl<'a> Told<'a> {
-    /// What is told of an item that has this unique.
+    /// Returns what is told of an item that has this unique.
     pub fn new(key: &'a [u8], item: &'a StoredItem, unique: u64, moment: u64) -> Told<'a>
         ensures item { told_item result
             ≡ record item.now { unique = unique; stale = false; leased = false } }
@@ -48,7 +57,7 @@ impl<'a> Told<'a> {
         }
     }
 
-    /// Writes the item as `mg` and `ma` tell it.
+    /// Appends the item as `mg` and `ma` tell it. Returns an error if there is not enough memory.
     pub fn say_item(
         &self,
         output: &mut Vec<u8>,
@@ -98,7 +107,7 @@ impl<'a> Told<'a> {
         }
     }
 
-    /// Writes that the item is stored.
+    /// Appends the reply that the item is stored. Returns an error if there is not enough memory.
     pub fn say_stored(&self, output: &mut Vec<u8>, flags: &[u8]) -> Result<(), AllocError>
         ensures ok { OnOk result (output.new.items ≡ output.old.items
             ++ code_with self.now.moment (codes "HD") self.now.key.now (told_item self.now)
@@ -208,7 +217,7 @@ fn say_count(output: &mut Vec<u8>, text: &[u8], number: u64) -> Result<(), Alloc
     say_number(output, number)
 }
 
-/// Writes a code, and what is told of no item.
+/// Appends a code, and what is told of no item. Returns an error if there is not enough memory.
 pub fn say_alone(
     output: &mut Vec<u8>,
     code: &[u8],

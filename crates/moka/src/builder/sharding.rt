@@ -17,19 +17,19 @@ use std::alloc::{AllocError, Global};
 use std::hash::{BuildHasher, Hash};
 use std::marker::PhantomData;
 
-/// Caches of one segment, a power of two of them, which share a hasher and rules. A key belongs to the one whose number is the upper
-/// `bits` bits of its hash.
+/// Caches of one segment, a power of two of them, which share a hasher and rules. A key belongs to the cache whose number is the upper
+/// `bits` bits of the key's hash.
 #[derive(Drop)]
 pub struct Shards<K: Eq + Hash, V, S: BuildHasher, R: Rules<K, V>> {
     /// The caches, each with its share of the capacity.
     pub states: Vec<LentState<K, V, S, R, Sharded>>,
     /// How many bits of a hash are the number of a shard, at most 16.
     pub bits: u32,
-    /// The hasher of all.
+    /// The hasher of all caches.
     pub hasher: Shared<S>,
-    /// The name of all together.
+    /// The name of all caches together, or `None` if they have none.
     pub name: Option<String>,
-    /// The capacity of all together.
+    /// The maximum weight of all caches together, or `None` without a limit.
     pub capacity: Option<u64>,
 }
 
@@ -72,8 +72,9 @@ fn new_shards<K: Eq + Hash + Drop, V: Drop, S: BuildHasher + Drop, R: Rules<K, V
 }
 
 impl<X, W, P, F> CacheBuilder<X, W, P, F> {
-    /// Sets the number of shards, each a cache of one segment with its share of the capacity: 1 to 65,536, rounded up to a power of two.
-    /// A shard's share is the capacity divided by their number, rounded up, so together they may hold slightly more.
+    /// Sets the number of shards, each a cache of one segment with its share of the capacity: 1 to 65,536, rounded up to a power of two. A
+    /// shard's share is the capacity divided by the number of shards, rounded up, so together they may hold slightly more. `build` refuses
+    /// another number.
     /// ```
     /// let cache: ShardedCache<u64, u64, StdHasher, PlainRules, _> = CacheBuilder::new(1000).shards(16).build(alloc, env)?;
     /// ```
@@ -95,7 +96,7 @@ impl<X, W, P, F> CacheBuilder<X, W, P, F> {
 
 impl<X, W, P, F> CacheBuilder<X, W, P, F, Sharded> {
     /// Creates the shards at this moment, with this hasher. If untrusted clients choose the keys, use a hasher that they cannot predict.
-    /// Checks the settings, in the order of `BuildError`.
+    /// Checks the settings, in the order of `BuildError`. Returns the first error that applies.
     /// ```
     /// let shards: Shards<u64, u64, StdHasher, PlainRules> =
     ///     CacheBuilder::new(1000).shards(16).build_shards(alloc, StdHasher::new(), moment)?;

@@ -13,7 +13,8 @@ use audit_model::Outcome;
 use audit_situation::{State, may_run};
 use std::alloc::{AllocError, Global};
 
-/// What a feed makes due: running the command that its connection holds back, and then its lines.
+/// Returns what a feed makes due: running the command that its connection holds back, and then its lines. Returns an error if there is not
+/// enough memory.
 pub fn duties_to_feed<'a>(alloc: Global, conn: u64, held: bool) -> Result<Vec<Duty<'a>>, AllocError>
     ensures { IfOk result (λ ds. map task_of ds.items ≡ tasks_to_feed conn held) }
 {
@@ -24,7 +25,8 @@ pub fn duties_to_feed<'a>(alloc: Global, conn: u64, held: bool) -> Result<Vec<Du
     }
 }
 
-/// What an answer makes due after its own step: delivering it to each connection that waits, and then running their lines.
+/// Returns what an answer makes due after its own step: delivering it to each connection that waits, and then running their lines. Returns
+/// an error if there is not enough memory.
 pub fn duties_to_deliver<'a>(
     alloc: Global,
     conns: &[u64],
@@ -65,7 +67,8 @@ fn push_lines<'a>(duties: &mut Vec<Duty<'a>>, conns: &[u64]) -> Result<(), Alloc
     Ok(())
 }
 
-/// What a give-up makes due: running each `LOAD` that waits again, followed by its connection's lines.
+/// Returns what a give-up makes due: running each `LOAD` that waits again, followed by its connection's lines. Returns an error if there is
+/// not enough memory.
 pub fn duties_to_give_up<'a>(alloc: Global, conns: &[u64]) -> Result<Vec<Duty<'a>>, AllocError>
     ensures { IfOk result (λ ds. map task_of ds.items ≡ tasks_to_give_up conns.now) }
 {
@@ -97,7 +100,7 @@ fn is_due(s: &State, duty: Duty<'_>) -> bool
     }
 }
 
-/// The place of the first of these that is due now, from a place on.
+/// Returns the index of the first of these duties that is due now, from an index on.
 pub fn due_from(s: &State, duties: &[Duty<'_>], from: usize) -> usize
     requires { from ≤ length duties.now }
     ensures due { map task_of (drop result duties.entry.now)
@@ -112,7 +115,7 @@ pub fn due_from(s: &State, duties: &[Duty<'_>], from: usize) -> usize
     duties.len()
 }
 
-/// The duty at a place.
+/// Returns the duty at an index, or `None` if there is none.
 pub fn duty_at<'a>(duties: &[Duty<'a>], at: usize) -> Option<Duty<'a>>
     ensures { option_map task_of result ≡ first_due (map task_of (drop at duties.entry.now)) }
 {
@@ -123,7 +126,7 @@ pub fn duty_at<'a>(duties: &[Duty<'a>], at: usize) -> Option<Duty<'a>>
     }
 }
 
-/// Where the rest begins after a step for the duty at a place has run; lines stay due.
+/// Returns the index at which the remaining duties begin after a step for the duty at an index has run. Running lines stays due.
 pub fn left_from(duties: &[Duty<'_>], at: usize) -> usize
     requires { at ≤ length duties.now }
     ensures left { map task_of (drop result duties.entry.now)

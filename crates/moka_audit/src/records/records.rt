@@ -357,7 +357,8 @@ fn audited_on(
     Ok(None)
 }
 
-/// Returns the number of the first record that breaks a rule, from 1, if any does.
+/// Returns the number, counted from 1, of the first record that breaks a rule, or `None` if no record does. Returns an error if there is
+/// not enough memory.
 pub fn find_break(
     alloc: Global,
     config: &Config,

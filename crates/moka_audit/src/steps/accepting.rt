@@ -21,8 +21,11 @@ use std::alloc::{AllocError, Global};
 /// A key with the value that it is to hold, and its milliseconds to live.
 #[derive(Drop)]
 pub struct Proposal {
+    /// The key.
     pub key: Bytes,
+    /// The value that the key is to hold.
     pub bytes: Bytes,
+    /// For how many milliseconds the value lives, or `None` without a limit of its own.
     pub ms: Option<u64>,
 }
 
@@ -153,7 +156,8 @@ fn held_from(config: &Config, now: u64, part: u64, offer: Proposal) -> Result<He
     Ok(Held::accepted(offer.key, offer.bytes, part, weight, now, own))
 }
 
-/// Returns the value that a step accepts, if any; `None` if it accepts wrongly.
+/// Returns `Some` with the value that a step accepts, or with `None` if the step accepts none. Returns `None` if the step accepts wrongly,
+/// and an error if there is not enough memory.
 pub fn accept(
     alloc: Global,
     config: &Config,
@@ -209,7 +213,8 @@ fn take(
     }
 }
 
-/// Keeps the part of a value that is accepted, and returns whether its key has no other.
+/// Keeps the part of a value that is accepted, and returns whether its key has no other part. Returns an error if there is not enough
+/// memory.
 pub fn admit(parts: &mut Parts, newcomer: Option<&Held>) -> Result<bool, AllocError>
     ensures agrees { IfOk result
         (λ b. b ≡ agrees_with parts.old (option_map (λ h. h.now.value) newcomer.entry)) }

@@ -82,7 +82,7 @@ fn key_deleted<'a>(doing: Doing<'a>) -> Option<&'a [u8]>
     }
 }
 
-/// The key of a `LOAD`.
+/// Returns the key of a `LOAD`, or `None` for another step.
 pub fn key_loaded<'a>(doing: Doing<'a>) -> Option<&'a [u8]>
     ensures { option_map (λ k. k.now) result ≡ key_loaded (action_of doing.entry) }
 {
@@ -134,7 +134,7 @@ fn covering_prefix<'a>(prefix: &'a [u8], accepted: bool) -> Covering<'a>
     }
 }
 
-/// Whether a step is a `SYNC`.
+/// Returns whether a step is a `SYNC`.
 pub fn is_sync(doing: Doing<'_>) -> bool
     ensures { result ≡ is_sync (action_of doing.entry) }
 {
@@ -147,7 +147,7 @@ pub fn is_sync(doing: Doing<'_>) -> bool
     }
 }
 
-/// Whether a step is a `QUIT`.
+/// Returns whether a step is a `QUIT`.
 pub fn quits(doing: Doing<'_>) -> bool
     ensures { (reply : Option (List ℕ)) (load : Option ℕ)
         → result ≡ quits (acting (action_of doing.entry) reply load) }
@@ -161,7 +161,7 @@ pub fn quits(doing: Doing<'_>) -> bool
     }
 }
 
-/// Whether a step is held back.
+/// Returns whether a step is held back.
 pub fn is_hold(doing: Doing<'_>) -> bool
     ensures held { (reply : Option (List ℕ)) (load : Option ℕ)
         → result ≡ is_held (acting (action_of doing.entry) reply load) }
@@ -177,7 +177,7 @@ pub fn is_hold(doing: Doing<'_>) -> bool
     }
 }
 
-/// Whether a step reports nothing.
+/// Returns whether a step reports nothing.
 pub fn is_silent(doing: Doing<'_>) -> bool
     ensures { result ≡ is_silent (action_of doing.entry) }
 {
@@ -190,7 +190,7 @@ pub fn is_silent(doing: Doing<'_>) -> bool
     }
 }
 
-/// Whether a step with this reply is a `DROPIF` that was accepted.
+/// Returns whether a step with this reply is a `DROPIF` that was accepted.
 pub fn is_drop(doing: Doing<'_>, reply: Option<&[u8]>) -> bool
     ensures { (load : Option ℕ) → result
         ≡ drops (acting (action_of doing.entry) (option_map (λ r. r.now) reply.entry) load) }

@@ -289,7 +289,8 @@ fn judge_doing(
 }
 
 /// Judges a step by what is due, and does to the situation and to the parts of keys what the step does. Returns `false` if the step is
-/// wrong, or if the key of its value has another part: situation and parts then mean nothing.
+/// wrong, or if the key of its value has another part: situation and parts then mean nothing. Returns an error if there is not enough
+/// memory.
 pub fn judge(
     alloc: Global,
     config: &Config,

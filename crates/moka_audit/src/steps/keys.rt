@@ -63,7 +63,8 @@ fn write_key(output: &mut Vec<u8>, key: &[u8]) -> Result<(), AllocError>
     Ok(())
 }
 
-/// Returns the number of keys, and then each on a line of its own.
+/// Returns the text of a reply to `KEYS`: the number of live keys, and then each key on a line of its own, in byte order. Returns an error
+/// if there is not enough memory.
 pub fn keys_listed(
     alloc: Global,
     config: &Config,

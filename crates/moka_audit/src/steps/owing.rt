@@ -101,7 +101,7 @@ fn is_reply(reply: Option<&[u8]>, owed: Option<&[u8]>, refuses: bool) -> bool
     is_said(reply, owed) || (refuses && is_said(reply, Some(b"ERR id\n")))
 }
 
-/// Returns whether a step other than a `SYNC` has the reply that it owes.
+/// Returns whether a step other than a `SYNC` has the reply that it owes. Returns an error if there is not enough memory.
 pub fn replies_rightly(
     alloc: Global,
     config: &Config,

@@ -23,14 +23,14 @@ fn line_of(alloc: Global, text: &[u8], bytes: &[u8]) -> Result<Vec<u8>, AllocErr
     Ok(line)
 }
 
-/// `VAL` and the bytes.
+/// Returns the reply `VAL` with these bytes. Returns an error if there is not enough memory.
 pub fn value_reply(alloc: Global, bytes: &[u8]) -> Result<Vec<u8>, AllocError>
     ensures { IfOk result (λ line. line.items ≡ value_reply bytes.now) }
 {
     line_of(alloc, b"VAL ", bytes)
 }
 
-/// The value, or `NONE`.
+/// Returns the reply with the value that was found, or `NONE` without one. Returns an error if there is not enough memory.
 pub fn value_or_none(alloc: Global, found: Option<Seen<'_>>) -> Result<Vec<u8>, AllocError>
     ensures { IfOk result
         (λ line. line.items ≡ value_or_none (option_map (λ h. (held_of h).value) found.entry)) }
@@ -41,7 +41,7 @@ pub fn value_or_none(alloc: Global, found: Option<Seen<'_>>) -> Result<Vec<u8>, 
     }
 }
 
-/// `YES` if there is a live value.
+/// Returns the reply `YES` if there is a live value, and otherwise `NO`.
 pub fn yes_or_no(found: Option<Seen<'_>>) -> &'static [u8]
     ensures { result.now ≡ yes_or_no (option_map (λ h. (held_of h).value) found.entry) }
 {
@@ -51,7 +51,7 @@ pub fn yes_or_no(found: Option<Seen<'_>>) -> &'static [u8]
     }
 }
 
-/// Whether values are accepted.
+/// Returns whether values are accepted: the capacity is not 0.
 pub fn accepts(config: &Config) -> bool
     ensures { result ≡ accepts_values config.now.capacity }
 {
@@ -61,14 +61,14 @@ pub fn accepts(config: &Config) -> bool
     }
 }
 
-/// `OFF` if no value is accepted.
+/// Returns the reply `OFF` if no value is accepted, and otherwise `OK`.
 pub fn ok_or_off(config: &Config) -> &'static [u8]
     ensures { result.now ≡ ok_or_off config.now }
 {
     if accepts(config) { b"OK\n" } else { b"OFF\n" }
 }
 
-/// The sum that an `ADD` stores; none if the value is not a number or the sum is too large.
+/// Returns the sum that an `ADD` stores, or `None` if the value is not a number or the sum is above 2^64 - 1.
 pub fn sum_with(found: Option<Seen<'_>>, added: u64) -> Option<u64>
     ensures { result ≡ sum_with (option_map (λ h. (held_of h).value) found.entry) added }
 {
@@ -81,7 +81,7 @@ pub fn sum_with(found: Option<Seen<'_>>, added: u64) -> Option<u64>
     }
 }
 
-/// The digits of a number.
+/// Returns the decimal digits of a number. Returns an error if there is not enough memory.
 pub fn digits_of(alloc: Global, number: u64) -> Result<Vec<u8>, AllocError>
     ensures { IfOk result (λ digits. digits.items ≡ decimal number) }
 {
@@ -89,7 +89,7 @@ pub fn digits_of(alloc: Global, number: u64) -> Result<Vec<u8>, AllocError>
     Vec::from_slice(alloc, buffer.format(number).as_bytes())
 }
 
-/// The sum as a value, or `ERR number`.
+/// Returns the reply with the sum as a value, or `ERR number` without a sum. Returns an error if there is not enough memory.
 pub fn sum_or_error(alloc: Global, sum: Option<u64>) -> Result<Vec<u8>, AllocError>
     ensures { IfOk result (λ line. line.items ≡ sum_or_error sum) }
 {
@@ -102,7 +102,7 @@ pub fn sum_or_error(alloc: Global, sum: Option<u64>) -> Result<Vec<u8>, AllocErr
     }
 }
 
-/// The reply to a line that cannot be parsed.
+/// Returns the reply to a line that cannot be parsed.
 pub fn fault_text(error: LineError) -> &'static [u8]
     ensures { result.now ≡ fault_text error }
 {
@@ -114,7 +114,7 @@ pub fn fault_text(error: LineError) -> &'static [u8]
     }
 }
 
-/// The reply to a waiting `LOAD` that receives this outcome.
+/// Returns the reply to a waiting `LOAD` that receives this outcome. Returns an error if there is not enough memory.
 pub fn outcome_text(alloc: Global, outcome: &Outcome) -> Result<Vec<u8>, AllocError>
     ensures { IfOk result (λ line. line.items ≡ outcome_text outcome.now) }
 {
@@ -125,7 +125,7 @@ pub fn outcome_text(alloc: Global, outcome: &Outcome) -> Result<Vec<u8>, AllocEr
     }
 }
 
-/// The number of values, and their total weight.
+/// Returns the number of values, and their total weight, as a `SYNC` replies them. Returns an error if there is not enough memory.
 pub fn counts_of(alloc: Global, held: &Holding) -> Result<Vec<u8>, AllocError>
     ensures { IfOk result (λ line. line.items ≡ count_and_weight (values_of held.now)) }
 {
@@ -139,7 +139,7 @@ pub fn counts_of(alloc: Global, held: &Holding) -> Result<Vec<u8>, AllocError>
     Ok(line)
 }
 
-/// Whether the two are the same bytes, or neither exists.
+/// Returns whether the two are the same bytes, or neither exists.
 pub fn is_said(reply: Option<&[u8]>, owed: Option<&[u8]>) -> bool
     ensures { result ≡ option_eq same (option_map (λ r. r.now) reply.entry)
         (option_map (λ r. r.now) owed.entry) }

@@ -12,12 +12,19 @@ use audit_situation::Doing;
 /// What a record says of a step.
 #[derive(Clone, Copy)]
 pub struct Shown<'a> {
+    /// The number of the connection.
     pub conn: u64,
+    /// The line.
     pub line: &'a [u8],
+    /// Whether the line was held back.
     pub held: bool,
+    /// The reply, or `None` if there is none yet.
     pub reply: Option<&'a [u8]>,
+    /// The number of the load that the line sent.
     pub load: Option<u64>,
+    /// The part that took the line's value, if it was accepted.
     pub accepted: Option<Accepted>,
+    /// The values that left while the line ran.
     pub notices: &'a [Note],
 }
 
@@ -25,10 +32,15 @@ pub struct Shown<'a> {
 /// running its held command, or running its lines.
 #[derive(Clone, Copy)]
 pub enum Duty<'a> {
+    /// Storing an outcome under the key of its load, if the load is there.
     Store(Option<&'a [u8]>, &'a Outcome),
+    /// Delivering an outcome to the connection of this number.
     Deliver(u64, &'a Outcome),
+    /// Running the given-up `LOAD` of the connection of this number again.
     RunAgain(u64),
+    /// Running the command that the connection of this number holds back.
     RunHeld(u64),
+    /// Running the lines of the connection of this number.
     RunLines(u64),
 }
 
@@ -62,7 +74,7 @@ fn do_shown<'a>(config: &Config, shown: Shown<'a>) -> Doing<'a>
     }
 }
 
-/// What a step does for what is due, if its connection's `LOAD` began to wait this many times.
+/// Returns what a step does for what is due, if its connection's `LOAD` began to wait this many times.
 pub fn do_due<'a>(
     config: &Config,
     waited: u64,
@@ -94,7 +106,7 @@ fn do_again<'a>(config: &Config, waited: u64, shown: Shown<'a>) -> Doing<'a>
     }
 }
 
-/// Whether what is due is due for this connection.
+/// Returns whether what is due is due for this connection.
 pub fn is_duty_of(conn: u64, duty: Option<Duty<'_>>) -> bool
     ensures { result ≡ is_task_of conn (option_map task_of duty.entry) }
 {
@@ -122,7 +134,7 @@ fn may_hold(duty: Option<Duty<'_>>, doing: Doing<'_>) -> bool
     }
 }
 
-/// Whether a step is held back only if it may be.
+/// Returns whether a step is held back only if it may be.
 pub fn is_held_rightly(duty: Option<Duty<'_>>, held: bool, doing: Doing<'_>) -> bool
     ensures { result
         ≡ (not held || may_hold (option_map task_of duty.entry) (action_of doing.entry)) }
@@ -130,7 +142,7 @@ pub fn is_held_rightly(duty: Option<Duty<'_>>, held: bool, doing: Doing<'_>) -> 
     !held || may_hold(duty, doing)
 }
 
-/// Whether running lines is due.
+/// Returns whether running lines is due.
 pub fn is_run_lines(duty: Option<Duty<'_>>) -> bool
     ensures { result ≡ runs_lines (option_map task_of duty.entry) }
 {
@@ -144,7 +156,7 @@ pub fn is_run_lines(duty: Option<Duty<'_>>) -> bool
     }
 }
 
-/// Whether storing an answer is due.
+/// Returns whether storing an answer is due.
 pub fn is_store(duty: Option<Duty<'_>>) -> bool
     ensures { result ≡ stores (option_map task_of duty.entry) }
 {

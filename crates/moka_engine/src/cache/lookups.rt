@@ -29,8 +29,8 @@ impl<K: Eq + Hash, V, S: BuildHasher, R: Rules<K, V>> BaseCache<K, V, S, R> {
         note_read(&mut self.tables, found, hash, now);
     }
 
-    /// Returns a clone of the visible value of a key, which counts as a use of it. Maintenance runs if it is due, after the value is looked
-    /// up. Returns an error if there is no memory for the clone; then nothing has changed.
+    /// Returns a clone of the visible value of a key, or `None`, which counts as a use of it. Maintenance runs if it is due, after the
+    /// value is looked up. Returns an error if there is no memory for the clone; then nothing has changed.
     pub fn get_with_hash<Q: Names<K>>(
         &mut self,
         key: &Q,

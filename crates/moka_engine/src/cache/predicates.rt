@@ -13,7 +13,9 @@ use std::hash::{BuildHasher, Hash};
 
 impl<K: Eq + Hash, V, S: BuildHasher, R: Rules<K, V>> BaseCache<K, V, S, R> {
     /// Registers a predicate, which covers what was written at earlier steps, under an identifier that is drawn, and returns the
-    /// identifier. A refused call draws nothing, except for `IdsInUse`: then a thousand identifiers were drawn, each of them registered.
+    /// identifier. Returns `InvalidationClosuresDisabled` if the cache accepts no predicates, `UsedUp` if the 64-bit tickets (the numbers
+    /// under which writes wait to be sent) are used up, `OutOfMemory` if there is not enough memory, and `IdsInUse` if each of a thousand
+    /// identifiers that were drawn is registered. After a refusal the cache is as before, and only `IdsInUse` has drawn from the generator.
     pub fn invalidate_entries_if<G: Rng>(
         &mut self,
         predicate: R::Predicate,
@@ -34,7 +36,8 @@ impl<K: Eq + Hash, V, S: BuildHasher, R: Rules<K, V>> BaseCache<K, V, S, R> {
         invalidate(&mut self.tables, predicate, step, generator)
     }
 
-    /// The first half of `invalidate_entries_if`: draws the identifier and makes room, which `commit_predicate` uses.
+    /// Does the first half of `invalidate_entries_if`: draws the identifier and makes room, which `commit_predicate` uses. Returns the
+    /// errors of that call; then the cache is as before.
     pub fn prepare_predicate<G: Rng>(&mut self, generator: &mut G) -> Result<u128, Refusal>
         ensures ok { OnOk result (self.new ≡ with_room self.old) }
         ensures drawn { IfOk result (λ id. Draws (G.stream generator.old) (G.stream generator.new)
@@ -49,7 +52,9 @@ impl<K: Eq + Hash, V, S: BuildHasher, R: Rules<K, V>> BaseCache<K, V, S, R> {
         prepare(&mut self.tables, generator)
     }
 
-    /// Makes room for a predicate, which `commit_predicate` uses, and draws nothing.
+    /// Makes room for a predicate, which `commit_predicate` uses, and draws nothing. Returns `InvalidationClosuresDisabled` if the cache
+    /// accepts no predicates, and otherwise `UsedUp` if the 64-bit tickets of writes are used up, or `OutOfMemory`; then nothing has
+    /// changed.
     pub fn reserve_predicate(&mut self) -> Result<(), Refusal>
         ensures ok { OnOk result (self.new ≡ with_room self.old) }
         ensures err { OnErr result (self.new ≡ self.old) }
@@ -77,8 +82,8 @@ impl<K: Eq + Hash, V, S: BuildHasher, R: Rules<K, V>> BaseCache<K, V, S, R> {
         draw_id(&self.tables, generator)
     }
 
-    /// Registers a predicate under its identifier, in the room that was made for it: the second half of `invalidate_entries_if`, which is
-    /// never refused.
+    /// Does the second half of `invalidate_entries_if`, which is never refused: registers a predicate under its identifier, in the room
+    /// that was made for it.
     pub fn commit_predicate(&mut self, id: u128, predicate: R::Predicate, step: u64)
         requires { 0 < self.old.reserved }
         ensures { self.new ≡ registered (record { id = id; predicate = predicate; step = step })

@@ -11,8 +11,9 @@ use engine_reference::{Entry, Hashes, Names, Refusal, Rules};
 use std::hash::{BuildHasher, Hash};
 
 impl<K: Eq + Hash, V, S: BuildHasher, R: Rules<K, V>> BaseCache<K, V, S, R> {
-    /// Removes a key, whether its deadline has come or not, and returns its entry and the ticket of the removal.
-    /// If removals are reported, pass the entry to `notify_invalidate`.
+    /// Removes a key, whether its deadline has come or not, and returns its entry and the ticket of the removal, or `None` if nothing is
+    /// held under the key. If removals are reported, pass the entry to `notify_invalidate`. Returns `UsedUp` if the 64-bit tickets of
+    /// writes are used up, and `OutOfMemory` if there is not enough memory; then nothing has changed. (`moka` returns the shared entry.)
     pub fn remove_entry<Q: Names<K>>(
         &mut self,
         key: &Q,
@@ -41,8 +42,8 @@ impl<K: Eq + Hash, V, S: BuildHasher, R: Rules<K, V>> BaseCache<K, V, S, R> {
         }
     }
 
-    /// The first half of `remove_entry`: clones the key and value that are held, and makes room for the removal, and for its notice if
-    /// removals are reported.
+    /// Does the first half of `remove_entry`: returns clones of the key and value that are held, or `None` if none are, and makes room for
+    /// the removal, and for its notice if removals are reported. Returns the errors of that call; then nothing has changed.
     pub fn prepare_removal<Q: Names<K>>(
         &mut self,
         key: &Q,
@@ -67,9 +68,9 @@ impl<K: Eq + Hash, V, S: BuildHasher, R: Rules<K, V>> BaseCache<K, V, S, R> {
         prepare_removal(&mut self.tables, key, hash)
     }
 
-    /// The second half of `remove_entry`, which is never refused: removes the key in the room that was made for it, and returns its entry
-    /// as it is now and the ticket of the removal. The key and value are those of the first half. If maintenance removed the key in the
-    /// meantime, nothing changes, and `release_room` has to give up the room.
+    /// Does the second half of `remove_entry`, which is never refused: removes the key in the room that was made for it, and returns its
+    /// entry as it is now and the ticket of the removal. The key and value are those of the first half. If maintenance removed the key in
+    /// the meantime, the call returns `None` and changes nothing, and `release_room` has to give up the room.
     pub fn remove_reserved<Q: Names<K>>(
         &mut self,
         key: &Q,

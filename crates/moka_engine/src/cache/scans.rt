@@ -22,7 +22,7 @@ impl<K: Eq + Hash, V, S: BuildHasher, R: Rules<K, V>> BaseCache<K, V, S, R> {
     }
 
     /// Returns clones of the keys of everything that is held in the segment, including expired and invalidated values, or `None` if there
-    /// is no such segment.
+    /// is no such segment. Returns an error if there is no memory for the clones.
     pub fn keys(&self, segment: usize) -> Result<Option<Vec<K>>, AllocError>
     where
         K: Clone + Drop,
@@ -37,15 +37,15 @@ impl<K: Eq + Hash, V, S: BuildHasher, R: Rules<K, V>> BaseCache<K, V, S, R> {
         Ok(Some(found))
     }
 
-    /// Returns how many keys have a visible value. This does not count as a use of any; it allocates nothing, and looks at every record.
+    /// Returns how many keys have a visible value. The call counts as a use of none; it allocates nothing, and looks at every record.
     pub fn count_visible(&self, now: Instant) -> usize
         ensures { result ≡ length (visible_keys R.answers K.eq self.now now) }
     {
         self.tables.count_visible(now.as_nanos())
     }
 
-    /// Returns a clone of the visible value of a key, or `None`. This does not count as a use of it. Returns an error if there is no memory
-    /// for the clone.
+    /// Returns a clone of the visible value of a key, or `None`. The call does not count as a use of it. Returns an error if there is no
+    /// memory for the clone.
     pub fn scanning_get(&self, key: &K, now: Instant) -> Result<Option<V>, AllocError>
     where
         V: Clone,
@@ -56,7 +56,7 @@ impl<K: Eq + Hash, V, S: BuildHasher, R: Rules<K, V>> BaseCache<K, V, S, R> {
         self.get_with_hash_without_recording(key, hash, now)
     }
 
-    /// Returns the visible value of a key, without a clone. This does not count as a use of it.
+    /// Returns the visible value of a key, without a clone, or `None`. The call does not count as a use of it.
     pub fn peek<Q: Names<K>>(&self, key: &Q, hash: u64, now: Instant) -> Option<&V>
         requires hashed { hash ≡ ⟦<S as Hashes<K>>⟧.hash self.now.hasher (Q.named_key key.now) }
         ensures { option_map (λ value. value.now) result
@@ -68,8 +68,8 @@ impl<K: Eq + Hash, V, S: BuildHasher, R: Rules<K, V>> BaseCache<K, V, S, R> {
         }
     }
 
-    /// Returns a clone of the value that is held under a key, whether it is visible or not. This does not count as a use of it. Returns an
-    /// error if there is no memory for the clone.
+    /// Returns a clone of the value that is held under a key, whether it is visible or not, or `None`. The call does not count as a use of
+    /// it. Returns an error if there is no memory for the clone.
     pub fn held_value_with_hash<Q: Names<K>>(
         &self,
         key: &Q,
@@ -85,8 +85,8 @@ impl<K: Eq + Hash, V, S: BuildHasher, R: Rules<K, V>> BaseCache<K, V, S, R> {
         clone_value(held(&self.tables, key, hash))
     }
 
-    /// Returns a clone of the stored key that equals a key, whether its value is visible or not. Returns an error if there is no memory for
-    /// the clone.
+    /// Returns a clone of the stored key that equals a key, whether its value is visible or not, or `None`. Returns an error if there is no
+    /// memory for the clone.
     pub fn get_key_with_hash<Q: Names<K>>(
         &self,
         key: &Q,
@@ -102,8 +102,9 @@ impl<K: Eq + Hash, V, S: BuildHasher, R: Rules<K, V>> BaseCache<K, V, S, R> {
         clone_key(held(&self.tables, key, hash))
     }
 
-    /// Returns a clone of the visible value of a key, which counts as a use of it. A value for which `ignore_if` returns true counts as not
-    /// found, and is not used; `ignore_if` is called on no other value.
+    /// Returns a clone of the visible value of a key, or `None`, which counts as a use of it. A value for which `ignore_if` returns true
+    /// counts as not found, and is not used; `ignore_if` is called on no other value. Returns an error if there is no memory for the clone;
+    /// then nothing has changed.
     pub fn get_with_hash_and_ignore_if<Q: Names<K>, F: FnOnce(&V) -> bool + Drop>(
         &mut self,
         key: &Q,

@@ -13,7 +13,7 @@ impl<K: Eq + Hash, V, S: BuildHasher, R: Rules<K, V>> BaseCache<K, V, S, R> {
         matches!(self.tables.settings().capacity, Some(0))
     }
 
-    /// Returns the name of the cache, if it has one.
+    /// Returns the name of the cache, or `None` if it has none.
     pub fn name(&self) -> Option<&str>
         ensures name { option_map (λ text. text.now) result ≡ self.now.name }
     {

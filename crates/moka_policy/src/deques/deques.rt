@@ -40,7 +40,7 @@ impl<K> Model for Deques<K> {
 impl<K> Deques<K> {
     ghost use Rattle.moka_policy.specs.Deques.Lending.{lends_queue};
 
-    /// Creates empty queues. This allocates nothing.
+    /// Creates empty queues. The call allocates nothing.
     pub fn default(alloc: Global) -> Self
         ensures { (region : TheRegion) → IsNewQueue region (queue_of region result) }
     {
@@ -85,7 +85,7 @@ impl<K> Deques<K> {
         self.select(region).len()
     }
 
-    /// Returns the first entry of a region.
+    /// Returns the first entry of a region, or `None` if the region's queue is empty.
     pub fn peek_front(&self, region: CacheRegion) -> Option<&KeyHashDate>
         ensures { option_copied result
             ≡ option_map (λ n. n.element) (head (queue_of region self.now).nodes) }
@@ -93,7 +93,7 @@ impl<K> Deques<K> {
         self.select(region).peek_front()
     }
 
-    /// Returns the last entry of a region.
+    /// Returns the last entry of a region, or `None` if the region's queue is empty.
     pub fn peek_back(&self, region: CacheRegion) -> Option<&KeyHashDate>
         ensures { option_copied result
             ≡ option_map (λ n. n.element) (final (queue_of region self.now).nodes) }
@@ -101,7 +101,8 @@ impl<K> Deques<K> {
         self.select(region).peek_back()
     }
 
-    /// Removes the first entry of a region from its queue. What the entry knows of its node is stale from then on.
+    /// Removes the first entry of a region from its queue and returns it, or `None` if the queue is empty. What the entry knows of its node
+    /// is stale from then on.
     pub fn pop_front(&mut self, region: CacheRegion) -> Option<KeyHashDate>
         ensures value { result
             ≡ option_map (λ n. n.element) (head (queue_of region self.old).nodes) }
@@ -131,7 +132,8 @@ impl<K> Deques<K> {
         self.select_mut(region).reset_cursor();
     }
 
-    /// Reserves room for `n` pushes on each queue, which then allocate nothing and are not refused.
+    /// Reserves room for `n` pushes on each queue, which then allocate nothing and are not refused. Returns `UsedUp` if a queue would then
+    /// have had more than 2^64 - 1 nodes, and `OutOfMemory` if there is not enough memory; the nodes then stay as they are.
     pub fn reserve(&mut self, n: usize) -> Result<(), ReserveError>
         ensures room { OnOk result (HaveRoom n self.new) }
         ensures had_room { HaveRoom n self.old → IsOk result }
@@ -145,8 +147,9 @@ impl<K> Deques<K> {
         both(both(first, second), both(third, fourth))
     }
 
-    /// Appends an entry to the queue of a region other than `Other`, and stores the name of the new node in the entry. A refused entry is
-    /// returned in the error.
+    /// Appends an entry to the queue of a region other than `Other`, and stores the name of the new node in the entry. Returns the entry in
+    /// `UsedUp` if the queue has had 2^64 - 1 nodes, and in `OutOfMemory` if there is not enough memory; the nodes and the entries then
+    /// stay as they are.
     pub fn push_back_ao(
         &mut self,
         region: CacheRegion,
@@ -171,8 +174,9 @@ impl<K> Deques<K> {
         }
     }
 
-    /// Appends an entry to the queue in order of writes, and stores the name of the new node in the entry. A refused entry is returned in
-    /// the error.
+    /// Appends an entry to the queue in order of writes, and stores the name of the new node in the entry. Returns the entry in `UsedUp` if
+    /// the queue has had 2^64 - 1 nodes, and in `OutOfMemory` if there is not enough memory; the nodes and the entries then stay as they
+    /// are.
     pub fn push_back_wo(
         &mut self,
         node: KeyHashDate,
@@ -338,7 +342,8 @@ impl<K> Deques<K> {
         }
     }
 
-    /// Removes a node from its region. What its entry knows of it is stale from then on.
+    /// Removes a node from its region. What its entry knows of the node is stale from then on. Returns `Stale` if no queue has the node;
+    /// then nothing has changed.
     pub fn unlink_node_ao(&mut self, id: NodeId) -> Result<(), Stale>
         ensures found { IsOk result ↔ IsSome (find id (access_nodes id.queue self.old)) }
         ensures leaves { OnOk result
@@ -353,7 +358,8 @@ impl<K> Deques<K> {
         }
     }
 
-    /// Removes a node from this queue. What its entry knows of it is stale from then on.
+    /// Removes a node from this queue. What its entry knows of the node is stale from then on. Returns `Stale` if the queue does not have
+    /// the node; then nothing has changed.
     pub fn unlink_node_wo(queue: &mut Deque<KeyHashDate>, id: NodeId) -> Result<(), Stale>
         ensures found { IsOk result ↔ IsSome (find id queue.old.nodes) }
         ensures leaves { OnOk result (Leaves queue.old queue.new id) }

@@ -13,22 +13,29 @@ use policy_base::{Cells, Instant, NodeId};
 /// A timer's record: its entry, and the generation of the entry's own expiration under which it was placed.
 #[derive(Clone, Copy, Debug, PartialEq, Eq)]
 pub struct TimerNode {
+    /// The number of the entry.
     pub entry_info: usize,
+    /// The generation of the entry's own expiration, from 0 to 4095.
     pub expiry_gen: u16,
 }
 
 /// A timer: the time at which it was placed, its name and its record.
 #[derive(Clone, Copy)]
 pub struct Timer {
+    /// The moment at which the timer was placed to go off.
     pub placed: Instant,
+    /// The name of the timer.
     pub id: NodeId,
+    /// The record of the timer.
     pub node: TimerNode,
 }
 
 /// When an entry is due, with the generation of its own expiration.
 #[derive(Clone, Copy)]
 pub struct Due {
+    /// The moment at which the entry is due.
     pub time: Instant,
+    /// The generation of the entry's own expiration, from 0 to 4095.
     pub expiry_gen: u16,
 }
 

@@ -30,7 +30,7 @@ fn tick_of(origin: Instant, moment: Instant) -> u64
 }
 
 impl<K> TimerWheel<K> {
-    /// Returns, one by one, the timers that are due at `now`, if that is in a later tick than the wheel's moment.
+    /// Returns, one by one, the timers that are due at `now`, if `now` is in a later tick than the wheel's moment.
     pub fn advance<'a>(
         &'a mut self,
         now: Instant,
@@ -55,7 +55,7 @@ impl<K> TimerWheel<K> {
     }
 }
 
-/// The events of one advance. If it is dropped before its end, the wheel's moment stays as it was.
+/// The events of one advance. If the iterator is dropped before its end, the wheel's moment stays as it was.
 #[derive(Drop)]
 pub struct TimerEventsIter<'a, K> {
     wheel: &'a mut TimerWheel<K>,
@@ -65,7 +65,7 @@ pub struct TimerEventsIter<'a, K> {
 }
 
 impl<'a, K> TimerEventsIter<'a, K> {
-    /// Returns the next event.
+    /// Returns the next event, or `None` after the last one.
     pub fn next(&mut self) -> Option<TimerEvent>
         ensures same_wheel { self.new.wheel.ghost_name ≡ self.old.wheel.ghost_name }
         ensures same_entries { self.new.entries.ghost_name ≡ self.old.entries.ghost_name }

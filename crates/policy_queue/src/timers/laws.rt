@@ -12,7 +12,7 @@ use crate::timers::wheel::TimerWheel;
 use policy_base::{Instant, Slot};
 use slab::Slab;
 
-/// Returns the next event of an advance to `now`, which begins and is dropped within the call.
+/// Returns the next event of an advance to `now`, which begins and is dropped within the call, or `None` if there is none.
 pub fn next_event<K>(
     wheel: &mut TimerWheel<K>,
     now: Instant,

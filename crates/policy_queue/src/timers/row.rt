@@ -73,7 +73,7 @@ fn fit(places: &mut [Place], at: usize, spare: usize, place: Place)
 }
 
 impl Row {
-    /// Creates a row without places. This allocates nothing.
+    /// Creates a row without places. The call allocates nothing.
     pub(crate) fn new(alloc: Global) -> Self
         ensures { result.places ≡ [] }
     {

@@ -75,7 +75,7 @@ impl<K> Model for TimerWheel<K> {
 }
 
 impl<K> TimerWheel<K> {
-    /// Creates a wheel without timers, not yet enabled. This allocates nothing.
+    /// Creates a wheel without timers, not yet enabled. The call allocates nothing.
     pub fn new(alloc: Global, moment: Instant) -> Self
         ensures is_enabled { result.is_enabled ≡ false }
         ensures origin { result.origin ≡ moment }
@@ -101,7 +101,7 @@ impl<K> TimerWheel<K> {
         self.is_enabled
     }
 
-    /// Lets timers be scheduled.
+    /// Lets timers be scheduled. The wheel must not be enabled yet.
     pub fn enable(&mut self)
         requires { self.old.is_enabled ≡ false }
         ensures { self.new ≡ record self.old { is_enabled = true } }
@@ -130,7 +130,8 @@ impl<K> TimerWheel<K> {
         self.origin
     }
 
-    /// Reserves room for `n` more timers, which then allocate nothing and are not refused.
+    /// Reserves room for `n` more timers, which then allocate nothing and are not refused. Returns `UsedUp` if the wheel would then have
+    /// had more than 2^64 - 1 timers, and `OutOfMemory` if there is not enough memory; the timers then stay as they are.
     pub fn reserve(&mut self, n: usize) -> Result<(), ScheduleError>
         ensures room { OnOk result (n ≤ self.new.room) }
         ensures had_room { n ≤ self.old.room → IsOk result }
@@ -153,7 +154,9 @@ impl<K> TimerWheel<K> {
         Ok(())
     }
 
-    /// Adds a timer for an entry at its time, if it has one, and returns the timer's name.
+    /// Adds a timer for an entry at its time, and returns the timer's name, or `None` if the entry has no time. The wheel must be enabled.
+    /// Returns `UsedUp` if the wheel has had 2^64 - 1 timers, and `OutOfMemory` if there is not enough memory for a timer; the timers then
+    /// stay as they are.
     pub fn schedule(
         &mut self,
         entry: usize,
@@ -176,7 +179,7 @@ impl<K> TimerWheel<K> {
         }
     }
 
-    /// Adds a timer for an entry at a time, and returns its name. It allocates nothing: there must be room.
+    /// Adds a timer for an entry at a time, and returns the timer's name. There must be room for the timer, so that nothing is allocated.
     pub fn place(&mut self, entry: usize, due: Due) -> NodeId
         requires { 0 < self.old.room }
         ensures { Schedules self.old self.new entry result due }
@@ -200,7 +203,7 @@ impl<K> TimerWheel<K> {
     }
 
     /// Moves a timer, which keeps its name, to its entry's present time, or removes it if the entry has none. Returns `StaleTimer` if the
-    /// wheel does not have the timer; then nothing has changed.
+    /// wheel does not have the timer; then nothing has changed. The wheel must be enabled.
     pub fn reschedule(
         &mut self,
         id: NodeId,
@@ -228,8 +231,8 @@ impl<K> TimerWheel<K> {
         }
     }
 
-    /// Moves a timer, which keeps its name, to another time. This allocates nothing. Returns `StaleTimer` if the wheel does not have the
-    /// timer; then nothing has changed.
+    /// Moves a timer, which keeps its name, to another time. The call allocates nothing. Returns `StaleTimer` if the wheel does not have
+    /// the timer; then nothing has changed.
     pub fn replace(&mut self, id: NodeId, due: Due) -> Result<(), StaleTimer>
         ensures replaces { OnOk result (Replaces self.old.timers self.new.timers id due) }
         ensures keeps { OnOk result (Keeps self.old self.new) }
@@ -245,7 +248,8 @@ impl<K> TimerWheel<K> {
         }
     }
 
-    /// Removes a timer, and returns it. Returns `StaleTimer` if the wheel does not have the timer; then nothing has changed.
+    /// Removes a timer, and returns it. Returns `StaleTimer` if the wheel does not have the timer; then nothing has changed. The wheel must
+    /// be enabled.
     pub fn deschedule(&mut self, id: NodeId) -> Result<TimerNode, StaleTimer>
         requires { self.old.is_enabled ≡ true }
         ensures leaves { IfOk result (TimerLeaves self.old.timers self.new.timers id) }
@@ -262,7 +266,7 @@ impl<K> TimerWheel<K> {
         }
     }
 
-    /// Returns the first timer, if it was placed at or before `now`. The timer stays.
+    /// Returns the first timer, if it was placed at or before `now`, or `None`. The timer stays.
     pub fn first_due(&self, now: Instant) -> Option<Timer>
         ensures earliest { IfSome result (λ t. All (λ u. t.placed ≤ u.placed) self.now.timers) }
         ensures first { MatchOption result (All (λ t. now < t.placed) self.now.timers)
@@ -281,7 +285,7 @@ impl<K> TimerWheel<K> {
         }
     }
 
-    /// Removes the first timer.
+    /// Removes the first timer. There must be one.
     pub fn pop_first(&mut self)
         requires { 0 < length self.old.timers }
         ensures first { (t : TheTimer) × (self.old.timers ≡ t ∷ self.new.timers) }

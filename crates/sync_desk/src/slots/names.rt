@@ -5,9 +5,9 @@ use engine_reference::Names;
 use front_reference::{ClonedKey, IntoKey, OwnedKey, Shared};
 use std::alloc::AllocError;
 
-/// Names a key, shows it, and becomes it if a turn begins.
+/// A name of a key, which shows the key, and becomes it if a turn begins.
 pub trait Asked<K: PartialEq>: IntoKey<Shared<K>> {
-    /// The key.
+    /// Returns the key that the name stands for.
     fn key(&self) -> &K
         ensures { result.now ≡ Self.named_key self.now };
 }
@@ -24,9 +24,10 @@ impl<'a, K: PartialEq + Clone + Drop> Asked<K> for ClonedKey<'a, K> {
     }
 }
 
-/// A key that is shared already: it becomes the key without memory for another.
+/// A key that is shared already, and becomes the key without memory for another.
 #[derive(Drop)]
 pub struct SharedName<'a, K> {
+    /// The key itself.
     pub key: &'a Shared<K>,
 }
 
@@ -52,9 +53,10 @@ impl<'a, K: PartialEq + Drop> Asked<K> for SharedName<'a, K> {
     }
 }
 
-/// A key that is lent where its turn is under way, so that none is to be kept: it becomes none.
+/// A key that is lent while its turn is under way, so that no key is to be stored: converting the name to a key returns an error.
 #[derive(Drop)]
 pub struct WaitingName<'a, K> {
+    /// The key itself.
     pub key: &'a K,
 }
 

@@ -10,9 +10,9 @@ use std::fmt::{self, Debug, Formatter, Write};
 pub enum Ending<V, F> {
     /// The turn is under way.
     Underway,
-    /// The turn ended with this, which all that wait are told.
+    /// The turn ended with this, which all callers that wait for it are told.
     Done(Made<V, F>),
-    /// The turn ended with nothing for those that wait, which begin again.
+    /// The turn was given up, and the callers that wait for it begin again.
     GivenUp,
 }
 

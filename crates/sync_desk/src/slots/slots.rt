@@ -13,7 +13,7 @@ use front_reference::{Made, TurnKind};
 use std::alloc::{AllocError, Global};
 use std::collections::HashMap;
 
-/// The turns that are led, or that some still wait for, by their numbers.
+/// The turns that are led, or that some callers still wait for, by their numbers.
 #[derive(Drop)]
 pub struct Slots<V, F> {
     pub(crate) slots: HashMap<u64, TurnSlot<V, F>>,
@@ -79,7 +79,7 @@ impl<V: Clone + Drop, F: Clone + Drop> TurnSlot<V, F> {
     }
 }
 
-/// A clone of what was made.
+/// Returns a clone of what was made. Returns an error if there is not enough memory.
 pub fn copy_made<V: Clone, F: Clone>(made: &Made<V, F>) -> Result<Made<V, F>, AllocError>
     ensures suits { IfOk result
         (λ copy. (kind : TurnKind) → suits kind copy ≡ suits kind made.now) }
@@ -94,7 +94,7 @@ pub fn copy_made<V: Clone, F: Clone>(made: &Made<V, F>) -> Result<Made<V, F>, Al
 }
 
 impl<V: Drop, F: Drop> Slots<V, F> {
-    /// No turns.
+    /// Creates an empty table of turns.
     pub fn new(alloc: Global) -> Self
         ensures { IsEmpty result.slots }
     {
@@ -103,7 +103,7 @@ impl<V: Drop, F: Drop> Slots<V, F> {
         }
     }
 
-    /// Makes room for one turn more.
+    /// Makes room for one more turn. Returns an error if there is not enough memory.
     pub fn reserve(&mut self) -> Result<(), AllocError>
         ensures room { OnOk result (0 < spare self.new.slots) }
         ensures same { SlotsStay self.old.slots self.new.slots }
@@ -111,7 +111,7 @@ impl<V: Drop, F: Drop> Slots<V, F> {
         self.slots.reserve(1)
     }
 
-    /// A turn of a key of this hash begins, in room that was made.
+    /// Begins a turn of a key of this hash, in room that was made.
     pub fn open(&mut self, kind: TurnKind, number: u64, hash: u64)
         requires room { 0 < spare self.old.slots }
         ensures opens { IsPutAt number (Some (opened kind hash)) self.old.slots self.new.slots }
@@ -127,7 +127,7 @@ impl<V: Drop, F: Drop> Slots<V, F> {
         };
     }
 
-    /// Whether one more can be counted among those that wait for a turn.
+    /// Returns whether one more caller can be counted among those that wait for a turn.
     pub fn can_join(&self, number: u64) -> bool
         ensures room { result ≡ true → waiting_at number self.now.slots + 1 < 2 ^ 64 }
         ensures full { result ≡ false → 2 ^ 64 ≤ waiting_at number self.now.slots + 1 }
@@ -138,7 +138,7 @@ impl<V: Drop, F: Drop> Slots<V, F> {
         }
     }
 
-    /// One more waits for a turn, whose count has room.
+    /// Counts one more caller that waits for a turn, whose count has room.
     pub fn join(&mut self, kind: TurnKind, number: u64)
         requires { waiting_at number self.old.slots + 1 < 2 ^ 64 }
         ensures { ChangesAt kind number joined self.old.slots self.new.slots }
@@ -148,7 +148,7 @@ impl<V: Drop, F: Drop> Slots<V, F> {
         }
     }
 
-    /// Whether some wait for a turn.
+    /// Returns whether callers wait for a turn.
     pub fn is_waited_for(&self, kind: TurnKind, number: u64) -> bool
         ensures { result ≡ option_map_or (λ slot. same_kind slot.kind kind && nat_lt 0 slot.waiting)
             (slot_at number self.now.slots) false }
@@ -159,7 +159,7 @@ impl<V: Drop, F: Drop> Slots<V, F> {
         }
     }
 
-    /// Ends a turn, which is kept only if some wait for it. Returns the hash of its key, if there is a turn of this kind.
+    /// Ends a turn, which is kept only if callers wait for it. Returns the hash of its key, or `None` if there is no turn of this kind.
     pub fn end(&mut self, kind: TurnKind, number: u64, ending: Ending<V, F>) -> Option<u64>
         requires { fits kind ending ≡ true }
         ensures hash { result ≡ hash_of kind (slot_at number self.old.slots) }
@@ -190,8 +190,8 @@ impl<V: Drop, F: Drop> Slots<V, F> {
 }
 
 impl<V: Clone + Drop, F: Clone + Drop> Slots<V, F> {
-    /// Returns the state of a turn that the caller waits for. If it ended, the caller no longer waits, and the last that waits takes the
-    /// result; the others get a clone.
+    /// Returns the state of a turn that the caller waits for. If the turn ended, the caller no longer waits, and the last that waits takes
+    /// the result; the others get a clone. Returns an error if there is no memory for the clone.
     pub fn look(&mut self, kind: TurnKind, number: u64) -> Result<Ending<V, F>, AllocError>
         ensures fits { IfOk result (λ ending. fits kind ending ≡ true) }
         ensures tells { IsExact V.is_clone → IsExact F.is_clone → IfOk result
