@@ -135,7 +135,7 @@ impl<S: Store, T: Tape> Interior<S, T> {
         self.resume_at(now, index);
     }
 
-    /// Hands the outcome to those connections, one after another, whose `LOAD`s wait; each runs lines then. There is room for each reply.
+    /// Hands the outcome to those connections, one after another, whose `LOAD`s wait. Each runs lines then. There is room for each reply.
     pub fn tell_all(&mut self, waiting: &[u64], outcome: &Outcome)
         requires spare { HasSpareFor (length waiting.now) (T.view self.old.base.tape) }
         requires waits { AreWaiting (S.view self.old.base.store).frame.config self.old.connections

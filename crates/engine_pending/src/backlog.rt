@@ -427,24 +427,12 @@ impl<K, V, O, W, S, R: Rules<K, V>> Backlog<K, V, O, W, S, R> {
                 if MAX_WRITES <= self.writes.len() {
                     return Err(Refusal::QueueFull);
                 }
-                self.send_at(place, ticket);
+                let sent = take_ticketed(&mut self.unsent, place);
+                self.writes.push_reserved(sent.write);
                 Ok(())
             }
             None => Err(Refusal::UnknownTicket),
         }
-    }
-
-    /// Moves the write at a place of those that were not sent into the queue, which has room.
-    fn send_at(&mut self, place: usize, _ticket: u64)
-        requires within { place < length self.old.unsent }
-        requires room { length self.old.writes < 128 }
-        requires found { (u : Ticketed W) × (slice_get self.old.unsent place ≡ Some u)
-            × (ticketed_at self.old.unsent _ticket ≡ Some u.write)
-            × (without_ticketed _ticket self.old.unsent ≡ remove self.old.unsent place) }
-        ensures { self.new ≡ ticket_sent _ticket self.old }
-    {
-        let sent = take_ticketed(&mut self.unsent, place);
-        self.writes.push_reserved(sent.write);
     }
 
     /// Removes all writes that wait to be applied.
