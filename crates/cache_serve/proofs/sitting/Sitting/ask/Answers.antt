@@ -6,3 +6,6 @@ returns-in-Err-clause-late g c = late_held g.L.Seating.configs g.C.Shareable.spa
 
 pub returns-in-Err-clause-unfit : goal.returns-in-Err-clause-unfit
 returns-in-Err-clause-unfit g c = unfit_held g.L.Seating.configs g.C.Shareable.spaces c.args.input _ _ c.in-Err.ensures.refused
+
+pub returns-in-Ok-clause-given : goal.returns-in-Ok-clause-given
+returns-in-Ok-clause-given g c = c.give.ensures c.args.conn c.args.wants_loads c.in-Ok.ensures.owed
