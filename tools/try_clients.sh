@@ -72,6 +72,7 @@ try_types & running+=($!)
 try_rust & running+=($!)
 try watcher python3 tools/test_watch.py & running+=($!)
 try judge python3 tools/test_random_use.py Right Wrong Liars & running+=($!)
+try rows python3 tools/test_servers.py & running+=($!)
 failed=0
 for it in "${running[@]}"; do
     wait "$it" || failed=1
