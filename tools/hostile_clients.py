@@ -356,7 +356,7 @@ def stalled(notices=40_000):
         reader = threading.Thread(target=lambda: told.extend(server.process.stdout), daemon=True)
         reader.start()
         words = server.process.stderr.readline().split()
-        if words[:1] != [b"cached:"] or words[2:] != [b"notices", b"lost"]:
+        if words[:1] != [b"%s:" % server.row.name.encode()] or words[2:] != [b"notices", b"lost"]:
             raise Failed(f"standard error says {words!r}")
         lost, before = int(words[1]), -1
         while len(told) != before:

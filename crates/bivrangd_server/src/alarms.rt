@@ -1,11 +1,12 @@
 //! Messages on standard error.
 
+use crate::unix::unix_time;
 use cache_run::{Watched, send};
 use httpdate::HttpDate;
 use std::alloc::{AllocError, Global};
 use std::fmt::Display;
 use std::io::Write;
-use std::time::{Clock, SystemTime, UNIX_EPOCH};
+use std::time::Clock;
 
 /// A writer of messages, each on a line of its own with the time.
 #[derive(Drop)]
@@ -48,7 +49,5 @@ impl<R: Clock + Copy, E: Write + Drop> Alarms<R, E> {
 
 /// The date and the time of day, if the clock can be read.
 fn date_of<R: Clock>(rt: &R) -> Option<HttpDate> {
-    let now = SystemTime::now(rt).ok()?;
-    let since = now.duration_since(UNIX_EPOCH).ok()?;
-    HttpDate::from_unix_secs(since.as_secs()).ok()
+    HttpDate::from_unix_secs(unix_time(rt)?.as_secs()).ok()
 }

@@ -20,7 +20,7 @@ use std::{fs, thread};
 
 const USAGE: &[u8] = b"usage: bivrangd --config FILE | --check FILE | --version | --help\n";
 
-const VERSION: &[u8] = b"bivrangd 0.1.0\n";
+const VERSION: &[u8] = b"bivrangd 0.2.0\n";
 
 /// The command that lists all that is wrong with a configuration file.
 const CHECK: &str = "bivrangd --check";
@@ -205,7 +205,7 @@ pub fn serve_text<E: Write + Drop, W: Shown, V: Shown, R: Machine + Files>(
     let opened = open_all(&rt, alloc, text)?;
     let (shown, troubles) = shown;
     let lines = announce_all(alloc, &opened, shown)?;
-    let scribe = Scribe::new(alloc, lines, troubles)?;
+    let scribe = Scribe::new(alloc, b"bivrangd", lines, troubles)?;
     serve_opened(rt, alloc, opened, scribe, orders, alarms)
 }
 

@@ -13,6 +13,7 @@ mod metrics;
 mod sources;
 mod starting;
 mod stopping;
+mod unix;
 mod watch;
 mod words;
 mod writing;

@@ -2,6 +2,7 @@
 ghost use Rattle.std.specs.Prelude.{◌<◌, ◌^◌};
 
 use crate::starting::{Gear, Told, told_by};
+use crate::unix::unix_time;
 use audit_model::EvictionPolicy as Policy;
 use cache_front::KeyedHasher;
 use cache_link::{Next, Patient, Room};
@@ -17,7 +18,7 @@ use moka::EvictionPolicy;
 use std::alloc::Global;
 use std::io::{Read, Write};
 use std::thread::JoinHandle;
-use std::time::{Clock, SystemTime, UNIX_EPOCH};
+use std::time::Clock;
 use std::{io, thread};
 
 /// Moments are below this many milliseconds.
@@ -30,18 +31,11 @@ pub type ItemShelf = LentShelf<KeyedHasher>;
 fn moment<R: Clock>(rt: &R) -> u64
     ensures { result < 2 ^ 43 }
 {
-    unix_time(rt).min(MOMENTS - 1)
-}
-
-/// The same, of any size.
-fn unix_time<R: Clock>(rt: &R) -> u64 {
-    match SystemTime::now(rt) {
-        Ok(now) => match now.duration_since(UNIX_EPOCH) {
-            Ok(since) => u64::try_from(since.as_millis()).unwrap_or(u64::MAX),
-            Err(_) => 0,
-        },
-        Err(_) => 0,
-    }
+    let millis = match unix_time(rt) {
+        Some(since) => u64::try_from(since.as_millis()).unwrap_or(u64::MAX),
+        None => 0,
+    };
+    millis.min(MOMENTS - 1)
 }
 
 /// Makes the service of a namespace, without items.

@@ -15,9 +15,13 @@ abbrev pub listening_line : List ℕ → ℕ → List ℕ
 listening_line name port =
     codes "listening " ++ name ++ codes " 127.0.0.1:" ++ decimal port ++ 10 ∷ []
 
--- how many notices were lost
-abbrev pub lost_line : ℕ → List ℕ
-lost_line lost = codes "cached: " ++ decimal lost ++ codes " notices lost\n"
+-- how many notices of a program were lost
+abbrev pub lost_line : List ℕ → ℕ → List ℕ
+lost_line program lost = program ++ (codes ": " ++ decimal lost ++ codes " notices lost\n")
+
+-- nothing takes the notices of a program
+abbrev pub unwritten_line : List ℕ → List ℕ
+unwritten_line program = program ++ codes ": notices cannot be written\n"
 
 -- texts, one after another
 abbrev pub joined : List (Bor (List ℕ)) → List ℕ

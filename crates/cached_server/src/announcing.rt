@@ -143,9 +143,10 @@ impl<R: time::Clock + Wait + Copy + Send + 'static> Devices for Site<R> {
     }
 }
 
-/// The writer of the lines that namespaces report (`lines`), and of the number of lost notices (`alarms`).
+/// The writer of the lines that namespaces report (`lines`), and of how many were lost (`alarms`), which begins with the name of the program.
 #[derive(Drop)]
 pub struct Scribe<W: Write + Drop, E: Write + Drop> {
+    program: &'static [u8],
     lines: Lines<W>,
     alarms: Lines<E>,
     taken: Vec<u8>,
@@ -154,10 +155,16 @@ pub struct Scribe<W: Write + Drop, E: Write + Drop> {
 }
 
 impl<W: Write + Drop, E: Write + Drop> Scribe<W, E> {
-    /// Creates a writer of reported lines to `lines`, and of the number of lost notices to `alarms`. Returns an error if there is no memory
-    /// for a mebibyte of lines.
-    pub fn new(alloc: Global, lines: Lines<W>, alarms: E) -> Result<Scribe<W, E>, AllocError> {
+    /// Creates a writer of reported lines to `lines`, and of how many a program with this name lost to `alarms`. Returns an error if there
+    /// is no memory for a mebibyte of lines.
+    pub fn new(
+        alloc: Global,
+        program: &'static [u8],
+        lines: Lines<W>,
+        alarms: E,
+    ) -> Result<Scribe<W, E>, AllocError> {
         Ok(Scribe {
+            program,
             lines,
             alarms: Lines::new(alloc, alarms)?,
             taken: Vec::with_capacity(alloc, ROOM)?,
@@ -167,6 +174,7 @@ impl<W: Write + Drop, E: Write + Drop> Scribe<W, E> {
     /// Writes what an outlet takes in, until no more will come or the lines cannot be written.
     pub fn write_all(self, rt: &impl Wait, outlet: &Outlet) {
         let Scribe {
+            program,
             mut lines,
             mut alarms,
             mut taken,
@@ -175,12 +183,12 @@ impl<W: Write + Drop, E: Write + Drop> Scribe<W, E> {
             let (lost, is_over) = outlet.take(rt, &mut taken);
             if lines.send(&taken).is_err() {
                 outlet.close(rt);
-                let _ = alarms.send(b"cached: notices cannot be written\n");
+                let _ = alarms.show_unwritten(program);
                 return;
             }
             taken.clear();
             if lost > 0 {
-                let _ = alarms.show_lost(lost);
+                let _ = alarms.show_lost(program, lost);
             }
             if is_over {
                 return;

@@ -2,7 +2,7 @@
 ghost use Rattle.std.specs.Prelude.{◌≡◌, [], true, IsErr, IfOk, OnOk, OnErr, false};
 ghost use Rattle.std.specs.Io.KnownBytes.{Appends};
 ghost use Rattle.cache_run.specs.Devices.Watched.{device};
-ghost use Rattle.cached_server.specs.Lines.{joined, listening_line, lost_line};
+ghost use Rattle.cached_server.specs.Lines.{joined, listening_line, lost_line, unwritten_line};
 
 use crate::script::{put, write_out};
 use cache_run::{RunError, Watched};
@@ -57,17 +57,28 @@ impl<W: Write + Drop> Lines<W> {
         self.send_joined(&[b"listening ", name, b" 127.0.0.1:", port, b"\n"])
     }
 
-    /// Writes the line `cached: N notices lost` in one piece. The call allocates nothing, and returns the error of `send`.
-    pub fn show_lost(&mut self, lost: u64) -> Result<(), RunError>
+    /// Writes the line `PROGRAM: N notices lost` in one piece. The call allocates nothing, and returns the error of `send`.
+    pub fn show_lost(&mut self, program: &[u8], lost: u64) -> Result<(), RunError>
         ensures ok { OnOk result (Appends (W.contents (device self.old.writer))
-            (W.contents (device self.new.writer)) (lost_line lost)) }
+            (W.contents (device self.new.writer)) (lost_line program.now lost)) }
         ensures whole { OnOk result (self.new.is_cut ≡ self.old.is_cut) }
         ensures cut { OnErr result (self.new.is_cut ≡ true) }
         ensures still { self.old.is_cut ≡ true → (self.new ≡ self.old) × IsErr result }
     {
         let mut digits = Buffer::new();
         let lost = digits.format(lost).as_bytes();
-        self.send_joined(&[b"cached: ", lost, b" notices lost\n"])
+        self.send_joined(&[program, b": ", lost, b" notices lost\n"])
+    }
+
+    /// Writes the line `PROGRAM: notices cannot be written` in one piece. The call allocates nothing, and returns the error of `send`.
+    pub fn show_unwritten(&mut self, program: &[u8]) -> Result<(), RunError>
+        ensures ok { OnOk result (Appends (W.contents (device self.old.writer))
+            (W.contents (device self.new.writer)) (unwritten_line program.now)) }
+        ensures whole { OnOk result (self.new.is_cut ≡ self.old.is_cut) }
+        ensures cut { OnErr result (self.new.is_cut ≡ true) }
+        ensures still { self.old.is_cut ≡ true → (self.new ≡ self.old) × IsErr result }
+    {
+        self.send_joined(&[program, b": notices cannot be written\n"])
     }
 
     /// Writes texts one after another, which are whole lines, in one piece if there is room for it.

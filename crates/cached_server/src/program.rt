@@ -120,7 +120,7 @@ pub fn serve_text<W: Shown, V: Shown, R: Machine>(
         let shown = lines.show(space.name.as_slice(), space.port);
         shown.map_err(|_| Ending::from(Fault::Write))?;
     }
-    let scribe = Scribe::new(alloc, lines, alarms)?;
+    let scribe = Scribe::new(alloc, b"cached", lines, alarms)?;
     let hall = Hall {
         rt,
         alloc,
