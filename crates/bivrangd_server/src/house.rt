@@ -1,5 +1,5 @@
 //! All namespaces of a server.
-ghost use Rattle.std.specs.Prelude.{◌≡◌, ◌∷◌, [], false, IfOk};
+ghost use Rattle.std.specs.Prelude.{◌≡◌};
 ghost use Rattle.cache_shared.specs.Recordings.{bare_spaces, no_journals};
 ghost use Rattle.cache_shared.specs.Events.{StandsAfter};
 
@@ -10,19 +10,17 @@ use crate::memcache::{MemcacheSteward, make_items, spawn_items};
 use crate::sources::Source;
 use crate::starting::{Loops, Start, Told};
 use crate::watch::Watch;
-use audit_model::{Config, Instant};
+use audit_model::Config;
 use cache_link::Room;
 use cache_loop::Rules;
 use cache_shared::{Seating, Shareable, SharedService};
 use cache_spaces::Service;
 use cached_config::{HostedNamespace, Hosting, Notices, Protocol};
-use cached_server::{Cause, Ending, Fault, Machine, Outlet, Site};
+use cached_server::{Cause, Ending, Fault, Machine, Outlet, Site, make_service};
 use crossbeam_channel::{Receiver, Sender};
 use memcache_service as items;
 use memcache_service::Shelf;
 use mio::Waker;
-use rand_core::SeedableRng;
-use rand_xoshiro::Xoshiro256PlusPlus;
 use std::alloc::{AllocError, Global};
 use std::io::Write;
 use std::marker::Brand;
@@ -49,22 +47,6 @@ pub struct House<R> {
     ending: Sender<Told, Global>,
     /// Where notes go.
     pub outlet: Arc<Outlet>,
-}
-
-/// The service of a namespace, made at moment 0, with a generator of its own that no stranger can foresee.
-fn make_service<R: Machine>(rt: &R, alloc: Global, config: Config) -> Result<Service, Ending>
-    ensures empty { IfOk result
-        (StandsAfter false (config ∷ []) bare_spaces no_journals 0) }
-{
-    let mut seed = [0; 32];
-    if let Err(error) = rt.fill_bytes(&mut seed) {
-        return Err(Ending::machine("the random source", error));
-    }
-    let generator = Xoshiro256PlusPlus::from_seed(seed);
-    match Service::new(alloc, &[config], generator, Instant { nanos: 0 }) {
-        Ok(service) => Ok(service),
-        Err(_) => Err(Ending::from(Fault::OutOfMemory)),
-    }
 }
 
 impl<R: Machine> House<R> {

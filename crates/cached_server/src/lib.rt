@@ -10,6 +10,7 @@ mod machine;
 mod outbox;
 mod program;
 pub mod script;
+mod services;
 
 pub use announcing::{Outlet, Scribe, Site};
 pub use devices::{ListLoader, StartClock};
@@ -19,3 +20,4 @@ pub use machine::{Machine, Shown, Threaded};
 pub use outbox::{Outbox, ROOM};
 pub use program::{cached, serve_config, serve_text};
 pub use script::{Fault, run_script, take_words, without_words};
+pub use services::make_service;
