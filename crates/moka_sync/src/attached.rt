@@ -24,7 +24,7 @@ use sync_desk::{Env, SharedName};
 /// `rt` as an argument: selectors (`entry`), loops over its entries, and `{:?}`, which prints a map of its entries and fails if there is
 /// not enough memory for a clone.
 #[derive(Drop)]
-pub struct Attached<K: Eq + Hash, V: Clone, S: BuildHasher, R: Rules<K, V>, E, H, C = Single> {
+pub struct Attached<K: Eq + Hash, V: Clone, S: BuildHasher, R: Rules<K, V>, E: Env, H, C = Single> {
     cache: SharedCache<K, V, S, R, E, C>,
     rt: H,
     ghost exact: { (x y : V) → V.is_clone x y → y ≡ x },

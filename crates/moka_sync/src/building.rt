@@ -28,7 +28,7 @@ impl OneLock for Single {}
 impl OneLock for Segmented {}
 
 /// Builds a cache that threads share, in an environment. The environment of a cache of shards makes one for each shard (`Fork`).
-pub trait Build<K: Eq + Hash, V, E>: Sized {
+pub trait Build<K: Eq + Hash, V, E: Env>: Sized {
     /// The rules that the cache follows.
     type Rules: Rules<K, V>;
 
@@ -115,7 +115,6 @@ impl<
         hasher: S,
         env: E,
     ) -> Result<SharedCache<K, V, S, Bundle<X, W, P, F>, E, C>, BuildError> {
-        let mut env = env;
         let moment = env.now();
         match self.build_state(alloc, hasher, moment) {
             Ok(state) => match SharedCache::over(alloc, state, env) {

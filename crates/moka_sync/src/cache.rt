@@ -17,7 +17,7 @@ use sync_desk::Env;
 
 /// What is under the lock, and the properties of a cache that never change.
 #[derive(Drop)]
-pub(crate) struct Inner<K: Eq + Hash, V, S: BuildHasher, R: Rules<K, V>, E, C> {
+pub(crate) struct Inner<K: Eq + Hash, V, S: BuildHasher, R: Rules<K, V>, E: Env, C> {
     pub(crate) desks: Desks<K, V, S, R, E, C>,
     pub(crate) name: Option<String>,
     pub(crate) policy: Policy,
@@ -46,14 +46,14 @@ pub type SegmentedCache<K, V, S, R, E> = SharedCache<K, V, S, R, E, Segmented>;
 ///
 /// Each call takes a handle `rt`, by which it may wait for the lock, and takes the lock once. With shards, a call on a key takes the lock
 /// of the key's shard, and one on the whole cache takes each lock once, one after another. A call that makes a value or computes takes it
-/// several times, and its closures run in between, so they may use the same cache. Each call has a moment, the later of the environment's
-/// and the last call's, and the next step. Whenever the lock is taken, what it guards keeps what a lent cache keeps between calls. If a
-/// call that takes the lock once is refused, it has changed nothing.
+/// several times, and its closures run in between, so they may use the same cache. Each call has a moment, the later of the environment's,
+/// which is read before the lock is taken, and the last call's, and the next step. Whenever the lock is taken, what it guards keeps what a
+/// lent cache keeps between calls. If a call that takes the lock once is refused, it has changed nothing.
 ///
 /// **Clones, comparisons and hashes of keys and values run under the lock, and so do the rules (`Expiry`, `Weigher`, `Predicate`) and the
-/// `Env`. None of them may call the cache, or it waits for itself forever.**
+/// environment's generator. None of them may call the cache, or it waits for itself forever.**
 #[derive(Drop)]
-pub struct SharedCache<K: Eq + Hash, V, S: BuildHasher, R: Rules<K, V>, E, C = Single> {
+pub struct SharedCache<K: Eq + Hash, V, S: BuildHasher, R: Rules<K, V>, E: Env, C = Single> {
     pub(crate) inner: Arc<Inner<K, V, S, R, E, C>>,
     pub(crate) alloc: Global,
 }
@@ -64,7 +64,7 @@ impl<
     V: Drop,
     S: BuildHasher + Drop,
     R: Rules<K, V> + Drop,
-    E: Drop,
+    E: Env + Drop,
     C: Drop,
 > Clone for SharedCache<K, V, S, R, E, C> {
     ghost use Rattle.std.specs.Prelude.{◌≡◌};

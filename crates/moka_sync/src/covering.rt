@@ -10,19 +10,20 @@ use engine_reference::Rules;
 use front_parts::clone_each;
 use front_reference::{CacheError, Shared};
 use front_state::Sharded;
+use rand_core::Rng;
 use std::alloc::Global;
 use std::hash::{BuildHasher, Hash};
 use std::marker::Model;
 use std::sync::MutexGuard;
-use sync_desk::{Desk, Env};
+use sync_desk::Desk;
 
 /// All shards of a cache, whose locks are held. Contracts see the state and the last writes of each, in the order of the shards.
 #[derive(Drop)]
-pub struct AllDesks<'a, K: Eq + Hash, V, S: BuildHasher, R: Rules<K, V>, E> {
-    guards: Vec<MutexGuard<'a, Desk<K, V, S, R, E, Sharded>>>,
+pub struct AllDesks<'a, K: Eq + Hash, V, S: BuildHasher, R: Rules<K, V>, G> {
+    guards: Vec<MutexGuard<'a, Desk<K, V, S, R, G, Sharded>>>,
 }
 
-impl<'a, K: Eq + Hash, V, S: BuildHasher, R: Rules<K, V>, E> Model for AllDesks<'a, K, V, S, R, E> {
+impl<'a, K: Eq + Hash, V, S: BuildHasher, R: Rules<K, V>, G> Model for AllDesks<'a, K, V, S, R, G> {
     ghost use Rattle.std.specs.Prelude.{List};
     ghost use Rattle.std.specs.Sync.Mutex.{mutex_guard_value};
     ghost use Rattle.moka_sync.specs.Covering.{Guarded, each_of};
@@ -41,10 +42,10 @@ impl<
     V: Clone + Drop,
     S: BuildHasher + Drop,
     R: Rules<K, V> + Drop,
-    E: Env + Drop,
-> AllDesks<'a, K, V, S, R, E> {
+    G: Rng + Drop,
+> AllDesks<'a, K, V, S, R, G> {
     /// The locks that are held, in the order of the shards.
-    pub(crate) fn new(guards: Vec<MutexGuard<'a, Desk<K, V, S, R, E, Sharded>>>) -> Self {
+    pub(crate) fn new(guards: Vec<MutexGuard<'a, Desk<K, V, S, R, G, Sharded>>>) -> Self {
         AllDesks { guards }
     }
 

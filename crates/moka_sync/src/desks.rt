@@ -11,6 +11,7 @@ use engine_reference::{Hashes, Rules};
 use front_parts::place_of;
 use front_reference::{CacheError, LentKey, Shared};
 use front_state::{HashedName, LentState, Notice, Sharded};
+use rand_core::Rng;
 use std::alloc::{AllocError, Global};
 use std::hash::{BuildHasher, Hash};
 use std::sync::atomic::{AtomicUsize, Ordering};
@@ -19,7 +20,7 @@ use sync_desk::{Desk, Env, Fork};
 
 /// The desks, as many as a power of two. If there are several, each is a shard.
 #[derive(Drop)]
-pub(crate) struct Desks<K: Eq + Hash, V, S: BuildHasher, R: Rules<K, V>, E, C> {
+pub(crate) struct Desks<K: Eq + Hash, V, S: BuildHasher, R: Rules<K, V>, E: Env, C> {
     desks: Vec<CachePadded<SharedDesk<K, V, S, R, E, C>>>,
     spread: Option<Spread<S>>,
     // The number of the desk that is asked for notices next.
@@ -33,9 +34,9 @@ fn take_from<
     V: Clone + Drop,
     S: BuildHasher + Drop,
     R: Rules<K, V> + Drop,
-    E: Env + Drop,
+    G: Rng + Drop,
     C: Drop,
->(desk: &mut Desk<K, V, S, R, E, C>, notices: &mut Vec<Notice<Shared<K>, V>>) {
+>(desk: &mut Desk<K, V, S, R, G, C>, notices: &mut Vec<Notice<Shared<K>, V>>) {
     while notices.len() < notices.capacity() {
         match desk.next_notice() {
             Some(notice) => notices.push_reserved(notice),
@@ -164,7 +165,7 @@ impl<
         &self,
         rt: &H,
         name: &Q,
-    ) -> MutexGuard<'_, Desk<K, V, S, R, E, C>> {
+    ) -> MutexGuard<'_, Desk<K, V, S, R, E::Generator, C>> {
         self.of_name(name).lock(rt)
     }
 
@@ -173,7 +174,7 @@ impl<
         &self,
         rt: &H,
         key: &K,
-    ) -> MutexGuard<'_, Desk<K, V, S, R, E, C>> {
+    ) -> MutexGuard<'_, Desk<K, V, S, R, E::Generator, C>> {
         self.of(key).lock(rt)
     }
 
@@ -202,7 +203,7 @@ impl<
     pub(crate) fn entry_count(&self, rt: &impl Wait) -> u64 {
         let mut sum = 0u64;
         for desk in self.desks.iter() {
-            let guard = desk.lock(rt);
+            let guard = desk.lock_untimed(rt);
             sum = sum.saturating_add(guard.entry_count());
         }
         sum
@@ -212,7 +213,7 @@ impl<
     pub(crate) fn weighted_size(&self, rt: &impl Wait) -> u64 {
         let mut sum = 0u64;
         for desk in self.desks.iter() {
-            let guard = desk.lock(rt);
+            let guard = desk.lock_untimed(rt);
             sum = sum.saturating_add(guard.weighted_size());
         }
         sum
@@ -257,7 +258,7 @@ impl<
         };
         match self.desks.get(number) {
             Some(desk) => {
-                let guard = desk.lock(rt);
+                let guard = desk.lock_untimed(rt);
                 guard.keys(part)
             }
             None => Ok(None),
@@ -277,7 +278,7 @@ impl<
         let first = self.ask_next();
         for step in 0..count {
             let number = first.wrapping_add(step) % count;
-            let mut guard = self.desks[number].lock(rt);
+            let mut guard = self.desks[number].lock_untimed(rt);
             let desk = &mut *guard;
             let notice = desk.next_notice();
             drop(guard);
@@ -300,7 +301,7 @@ impl<
                 return;
             }
             let number = first.wrapping_add(step) % count;
-            let mut guard = self.desks[number].lock(rt);
+            let mut guard = self.desks[number].lock_untimed(rt);
             let desk = &mut *guard;
             take_from(desk, notices);
         }

@@ -23,7 +23,7 @@ pub struct Iter<
     V: Clone,
     S: BuildHasher,
     R: Rules<K, V>,
-    E,
+    E: Env,
     H: Wait,
     C = Single,
 > {

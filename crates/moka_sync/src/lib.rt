@@ -38,5 +38,7 @@ pub use selecting::SharedSelector;
 pub use sharded::ShardedCache;
 pub use shared::SharedDesk;
 pub use sizing::shards_for;
-pub use sync_desk::{Dial, DialEnv, Ending as WaiterValue, Env, Fork, MachineEnv};
+pub use sync_desk::{
+    Dial, DialEnv, Ending as WaiterValue, Env, Fork, MachineEnv, MachineWatch, Watch,
+};
 pub use wholes::ConcurrentCacheExt;

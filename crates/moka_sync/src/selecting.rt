@@ -28,7 +28,7 @@ pub struct SharedSelector<
     V: Clone,
     S: BuildHasher,
     R: Rules<K, V>,
-    E,
+    E: Env,
     H,
     C = Single,
 > {

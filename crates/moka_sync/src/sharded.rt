@@ -120,7 +120,6 @@ impl<
         hasher: S,
         env: E,
     ) -> Result<SharedCache<K, V, S, Bundle<X, W, P, F>, E, Sharded>, BuildError> {
-        let mut env = env;
         let moment = env.now();
         match self.build_shards(alloc, hasher, moment) {
             Ok(shards) => match SharedCache::over_shards(alloc, shards, env) {
@@ -222,13 +221,15 @@ impl<
         self.inner.desks.number_of(key)
     }
 
-    /// Takes the locks of all shards, in their order. No other call takes a lock while it has one, so no two callers wait for each other.
-    fn lock_all<'a, H: Wait>(&'a self, rt: &H) -> Result<AllDesks<'a, K, V, S, R, E>, AllocError> {
+    /// Reads the moment, and then takes the locks of all shards, in their order. No other call takes a lock while it has one, so no two
+    /// callers wait for each other.
+    fn lock_all<'a, H: Wait>(&'a self, rt: &H) -> Result<AllDesks<'a, K, V, S, R, E::Generator>, AllocError> {
         let desks: &'a Desks<K, V, S, R, E, Sharded> = &self.inner.desks;
         let count = desks.count();
+        let moment = desks.first().moment();
         let mut guards = Vec::with_capacity(self.alloc, count)?;
         for number in 0..count {
-            guards.push(desks.get(number).lock(rt))?;
+            guards.push(desks.get(number).lock_at(rt, moment))?;
         }
         Ok(AllDesks::new(guards))
     }

@@ -19,7 +19,7 @@ use sync_desk::{Asked, Desk, Ending, Env, Start, copy_made};
 pub(crate) const BEGINNINGS: u32 = 200;
 
 /// A turn that the caller leads. It can't be dropped, so each path ends it or gives it up.
-pub(crate) struct Lead<'a, K: Eq + Hash, V, S: BuildHasher, R: Rules<K, V>, E, C> {
+pub(crate) struct Lead<'a, K: Eq + Hash, V, S: BuildHasher, R: Rules<K, V>, E: Env, C> {
     pub(crate) shared: &'a SharedDesk<K, V, S, R, E, C>,
     pub(crate) kind: TurnKind,
     pub(crate) number: u64,
@@ -195,7 +195,7 @@ impl<
     pub(crate) fn wait_for<H: Wait>(
         &self,
         rt: &H,
-        guard: MutexGuard<'_, Desk<K, V, S, R, E, C>>,
+        guard: MutexGuard<'_, Desk<K, V, S, R, E::Generator, C>>,
         kind: TurnKind,
         number: u64,
     ) -> Result<Option<Made<V, Shared<R::Fault>>>, CacheError>
@@ -218,7 +218,7 @@ impl<
     fn take_turn<H: Wait, A: Asked<K>>(
         &self,
         rt: &H,
-        guard: MutexGuard<'_, Desk<K, V, S, R, E, C>>,
+        guard: MutexGuard<'_, Desk<K, V, S, R, E::Generator, C>>,
         kind: TurnKind,
         asked: A,
         is_passed_over: bool,
@@ -248,7 +248,7 @@ impl<
         key: &K,
         passing: &mut Passing,
         replace_if: &P,
-    ) -> Result<(MutexGuard<'_, Desk<K, V, S, R, E, C>>, bool), CacheError>
+    ) -> Result<(MutexGuard<'_, Desk<K, V, S, R, E::Generator, C>>, bool), CacheError>
         requires exact { (x y : V) → V.is_clone x y → y ≡ x }
         requires callable { P.IsAlwaysCallable replace_if.now }
         ensures cause { IfErr result IsShortage }

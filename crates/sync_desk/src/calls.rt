@@ -9,10 +9,10 @@ ghost use Rattle.sync_desk.specs.Slots.Refusals.{IsShortage};
 ghost use Rattle.sync_desk.specs.Writing.{noted_if};
 
 use crate::desk::Desk;
-use crate::env::Env;
 use engine_reference::Rules;
 use front_parts::HasWays;
 use front_reference::{At, CacheError, LentKey, OwnedKey};
+use rand_core::Rng;
 use std::hash::{BuildHasher, Hash};
 
 impl<
@@ -20,9 +20,9 @@ impl<
     V: Clone + Drop,
     S: BuildHasher + Drop,
     R: Rules<K, V> + Drop,
-    E: Env + Drop,
+    G: Rng + Drop,
     C: Drop,
-> Desk<K, V, S, R, E, C> {
+> Desk<K, V, S, R, G, C> {
     /// Returns a clone of the visible value of a key, or `None`, which counts as a use of it. Returns `OutOfMemory` if there is no memory
     /// for the clone, and `UsedUp` if 2^64 - 1 calls have been made; then nothing has changed.
     pub fn get(&mut self, key: &K) -> Result<Option<V>, CacheError>

@@ -6,25 +6,27 @@ ghost use Rattle.front_state.specs.Calls.{hash_in};
 ghost use Rattle.sync_desk.specs.Drawing.{IsDrawn, LacksSteps};
 ghost use Rattle.sync_desk.specs.Writing.{last_in};
 
-use crate::env::Env;
 use crate::slots::Slots;
 use crate::writes::Writes;
 use engine_reference::Rules;
 use front_parts::HasWays;
 use front_reference::{At, Shared};
 use front_state::{LentState, Single};
+use policy_base::Instant;
+use rand_core::Rng;
 use std::alloc::Global;
 use std::hash::{BuildHasher, Hash};
 
-/// A cache's state with its environment, and the turns that are led or waited for. Each call has its moment, the greater of the
-/// environment's moment and the state's, and its step, the one after the state's.
+/// A cache's state with its generator, and the turns that are led or waited for. Each call has its moment, the greater of the moment that
+/// was handed in last (`at`) and the state's, and its step, the one after the state's.
 #[derive(Drop)]
-pub struct Desk<K: Eq + Hash, V, S: BuildHasher, R: Rules<K, V>, E, C = Single> {
+pub struct Desk<K: Eq + Hash, V, S: BuildHasher, R: Rules<K, V>, G, C = Single> {
     pub(crate) alloc: Global,
     pub(crate) state: LentState<K, V, S, R, C>,
     pub(crate) slots: Slots<V, Shared<R::Fault>>,
     pub(crate) writes: Writes,
-    pub(crate) env: E,
+    pub(crate) moment: Instant,
+    pub(crate) generator: G,
 }
 
 impl<
@@ -32,11 +34,11 @@ impl<
     V: Drop,
     S: BuildHasher + Drop,
     R: Rules<K, V> + Drop,
-    E: Env + Drop,
+    G: Rng + Drop,
     C: Drop,
-> Desk<K, V, S, R, E, C> {
-    /// Creates what a lock guards, of a state with no turn under way and the environment that gives its moments.
-    pub fn new(alloc: Global, state: LentState<K, V, S, R, C>, env: E) -> Self
+> Desk<K, V, S, R, G, C> {
+    /// Creates what a lock guards, of a state with no turn under way and the generator that gives its random words. Its moment is 0.
+    pub fn new(alloc: Global, state: LentState<K, V, S, R, C>, generator: G) -> Self
         ensures { result.state ≡ state }
     {
         Desk {
@@ -44,8 +46,18 @@ impl<
             state,
             slots: Slots::new(alloc),
             writes: Writes::new(),
-            env,
+            moment: Instant::from_nanos(0),
+            generator,
         }
+    }
+
+    /// Hands in the moment of the calls that come next. A moment before the state's last counts as the last.
+    pub fn at(&mut self, moment: Instant)
+        ensures state { self.new.state ≡ self.old.state }
+        ensures slots { self.new.slots ≡ self.old.slots }
+        ensures writes { self.new.writes ≡ self.old.writes }
+    {
+        self.moment = moment;
     }
 
     /// The moment and step of the next call; `None` if the 64-bit steps are used up.
@@ -59,7 +71,7 @@ impl<
         ensures writes { self.new.writes ≡ self.old.writes }
     {
         let last = self.state.last_call();
-        let now = self.env.now().max(last.now);
+        let now = self.moment.max(last.now);
         let step = last.step.checked_add(1)?;
         Some(At { now, step })
     }

@@ -5,6 +5,6 @@ mod fork;
 mod machine;
 
 pub use dial::{Dial, DialEnv};
-pub use env::Env;
+pub use env::{Env, Watch};
 pub use fork::Fork;
-pub use machine::MachineEnv;
+pub use machine::{MachineEnv, MachineWatch};

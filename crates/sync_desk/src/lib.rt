@@ -1,4 +1,4 @@
-//! What the lock of a shared cache guards: its state, the source of its moments, and which callers wait for which turn.
+//! What the lock of a shared cache guards: its state, the source of its random words, and which callers wait for which turn.
 #![tactic(auto)]
 
 mod calls;
@@ -12,6 +12,6 @@ mod wholes;
 mod writes;
 
 pub use desk::Desk;
-pub use env::{Dial, DialEnv, Env, Fork, MachineEnv};
+pub use env::{Dial, DialEnv, Env, Fork, MachineEnv, MachineWatch, Watch};
 pub use slots::{Asked, Ending, SharedName, Slots, WaitingName, copy_made};
 pub use turns::{ComputeStart, Start};

@@ -8,11 +8,11 @@ ghost use Rattle.sync_desk.specs.Drawing.{LacksSteps, LooksUpAsDrawn, RemovesAsD
 ghost use Rattle.sync_desk.specs.Slots.Refusals.{IsShortage};
 
 use crate::desk::Desk;
-use crate::env::Env;
 use engine_reference::Rules;
 use front_parts::HasWays;
 use front_reference::CacheError;
 use front_state::HashedName;
+use rand_core::Rng;
 use std::hash::{BuildHasher, Hash};
 
 impl<
@@ -20,9 +20,9 @@ impl<
     V: Clone + Drop,
     S: BuildHasher + Drop,
     R: Rules<K, V> + Drop,
-    E: Env + Drop,
+    G: Rng + Drop,
     C: Drop,
-> Desk<K, V, S, R, E, C> {
+> Desk<K, V, S, R, G, C> {
     /// Does what `get` does, by what names the key, and returns its errors.
     pub fn get_by_name<Q: HashedName<K>>(&mut self, name: &Q) -> Result<Option<V>, CacheError>
         requires exact { (x y : V) → V.is_clone x y → y ≡ x }
@@ -54,7 +54,7 @@ impl<
         ensures slots { self.new.slots ≡ self.old.slots }
         ensures writes { self.new.writes ≡ self.old.writes }
     {
-        let now = self.env.now().max(self.state.last_call().now);
+        let now = self.moment.max(self.state.last_call().now);
         self.state.contains_key_by_name(name, now)
     }
 

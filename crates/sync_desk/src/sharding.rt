@@ -8,10 +8,10 @@ ghost use Rattle.sync_desk.specs.Drawing.{IsCauseToCoverAsDrawn};
 ghost use Rattle.sync_desk.specs.Sharding.{CommitsAsDrawn, PreparesAsDrawn};
 
 use crate::desk::Desk;
-use crate::env::Env;
 use engine_reference::Rules;
 use front_reference::{CacheError, Shared};
 use front_state::Sharded;
+use rand_core::Rng;
 use std::hash::{BuildHasher, Hash};
 
 impl<
@@ -19,8 +19,8 @@ impl<
     V: Clone + Drop,
     S: BuildHasher + Drop,
     R: Rules<K, V> + Drop,
-    E: Env + Drop,
-> Desk<K, V, S, R, E, Sharded> {
+    G: Rng + Drop,
+> Desk<K, V, S, R, G, Sharded> {
     /// Does the first half of a predicate: makes room for it, and draws its identifier. `commit_cover` registers the predicate, or
     /// `release_cover` gives its room up; until then nothing is invalidated. Returns `InvalidationClosuresDisabled` if the cache accepts no
     /// predicates, `OutOfMemory`, `UsedUp` if the 64-bit numbers are used up, and `IdsInUse` if each of a thousand identifiers that were
@@ -38,8 +38,10 @@ impl<
         match self.draw_to_cover() {
             Ok(at) => {
                 let _step = at.step;
-                let Desk { state, env, .. } = self;
-                state.prepare_cover(env)
+                let Desk {
+                    state, generator, ..
+                } = self;
+                state.prepare_cover(generator)
             }
             Err(refused) => Err(refused),
         }

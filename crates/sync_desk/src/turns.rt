@@ -19,12 +19,12 @@ ghost use Rattle.sync_desk.specs.Writing.{noted_if};
 ghost use Rattle.sync_desk.specs.declared.slots.slot.Ending.TheVariants.{Done, GivenUp};
 
 use crate::desk::Desk;
-use crate::env::Env;
 use crate::slots::{Asked, Ending, SharedName, WaitingName, copy_made};
 use engine_reference::Rules;
 use front_parts::HasWays;
 use front_reference::{At, CacheError, IntoKey, LentKey, Made, Shared, TurnKind, TurnStart};
 use policy_base::Instant;
+use rand_core::Rng;
 use std::alloc::AllocError;
 use std::hash::{BuildHasher, Hash};
 
@@ -53,9 +53,9 @@ impl<
     V: Clone + Drop,
     S: BuildHasher + Drop,
     R: Rules<K, V> + Drop,
-    E: Env + Drop,
+    G: Rng + Drop,
     C: Drop,
-> Desk<K, V, S, R, E, C> {
+> Desk<K, V, S, R, G, C> {
     /// Begins a call that makes a value. Returns the visible value, which counts as a use of it; or the turn of this kind and key that is
     /// under way, for which the caller waits from now on; or a new turn. A visible value for which `replace_if` returns true counts as
     /// none; `replace_if` is called here, and so under the lock. The key is made only if a turn begins, and waiting allocates nothing.

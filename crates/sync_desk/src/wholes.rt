@@ -9,12 +9,12 @@ ghost use Rattle.front_state.specs.Covering.{keys_in};
 ghost use Rattle.sync_desk.specs.Drawing.{CoversAsDrawn, IsCauseToCoverAsDrawn, IsDrawn, SeesAsDrawn};
 
 use crate::desk::Desk;
-use crate::env::Env;
 use engine_reference::Rules;
 use front_parts::{HasWays, ScanningGet};
 use front_reference::{At, CacheError, Shared};
 use front_state::{PredicateId, Segmented, Single};
 use moka_engine::Notice;
+use rand_core::Rng;
 use std::hash::{BuildHasher, Hash};
 
 impl<
@@ -22,8 +22,8 @@ impl<
     V: Clone + Drop,
     S: BuildHasher + Drop,
     R: Rules<K, V> + Drop,
-    E: Env + Drop,
-> Desk<K, V, S, R, E, Single> {
+    G: Rng + Drop,
+> Desk<K, V, S, R, G, Single> {
     /// Invalidates the values that were written before and for which the predicate returns true, in all segments or, if it is refused, in
     /// none. Returns the predicate's identifier, in hyphenated form, 36 bytes in lower case. Returns `InvalidationClosuresDisabled` if the
     /// cache accepts no predicates, `OutOfMemory` if there is not enough memory, `UsedUp` if the 64-bit numbers of calls or writes are used
@@ -44,8 +44,10 @@ impl<
     {
         match self.draw_to_cover() {
             Ok(at) => {
-                let Desk { state, env, .. } = self;
-                state.invalidate_entries_if(predicate, env, at)
+                let Desk {
+                    state, generator, ..
+                } = self;
+                state.invalidate_entries_if(predicate, generator, at)
             }
             Err(refused) => Err(refused),
         }
@@ -57,8 +59,8 @@ impl<
     V: Clone + Drop,
     S: BuildHasher + Drop,
     R: Rules<K, V> + Drop,
-    E: Env + Drop,
-> Desk<K, V, S, R, E, Segmented> {
+    G: Rng + Drop,
+> Desk<K, V, S, R, G, Segmented> {
     /// Invalidates the values that were written before and for which the predicate returns true, in all segments or, if it is refused, in
     /// none. Returns `InvalidationClosuresDisabled` if the cache accepts no predicates, `OutOfMemory` if there is not enough memory,
     /// `UsedUp` if the 64-bit numbers of calls or writes are used up, and `IdsInUse` if each of a thousand identifiers that were drawn for
@@ -76,8 +78,10 @@ impl<
     {
         match self.draw_to_cover() {
             Ok(at) => {
-                let Desk { state, env, .. } = self;
-                state.invalidate_entries_if(predicate, env, at)
+                let Desk {
+                    state, generator, ..
+                } = self;
+                state.invalidate_entries_if(predicate, generator, at)
             }
             Err(refused) => Err(refused),
         }
@@ -89,9 +93,9 @@ impl<
     V: Clone + Drop,
     S: BuildHasher + Drop,
     R: Rules<K, V> + Drop,
-    E: Env + Drop,
+    G: Rng + Drop,
     C: Drop,
-> Desk<K, V, S, R, E, C> {
+> Desk<K, V, S, R, G, C> {
     /// The moment and step of a call with a predicate. A cache that takes none refuses that first.
     pub(crate) fn draw_to_cover(&mut self) -> Result<At, CacheError>
         ensures drawn { IfOk result (IsDrawn self.old.state) }
@@ -149,7 +153,7 @@ impl<
         ensures writes { self.new.writes ≡ self.old.writes }
         ensures cause { IfErr result (λ e. e ≡ errors.OutOfMemory) }
     {
-        let now = self.env.now().max(self.state.last_call().now);
+        let now = self.moment.max(self.state.last_call().now);
         match self.state.peek(key, now) {
             Some(value) => match value.clone() {
                 Ok(found) => Ok(Some(found)),

@@ -4,7 +4,7 @@ use rand_core::SeedableRng;
 use rand_xoshiro::Xoshiro256PlusPlus;
 use std::alloc::{AllocError, Global};
 use std::sync::Arc;
-use std::sync::atomic::AtomicU64;
+use std::sync::atomic::{AtomicU64, Ordering};
 use std::thread;
 
 /// What gives moments and random words.
@@ -15,6 +15,12 @@ pub type NumbersBy<R, C = Single> = SharedCache<u64, u64, StdHasher, R, Moments,
 
 /// How often a gate is looked at before its row fails.
 const LOOKS: u64 = 20_000_000;
+
+/// How many seconds values live on a stage where callers wait for turns.
+pub const LIFE: u64 = 10;
+
+/// How much later than the leader's call that of a caller who waits for its turn comes, in nanoseconds: twice that life.
+const LATER: u64 = 20_000_000_000;
 
 /// A cache with the dial that gives it its moments, and how many closures ran.
 #[derive(Drop)]
@@ -96,15 +102,61 @@ pub fn passes<H, P: Play<H>>(rt: &H, alloc: Global, play: &P) -> bool {
     passes_at_once(rt, alloc, play) || passes_at_once(rt, alloc, play)
 }
 
-/// Waits until a dial was read this often. False if it never is.
-pub fn wait_for_readings(dial: &Dial, readings: u64) -> bool {
+/// Waits until a closure says yes. False if it never does.
+pub fn wait_until<P: Fn() -> bool + Drop>(is_so: P) -> bool
+    requires { P.IsAlwaysCallable is_so }
+{
     for _ in 0..LOOKS {
-        if readings <= dial.readings() {
+        if is_so() {
             return true;
         }
         thread::yield_now();
     }
     false
+}
+
+/// Waits until a dial was read this often. False if it never is.
+pub fn wait_for_readings(dial: &Dial, readings: u64) -> bool {
+    wait_until(|| readings <= dial.readings())
+}
+
+/// Waits until this many closures ran or run. False if they never do.
+pub fn wait_for_runs(runs: &AtomicU64, count: u64) -> bool {
+    wait_until(|| count <= runs.load(Ordering::SeqCst))
+}
+
+/// The moment at which the leader of a turn calls, if so many turns were led before.
+fn moment_of(turn: u64) -> u64 {
+    turn.saturating_mul(2).saturating_mul(LATER)
+}
+
+/// From here on it is the moment of the leader of the turn that is led next. Returns how many were led before.
+pub fn begin_turn<T>(stage: &Stage<T>) -> u64 {
+    let turn = stage.runs.load(Ordering::SeqCst);
+    stage.dial.set(moment_of(turn));
+    turn
+}
+
+/// Waits until the closure of this turn runs, and moves the dial to the moment of the call that is to wait for the turn.
+pub fn come_later<T>(stage: &Stage<T>, turn: u64) -> bool {
+    let is_led = wait_for_runs(&stage.runs, turn.saturating_add(1));
+    stage.dial.set(moment_of(turn).saturating_add(LATER));
+    is_led
+}
+
+/// Waits, in the closure of a turn, until another caller waits for it. That caller has its moment once the dial was read again. Then the
+/// dial goes back, and a value that the closure wrote before is there until the other call has held the lock, after which it has expired:
+/// a call never comes before the last one.
+pub fn is_awaited<T, P: Fn() -> bool + Drop>(stage: &Stage<T>, is_gone: P) -> bool
+    requires { P.IsAlwaysCallable is_gone }
+{
+    let readings = stage.dial.readings().saturating_add(1);
+    let turn = stage.runs.fetch_add(1, Ordering::SeqCst);
+    if !wait_for_readings(&stage.dial, readings) {
+        return false;
+    }
+    stage.dial.set(moment_of(turn));
+    wait_until(is_gone)
 }
 
 /// Whether each of the threads says yes.

@@ -14,7 +14,8 @@ use std::thread::Threads;
 /// What each of four threads does.
 #[derive(Clone, Copy)]
 enum Work {
-    /// It requests one key, and a closure that runs waits until the dial was read this often.
+    /// It requests one key, and a closure that runs waits until the dial was read this often: until each call has its moment. The others
+    /// wait for the closure, or find what it made.
     Make(u64),
     /// It counts one key up 25 times.
     Count,

@@ -1,30 +1,37 @@
 //! The environment of the machine.
-use moka_sync::{Env, MachineEnv};
+use moka_sync::{Env, MachineEnv, Watch};
 use rand_core::{Rng, SeedableRng};
 use rand_xoshiro::Xoshiro256PlusPlus;
 use std::random::RandomSource;
 use std::time::Clock;
 
-/// Whether the moments of an environment do not fall.
-fn rises<E: Env>(env: &mut E) -> bool {
+/// The first word of an environment, if its moments do not fall.
+fn word_of<E: Env>(env: E) -> Option<u64> {
     let first = env.now();
-    let second = env.now();
-    first <= second
+    let (watch, mut generator) = env.split();
+    if first <= watch.now() {
+        Some(generator.next_u64())
+    } else {
+        None
+    }
 }
 
 /// Whether an environment gives the words of the generator that was handed in.
-fn gives_words<C: Clock + Drop>(clock: C) -> bool {
+fn gives_words<C: Clock + Drop + Send + Sync>(clock: C) -> bool {
     let mut generator = Xoshiro256PlusPlus::seed_from_u64(7);
     match MachineEnv::with_generator(clock, Xoshiro256PlusPlus::seed_from_u64(7)) {
-        Ok(mut env) => env.next_u64() == generator.next_u64() && rises(&mut env),
+        Ok(env) => word_of(env) == Some(generator.next_u64()),
         Err(_) => false,
     }
 }
 
 /// Whether two environments of the machine give other words than one another.
-fn differ<C: Clock + RandomSource + Copy + Drop>(rt: C) -> bool {
+fn differ<C: Clock + RandomSource + Copy + Drop + Send + Sync>(rt: C) -> bool {
     match (MachineEnv::new(rt), MachineEnv::new(rt)) {
-        (Ok(mut one), Ok(mut other)) => one.next_u64() != other.next_u64() && rises(&mut one),
+        (Ok(one), Ok(other)) => match (word_of(one), word_of(other)) {
+            (Some(word), Some(another)) => word != another,
+            _ => false,
+        },
         _ => false,
     }
 }

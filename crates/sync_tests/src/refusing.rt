@@ -1,7 +1,9 @@
 //! A value whose clones are refused.
 ghost use Rattle.std.specs.Prelude.{◌≡◌};
 
-use crate::caches::{Moments, Stage, make_dial, moments_of, stage_of, wait_for_readings};
+use crate::caches::{
+    LIFE, Moments, Stage, begin_turn, come_later, is_awaited, make_dial, moments_of, stage_of,
+};
 use crate::forms::Form;
 use moka_sync::{
     Build, BuildError, CacheBuilder, CacheError, Dial, PlainRules, SharedCache, StdHasher,
@@ -10,6 +12,7 @@ use std::alloc::{AllocError, Global};
 use std::sync::{Arc, Wait};
 use std::thread;
 use std::thread::Threads;
+use std::time::Duration;
 
 /// A number. The clones of 1 are refused.
 #[derive(Drop)]
@@ -39,6 +42,12 @@ trait Fussies: Drop {
         make: M,
     ) -> Result<Fussy, CacheError>
         requires { M.IsAlwaysCallable make };
+
+    /// Whether 3 is written under key 0.
+    fn puts<H: Wait>(&self, rt: &H) -> bool;
+
+    /// Whether key 0 has a visible value.
+    fn has<H: Wait>(&self, rt: &H) -> bool;
 }
 
 impl<C: Drop> Fussies for FussiesBy<C> {
@@ -49,20 +58,30 @@ impl<C: Drop> Fussies for FussiesBy<C> {
     ) -> Result<Fussy, CacheError> {
         self.get_with(rt, 0, make)
     }
+
+    fn puts<H: Wait>(&self, rt: &H) -> bool {
+        self.insert(rt, 0, Fussy(3)).is_ok() || self.insert(rt, 0, Fussy(3)).is_ok()
+    }
+
+    fn has<H: Wait>(&self, rt: &H) -> bool {
+        self.contains_key(rt, &0)
+    }
 }
 
-/// A number, once the dial was read so often, or else 0.
-fn make(dial: &Dial, number: u64, readings: u64) -> Fussy {
-    if wait_for_readings(dial, readings) {
-        Fussy(number)
+/// 1, once another caller waits, or else 0.
+fn make_one<H: Wait, T: Fussies>(rt: &H, fussies: &Stage<T>) -> Fussy {
+    let cache = &fussies.cache;
+    let is_written = cache.puts(rt);
+    if is_awaited(fussies, || !cache.has(rt)) && is_written {
+        Fussy(1)
     } else {
         Fussy(0)
     }
 }
 
 /// Whether a call that leads, and makes its value once another waits, is refused.
-fn is_refused<H: Wait, T: Fussies>(rt: &H, fussies: &Stage<T>, readings: u64) -> bool {
-    match fussies.cache.make(rt, || make(&fussies.dial, 1, readings)) {
+fn is_refused<H: Wait, T: Fussies>(rt: &H, fussies: &Stage<T>) -> bool {
+    match fussies.cache.make(rt, || make_one(rt, fussies)) {
         Ok(_) => false,
         Err(error) => error == CacheError::OutOfMemory,
     }
@@ -73,8 +92,8 @@ fn two() -> Fussy {
 }
 
 /// Whether a call that waits makes the value.
-fn is_made<H: Wait, T: Fussies>(rt: &H, fussies: &Stage<T>, readings: u64) -> bool {
-    if !wait_for_readings(&fussies.dial, readings) {
+fn is_made<H: Wait, T: Fussies>(rt: &H, fussies: &Stage<T>, turn: u64) -> bool {
+    if !come_later(fussies, turn) {
         return false;
     }
     match fussies.cache.make(rt, two) {
@@ -85,11 +104,11 @@ fn is_made<H: Wait, T: Fussies>(rt: &H, fussies: &Stage<T>, readings: u64) -> bo
 
 /// Whether the leader is refused, and who waited makes the value.
 fn next_leads<R: Threads + Wait + Sync, T: Fussies + Sync>(rt: &R, fussies: &Stage<T>) -> bool {
-    let before = fussies.dial.readings();
+    let turn = begin_turn(fussies);
     let (is_refused, is_made) = thread::join(
         rt,
-        || is_refused(rt, fussies, before.saturating_add(2)),
-        || is_made(rt, fussies, before.saturating_add(1)),
+        || is_refused(rt, fussies),
+        || is_made(rt, fussies, turn),
     );
     is_refused && is_made
 }
@@ -110,7 +129,7 @@ fn next_leads_on<R: Threads + Wait + Sync, T: Fussies + Sync>(
 fn next_leads_in<R: Threads + Wait + Sync>(rt: &R, alloc: Global, form: Form) -> Option<bool> {
     let dial = make_dial(alloc)?;
     let moments = moments_of(&dial)?;
-    let builder = CacheBuilder::new(10);
+    let builder = CacheBuilder::new(10).time_to_live(Duration::from_secs(LIFE));
     Some(match form {
         Form::One => next_leads_on(rt, dial, builder.build(alloc, moments)),
         Form::Segments => next_leads_on(rt, dial, builder.segments(4).build(alloc, moments)),

@@ -1,5 +1,5 @@
 //! Closures that say which values are replaced, and look into the same cache.
-use crate::caches::{Stage, wait_for_readings};
+use crate::caches::{Stage, wait_for_runs, wait_until};
 use crate::numbers::Numbers;
 use crate::rows::{gets, inserts};
 use crate::scenes::{Scene, holds};
@@ -31,31 +31,30 @@ fn looks<H: Wait, T: Numbers>(rt: &H, shared: &Stage<T>) -> bool {
         && shared.runs.load(Ordering::SeqCst) == 2
 }
 
-/// Says yes of 7 alone, once another has written meanwhile.
-fn is_seven<T>(shared: &Stage<T>, seen: u64, readings: u64) -> bool {
+/// Says yes of 7 alone, once another has written 8 in its place.
+fn is_seven<H: Wait, T: Numbers>(rt: &H, shared: &Stage<T>, seen: u64) -> bool {
+    let cache = &shared.cache;
     shared.runs.fetch_add(1, Ordering::SeqCst);
-    wait_for_readings(&shared.dial, readings) && seen == 7
+    seen == 7 && wait_until(|| gets(rt, cache, 1, Some(8)))
 }
 
 /// Whether 8 is kept, once it is asked about.
-fn keeps_eight<H: Wait, T: Numbers>(rt: &H, shared: &Stage<T>, before: u64) -> bool {
-    let readings = before.saturating_add(2);
-    shared.cache.make_if(rt, 1, || 9, |seen: &u64| is_seven(shared, *seen, readings)) == Ok(8)
+fn keeps_eight<H: Wait, T: Numbers>(rt: &H, shared: &Stage<T>) -> bool {
+    shared.cache.make_if(rt, 1, || 9, |seen: &u64| is_seven(rt, shared, *seen)) == Ok(8)
 }
 
 /// Whether 8 is written, once 7 is asked about.
-fn writes_eight<H: Wait, T: Numbers>(rt: &H, shared: &Stage<T>, before: u64) -> bool {
-    wait_for_readings(&shared.dial, before.saturating_add(1)) && inserts(rt, &shared.cache, 1, 8)
+fn writes_eight<H: Wait, T: Numbers>(rt: &H, shared: &Stage<T>, asked: u64) -> bool {
+    wait_for_runs(&shared.runs, asked.saturating_add(1)) && inserts(rt, &shared.cache, 1, 8)
 }
 
 /// Whether the closure, if a value is written while it runs, is called again with that value.
 fn asks_again<R: Threads + Wait + Sync, T: Numbers + Sync>(rt: &R, shared: &Stage<T>) -> bool {
-    let before = shared.dial.readings();
     let asked = shared.runs.load(Ordering::SeqCst);
     let (kept, written) = thread::join(
         rt,
-        || keeps_eight(rt, shared, before),
-        || writes_eight(rt, shared, before),
+        || keeps_eight(rt, shared),
+        || writes_eight(rt, shared, asked),
     );
     kept && written && shared.runs.load(Ordering::SeqCst) == asked.saturating_add(2)
 }

@@ -25,7 +25,7 @@ type AnswerRules = Bundle<NoExpiry, WeighOne, NoPredicate, Unresolved>;
 
 /// Answers the addresses of names, for all threads that share it. Answers are kept for a time; that a name has none is not kept, and is asked again.
 #[derive(Drop)]
-pub struct Resolver<U, E> {
+pub struct Resolver<U, E: Env> {
     answers: Cache<String, u32, StdHasher, AnswerRules, E>,
     upstream: U,
     alloc: Global,

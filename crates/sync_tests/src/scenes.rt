@@ -1,5 +1,5 @@
 //! What is played on a new cache of each form.
-use crate::caches::{Moments, Stage, make_dial, moments_of, stage_of};
+use crate::caches::{LIFE, Moments, Stage, make_dial, moments_of, stage_of};
 use crate::forms::{FIVE_HUNDRED, Form, Settings, Staged, builder_of};
 use crate::rows::{Row, are_so};
 use crate::{crowds, entries, leaving, replacing, sharding, turns, visiting};
@@ -68,7 +68,11 @@ impl Scene {
             Scene::Cover | Scene::Refuse | Scene::Fill | Scene::Return | Scene::Tell => {
                 sharding::ROOMY
             }
-            Scene::Selectors | Scene::Crowd | Scene::Replacing | Scene::Turns => FIVE_HUNDRED,
+            Scene::Turns => Settings {
+                live: Some(LIFE),
+                ..FIVE_HUNDRED
+            },
+            Scene::Selectors | Scene::Crowd | Scene::Replacing => FIVE_HUNDRED,
         }
     }
 }

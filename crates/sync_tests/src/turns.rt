@@ -1,7 +1,7 @@
 //! Calls that make a value, by two threads that gates hold.
-use crate::caches::{Stage, wait_for_readings};
+use crate::caches::{Stage, begin_turn, come_later, is_awaited};
 use crate::forms::Staged;
-use crate::rows::gets;
+use crate::rows::{gets, inserts};
 use crate::scenes::{Scene, holds};
 use moka_sync::TurnKind;
 use std::sync::Wait;
@@ -18,11 +18,11 @@ struct Turn {
     made: Option<u64>,
 }
 
-/// What a caller's closure makes, and how often the dial is to be read before.
+/// What a caller's closure makes, and whether it waits before until another caller waits for the turn.
 #[derive(Clone, Copy)]
 struct Making {
     made: Option<u64>,
-    readings: u64,
+    is_first: bool,
 }
 
 const TURNS: [Turn; 5] = [
@@ -55,10 +55,25 @@ const TURNS: [Turn; 5] = [
     },
 ];
 
-/// Runs a closure: what it makes, or 99 if the dial is not read this often.
-fn make<T>(shared: &Stage<T>, making: Making) -> Option<u64> {
-    shared.runs.fetch_add(1, Ordering::SeqCst);
-    if wait_for_readings(&shared.dial, making.readings) {
+/// Whether a look-up sees nothing while a turn is led, and another caller waits for the turn then.
+fn is_joined<H: Wait, T: Staged>(rt: &H, shared: &Stage<T>, key: u64) -> bool {
+    let cache = &shared.cache;
+    let is_written = gets(rt, cache, key, None) && inserts(rt, cache, key, 1);
+    is_awaited(shared, || !cache.has(rt, key)) && is_written
+}
+
+/// Runs a closure: what it makes, or 99 if no other caller waits.
+fn make<H: Wait, T: Staged>(
+    rt: &H,
+    shared: &Stage<T>,
+    key: u64,
+    making: Making,
+) -> Option<u64> {
+    if !making.is_first {
+        shared.runs.fetch_add(1, Ordering::SeqCst);
+        return making.made;
+    }
+    if is_joined(rt, shared, key) {
         making.made
     } else {
         Some(99)
@@ -68,7 +83,7 @@ fn make<T>(shared: &Stage<T>, making: Making) -> Option<u64> {
 /// Whether a call whose closure may fail returns what its turn makes.
 fn is_tried<H: Wait, T: Staged>(rt: &H, shared: &Stage<T>, turn: Turn, making: Making) -> bool {
     let answer = shared.cache.try_make(rt, turn.key, || -> Result<u64, u64> {
-        make(shared, making).ok_or(7)
+        make(rt, shared, turn.key, making).ok_or(7)
     });
     match answer {
         Ok(Ok(value)) => turn.made == Some(value),
@@ -86,7 +101,7 @@ fn is_made_or_none<H: Wait, T: Staged>(
 ) -> bool {
     shared
         .cache
-        .make_or_none(rt, turn.key, || make(shared, making))
+        .make_or_none(rt, turn.key, || make(rt, shared, turn.key, making))
         == Ok(turn.made)
 }
 
@@ -94,7 +109,9 @@ fn is_made_or_none<H: Wait, T: Staged>(
 fn is_made<H: Wait, T: Staged>(rt: &H, shared: &Stage<T>, turn: Turn, making: Making) -> bool {
     shared
         .cache
-        .make(rt, turn.key, || make(shared, making).unwrap_or(0))
+        .make(rt, turn.key, || {
+            make(rt, shared, turn.key, making).unwrap_or(0)
+        })
         == Ok(turn.made.unwrap_or(0))
 }
 
@@ -108,23 +125,22 @@ fn is_answered<H: Wait, T: Staged>(rt: &H, shared: &Stage<T>, turn: Turn, making
 }
 
 /// Whether a call that leads returns the expected result: its closure continues once another waits.
-fn leads<H: Wait, T: Staged>(rt: &H, shared: &Stage<T>, turn: Turn, readings: u64) -> bool {
+fn leads<H: Wait, T: Staged>(rt: &H, shared: &Stage<T>, turn: Turn) -> bool {
     let made = turn.made;
-    is_answered(rt, shared, turn, Making { made, readings })
+    let is_first = true;
+    is_answered(rt, shared, turn, Making { made, is_first })
 }
 
-/// Whether, once the other leads, a look-up sees nothing, and a call that waits returns the expected result.
-fn follows<H: Wait, T: Staged>(rt: &H, shared: &Stage<T>, turn: Turn, readings: u64) -> bool {
-    wait_for_readings(&shared.dial, readings)
-        && gets(rt, &shared.cache, turn.key, None)
-        && is_answered(rt, shared, turn, other(98))
+/// Whether, once the other leads, a call that waits returns the expected result.
+fn follows<H: Wait, T: Staged>(rt: &H, shared: &Stage<T>, turn: Turn, runs: u64) -> bool {
+    come_later(shared, runs) && is_answered(rt, shared, turn, other(98))
 }
 
 /// A closure that is not to run.
 fn other(made: u64) -> Making {
     Making {
         made: Some(made),
-        readings: 0,
+        is_first: false,
     }
 }
 
@@ -134,12 +150,11 @@ fn is_shared<R: Threads + Wait + Sync, T: Staged + Sync>(
     shared: &Stage<T>,
     turn: Turn,
 ) -> bool {
-    let before = shared.dial.readings();
-    let runs = shared.runs.load(Ordering::SeqCst);
+    let runs = begin_turn(shared);
     let (led, followed) = thread::join(
         rt,
-        || leads(rt, shared, turn, before.saturating_add(3)),
-        || follows(rt, shared, turn, before.saturating_add(1)),
+        || leads(rt, shared, turn),
+        || follows(rt, shared, turn, runs),
     );
     led && followed && shared.runs.load(Ordering::SeqCst) == runs.saturating_add(1)
 }

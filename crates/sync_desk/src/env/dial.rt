@@ -1,7 +1,7 @@
 //! A clock that is set by hand.
 ghost use Rattle.std.specs.Prelude.{◌≡◌, ◌≤◌};
 
-use crate::env::env::Env;
+use crate::env::env::{Env, Watch};
 use crate::env::fork::Fork;
 use policy_base::{Instant, MAX_NANOS};
 use rand_core::{Rng, SeedableRng};
@@ -30,16 +30,16 @@ impl Dial {
         self.nanos.store(nanos, Ordering::SeqCst);
     }
 
-    /// Returns how often the dial was read. A call of a cache reads the dial while it holds the cache's lock, so if the count rises, the
-    /// call has begun.
+    /// Returns how often the dial was read. A call of a cache reads the dial before it takes the cache's lock. So if the count rises, a call
+    /// has its moment, but may have done nothing yet.
     pub fn readings(&self) -> u64 {
         self.readings.load(Ordering::SeqCst)
     }
 
     /// The moment; counts one more reading.
     fn read(&self) -> Instant {
-        self.readings.fetch_add(1, Ordering::SeqCst);
         let nanos = self.nanos.load(Ordering::SeqCst);
+        self.readings.fetch_add(1, Ordering::SeqCst);
         Instant::from_nanos(nanos.min(MAX_NANOS))
     }
 }
@@ -60,31 +60,32 @@ impl<G> DialEnv<G> {
     }
 }
 
-impl<G: Rng> Rng for DialEnv<G> {
-    ghost stream = { λ e. G.stream e.generator };
-
-    fn next_u32(&mut self) -> u32 {
-        self.generator.next_u32()
-    }
-
-    fn next_u64(&mut self) -> u64 {
-        self.generator.next_u64()
-    }
-
-    fn fill_bytes(&mut self, dst: &mut [u8]) {
-        self.generator.fill_bytes(dst)
+impl Watch for Arc<Dial> {
+    fn now(&self) -> Instant {
+        self.read()
     }
 }
 
-impl<G: Rng> Env for DialEnv<G> {
-    fn now(&mut self) -> Instant
-        ensures { self.new.generator ≡ self.old.generator }
-    {
+impl<G> Watch for DialEnv<G> {
+    fn now(&self) -> Instant {
         self.dial.read()
     }
 }
 
-impl<G: Rng + SeedableRng> Fork for DialEnv<G> {
+impl<G: Rng + Drop + Send> Env for DialEnv<G> {
+    type Watch = Arc<Dial>;
+
+    type Generator = G;
+
+    fn split(self) -> (Arc<Dial>, G)
+        ensures { result.1 ≡ self.generator }
+    {
+        let DialEnv { dial, generator } = self;
+        (dial, generator)
+    }
+}
+
+impl<G: Rng + SeedableRng + Drop + Send> Fork for DialEnv<G> {
     fn fork(&mut self) -> Result<Self, AllocError> {
         Ok(DialEnv {
             dial: Arc::try_clone(&self.dial)?,

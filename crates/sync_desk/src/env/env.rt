@@ -3,10 +3,23 @@
 use policy_base::Instant;
 use rand_core::Rng;
 
-/// Gives a cache its moments, and by `Rng` its random words. An environment is used under the cache's lock, by one call at a time.
+/// Gives moments, to any number of threads at a time. A cache reads the moment of a call before the call takes the lock.
 ///
 /// Moments may fall: a cache treats a moment before its last as the last.
-pub trait Env: Rng {
+pub trait Watch {
     /// Returns the moment at which a call comes.
-    fn now(&mut self) -> Instant;
+    fn now(&self) -> Instant;
+}
+
+/// Gives a cache its moments and its random words. When a cache is built, its environment is split: the watch is read outside the cache's
+/// lock, and the generator is used under the lock, by one call at a time.
+pub trait Env: Watch {
+    /// What gives the moments.
+    type Watch: Watch + Drop + Send + Sync;
+
+    /// What gives the random words.
+    type Generator: Rng + Drop + Send;
+
+    /// Returns the watch, which gives the environment's moments, and the generator.
+    fn split(self) -> (Self::Watch, Self::Generator);
 }

@@ -1,7 +1,7 @@
 //! The machine's clock and a generator.
 ghost use Rattle.std.specs.Prelude.{◌≡◌, ◌≤◌, IfOk};
 
-use crate::env::env::Env;
+use crate::env::env::{Env, Watch};
 use crate::env::fork::Fork;
 use policy_base::Instant;
 use rand_core::{Rng, SeedableRng};
@@ -11,16 +11,30 @@ use std::random::RandomSource;
 use std::time::Clock;
 use std::{io, time};
 
-/// The machine's clock and a generator. Moments count the nanoseconds since the environment was created. If the clock cannot be read, the
-/// moment is the latest that was read.
+/// Reads the machine's clock. Moments count the nanoseconds since the environment was created. If the clock cannot be read, the moment is 0,
+/// which a cache treats as its last.
+#[derive(Drop)]
+pub struct MachineWatch<C> {
+    clock: C,
+    start: time::Instant,
+}
+
+impl<C: Clock> Watch for MachineWatch<C> {
+    fn now(&self) -> Instant {
+        match self.start.elapsed(&self.clock) {
+            Ok(passed) => Instant::from_duration_since_clock_start(passed),
+            Err(_) => Instant::from_nanos(0),
+        }
+    }
+}
+
+/// The machine's clock (`MachineWatch`) and a generator.
 ///
 /// The identifiers of predicates come from the generator. If others must not be able to predict one from those before it, use a secure
 /// generator with a secret seed (`with_generator`).
 #[derive(Drop)]
 pub struct MachineEnv<C, G = Xoshiro256PlusPlus> {
-    clock: C,
-    start: time::Instant,
-    latest: Instant,
+    watch: MachineWatch<C>,
     generator: G,
 }
 
@@ -47,48 +61,40 @@ impl<C: Clock, G> MachineEnv<C, G> {
         ensures { IfOk result (λ env. env.generator ≡ generator) }
     {
         let start = time::Instant::now(&clock)?;
-        Ok(MachineEnv {
-            clock,
-            start,
-            latest: Instant::from_nanos(0),
-            generator,
-        })
+        let watch = MachineWatch { clock, start };
+        Ok(MachineEnv { watch, generator })
     }
 }
 
-impl<C: Clock, G: Rng> Rng for MachineEnv<C, G> {
-    ghost stream = { λ e. G.stream e.generator };
-
-    fn next_u32(&mut self) -> u32 {
-        self.generator.next_u32()
-    }
-
-    fn next_u64(&mut self) -> u64 {
-        self.generator.next_u64()
-    }
-
-    fn fill_bytes(&mut self, dst: &mut [u8]) {
-        self.generator.fill_bytes(dst)
+impl<C: Clock, G> Watch for MachineEnv<C, G> {
+    fn now(&self) -> Instant {
+        self.watch.now()
     }
 }
 
-impl<C: Clock, G: Rng> Env for MachineEnv<C, G> {
-    fn now(&mut self) -> Instant
-        ensures { result ≡ self.new.latest }
+impl<C: Clock + Drop + Send + Sync, G: Rng + Drop + Send> Env for MachineEnv<C, G> {
+    type Watch = MachineWatch<C>;
+
+    type Generator = G;
+
+    fn split(self) -> (MachineWatch<C>, G)
+        ensures { result.1 ≡ self.generator }
     {
-        if let Ok(passed) = self.start.elapsed(&self.clock) {
-            self.latest = Instant::from_duration_since_clock_start(passed);
-        }
-        self.latest
+        let MachineEnv { watch, generator } = self;
+        (watch, generator)
     }
 }
 
-impl<C: Clock + Copy, G: Rng + SeedableRng> Fork for MachineEnv<C, G> {
+impl<C: Clock + Copy + Drop + Send + Sync, G: Rng + SeedableRng + Drop + Send> Fork
+    for MachineEnv<C, G>
+{
     fn fork(&mut self) -> Result<Self, AllocError> {
+        let watch = MachineWatch {
+            clock: self.watch.clock,
+            start: self.watch.start,
+        };
         Ok(MachineEnv {
-            clock: self.clock,
-            start: self.start,
-            latest: self.latest,
+            watch,
             generator: self.generator.fork(),
         })
     }

@@ -53,7 +53,10 @@ fn is_filled<R: Threads + Wait + Sync, E: Env + Drop + Send>(rt: &R, prices: &Pr
 }
 
 /// An empty cache, by the machine's clock.
-fn make<C: Clock + RandomSource + Drop>(alloc: Global, rt: C) -> Option<Prices<MachineEnv<C>>> {
+fn make<C: Clock + RandomSource + Drop + Send + Sync>(
+    alloc: Global,
+    rt: C,
+) -> Option<Prices<MachineEnv<C>>> {
     match MachineEnv::new(rt) {
         Ok(env) => make_prices(alloc, env).ok(),
         Err(_) => None,

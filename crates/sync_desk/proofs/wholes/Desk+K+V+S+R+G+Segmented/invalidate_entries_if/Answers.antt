@@ -1,5 +1,5 @@
 use Rattle.sync_desk.proofs.Refusing.{refused_to_cover}
-use Rattle.sync_desk.proofs.wholes.«Desk+K+V+S+R+E+Single».invalidate_entries_if.Goals as goal
+use Rattle.sync_desk.proofs.wholes.«Desk+K+V+S+R+G+Segmented».invalidate_entries_if.Goals as goal
 
 pub returns-in-Ok-clause-cause : goal.returns-in-Ok-clause-cause
 returns-in-Ok-clause-cause g c =

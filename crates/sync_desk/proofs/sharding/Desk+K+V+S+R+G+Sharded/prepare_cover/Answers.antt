@@ -1,7 +1,7 @@
 use Rattle.std.proofs.Common.{◌<◌, ◌^◌, arith}
 use Rattle.sync_desk.proofs.Preparing.{prepares_as_drawn}
 use Rattle.sync_desk.proofs.Refusing.{refused_to_cover}
-use Rattle.sync_desk.proofs.sharding.«Desk+K+V+S+R+E+Sharded».prepare_cover.Goals as goal
+use Rattle.sync_desk.proofs.sharding.«Desk+K+V+S+R+G+Sharded».prepare_cover.Goals as goal
 
 pub returns-in-Ok-clause-prepares : goal.returns-in-Ok-clause-prepares
 returns-in-Ok-clause-prepares g c =
