@@ -223,7 +223,10 @@ impl<
 
     /// Reads the moment, and then takes the locks of all shards, in their order. No other call takes a lock while it has one, so no two
     /// callers wait for each other.
-    fn lock_all<'a, H: Wait>(&'a self, rt: &H) -> Result<AllDesks<'a, K, V, S, R, E::Generator>, AllocError> {
+    fn lock_all<'a, H: Wait>(
+        &'a self,
+        rt: &H,
+    ) -> Result<AllDesks<'a, K, V, S, R, E::Generator>, AllocError> {
         let desks: &'a Desks<K, V, S, R, E, Sharded> = &self.inner.desks;
         let count = desks.count();
         let moment = desks.first().moment();

@@ -39,7 +39,9 @@ impl<
             Ok(at) => {
                 let _step = at.step;
                 let Desk {
-                    state, generator, ..
+                    state,
+                    generator,
+                    ..
                 } = self;
                 state.prepare_cover(generator)
             }

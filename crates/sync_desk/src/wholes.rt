@@ -45,7 +45,9 @@ impl<
         match self.draw_to_cover() {
             Ok(at) => {
                 let Desk {
-                    state, generator, ..
+                    state,
+                    generator,
+                    ..
                 } = self;
                 state.invalidate_entries_if(predicate, generator, at)
             }
@@ -79,7 +81,9 @@ impl<
         match self.draw_to_cover() {
             Ok(at) => {
                 let Desk {
-                    state, generator, ..
+                    state,
+                    generator,
+                    ..
                 } = self;
                 state.invalidate_entries_if(predicate, generator, at)
             }

@@ -40,7 +40,10 @@ fn is_seven<H: Wait, T: Numbers>(rt: &H, shared: &Stage<T>, seen: u64) -> bool {
 
 /// Whether 8 is kept, once it is asked about.
 fn keeps_eight<H: Wait, T: Numbers>(rt: &H, shared: &Stage<T>) -> bool {
-    shared.cache.make_if(rt, 1, || 9, |seen: &u64| is_seven(rt, shared, *seen)) == Ok(8)
+    shared
+        .cache
+        .make_if(rt, 1, || 9, |seen: &u64| is_seven(rt, shared, *seen))
+        == Ok(8)
 }
 
 /// Whether 8 is written, once 7 is asked about.

@@ -63,12 +63,7 @@ fn is_joined<H: Wait, T: Staged>(rt: &H, shared: &Stage<T>, key: u64) -> bool {
 }
 
 /// Runs a closure: what it makes, or 99 if no other caller waits.
-fn make<H: Wait, T: Staged>(
-    rt: &H,
-    shared: &Stage<T>,
-    key: u64,
-    making: Making,
-) -> Option<u64> {
+fn make<H: Wait, T: Staged>(rt: &H, shared: &Stage<T>, key: u64, making: Making) -> Option<u64> {
     if !making.is_first {
         shared.runs.fetch_add(1, Ordering::SeqCst);
         return making.made;
@@ -107,12 +102,9 @@ fn is_made_or_none<H: Wait, T: Staged>(
 
 /// The same of one whose closure makes a value.
 fn is_made<H: Wait, T: Staged>(rt: &H, shared: &Stage<T>, turn: Turn, making: Making) -> bool {
-    shared
-        .cache
-        .make(rt, turn.key, || {
-            make(rt, shared, turn.key, making).unwrap_or(0)
-        })
-        == Ok(turn.made.unwrap_or(0))
+    shared.cache.make(rt, turn.key, || {
+        make(rt, shared, turn.key, making).unwrap_or(0)
+    }) == Ok(turn.made.unwrap_or(0))
 }
 
 /// Whether a call of the turn's kind returns what its turn makes.

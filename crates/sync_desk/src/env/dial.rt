@@ -78,7 +78,8 @@ impl<G: Rng + Drop + Send> Env for DialEnv<G> {
     type Generator = G;
 
     fn split(self) -> (Arc<Dial>, G)
-        ensures { result.1 ≡ self.generator }
+        ensures watch { result.0 ≡ self.dial }
+        ensures generator { result.1 ≡ self.generator }
     {
         let DialEnv { dial, generator } = self;
         (dial, generator)

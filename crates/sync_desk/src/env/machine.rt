@@ -78,7 +78,8 @@ impl<C: Clock + Drop + Send + Sync, G: Rng + Drop + Send> Env for MachineEnv<C, 
     type Generator = G;
 
     fn split(self) -> (MachineWatch<C>, G)
-        ensures { result.1 ≡ self.generator }
+        ensures watch { result.0 ≡ self.watch }
+        ensures generator { result.1 ≡ self.generator }
     {
         let MachineEnv { watch, generator } = self;
         (watch, generator)
@@ -86,8 +87,7 @@ impl<C: Clock + Drop + Send + Sync, G: Rng + Drop + Send> Env for MachineEnv<C, 
 }
 
 impl<C: Clock + Copy + Drop + Send + Sync, G: Rng + SeedableRng + Drop + Send> Fork
-    for MachineEnv<C, G>
-{
+    for MachineEnv<C, G> {
     fn fork(&mut self) -> Result<Self, AllocError> {
         let watch = MachineWatch {
             clock: self.watch.clock,

@@ -29,7 +29,7 @@ fn fill<H: Wait, E: Env + Drop>(
 }
 
 /// Two threads insert at the same time. Then one price is invalidated.
-fn fill_twice<R: Threads + Wait + Sync, E: Env + Drop + Send>(
+fn fill_twice<R: Threads + Wait + Sync, E: Env + Drop>(
     rt: &R,
     prices: &Prices<E>,
 ) -> Result<(), CacheError> {
@@ -45,7 +45,7 @@ fn fill_twice<R: Threads + Wait + Sync, E: Env + Drop + Send>(
 // end
 
 /// Whether the prices that were written can be read, but for the one that was taken back.
-fn is_filled<R: Threads + Wait + Sync, E: Env + Drop + Send>(rt: &R, prices: &Prices<E>) -> bool {
+fn is_filled<R: Threads + Wait + Sync, E: Env + Drop>(rt: &R, prices: &Prices<E>) -> bool {
     fill_twice(rt, prices) == Ok(())
         && prices.get(rt, &1) == Ok(None)
         && prices.get(rt, &2) == Ok(Some(100))

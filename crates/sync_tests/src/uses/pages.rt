@@ -64,7 +64,7 @@ fn render<H: Wait, E: Env + Drop>(
 }
 
 /// Two threads render pages at the same time.
-fn render_all<R: Threads + Wait + Sync, E: Env + Drop + Send>(
+fn render_all<R: Threads + Wait + Sync, E: Env + Drop>(
     rt: &R,
     pages: &Pages<E>,
 ) -> Result<(), CacheError> {
