@@ -17,7 +17,7 @@ fn word_of<E: Env>(env: E) -> Option<u64> {
 }
 
 /// Whether an environment gives the words of the generator that was handed in.
-fn gives_words<C: Clock + Drop + Send + Sync>(clock: C) -> bool {
+fn gives_words<C: Clock + Drop>(clock: C) -> bool {
     let mut generator = Xoshiro256PlusPlus::seed_from_u64(7);
     match MachineEnv::with_generator(clock, Xoshiro256PlusPlus::seed_from_u64(7)) {
         Ok(env) => word_of(env) == Some(generator.next_u64()),
@@ -26,7 +26,7 @@ fn gives_words<C: Clock + Drop + Send + Sync>(clock: C) -> bool {
 }
 
 /// Whether two environments of the machine give other words than one another.
-fn differ<C: Clock + RandomSource + Copy + Drop + Send + Sync>(rt: C) -> bool {
+fn differ<C: Clock + RandomSource + Copy + Drop>(rt: C) -> bool {
     match (MachineEnv::new(rt), MachineEnv::new(rt)) {
         (Ok(one), Ok(other)) => match (word_of(one), word_of(other)) {
             (Some(word), Some(another)) => word != another,

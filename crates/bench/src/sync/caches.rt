@@ -23,16 +23,16 @@ pub trait SharedNumbers {
 
 /// A cache that threads share, of any form, with the machine's clock.
 #[derive(Drop)]
-pub struct Moka<H: Clock + Drop + Send + Sync, C> {
+pub struct Moka<H: Clock + Drop, C> {
     cache: SharedCache<u64, u64, StdHasher, PlainRules, MachineEnv<H, Xoshiro256PlusPlus>, C>,
 }
 
 /// Moments of the machine's clock, and random words.
-fn make_env<H: Clock + Drop + Send + Sync>(clock: H) -> Option<MachineEnv<H, Xoshiro256PlusPlus>> {
+fn make_env<H: Clock + Drop>(clock: H) -> Option<MachineEnv<H, Xoshiro256PlusPlus>> {
     MachineEnv::with_generator(clock, Xoshiro256PlusPlus::seed_from_u64(1)).ok()
 }
 
-impl<H: Clock + Copy + Drop + Send + Sync> Moka<H, Single> {
+impl<H: Clock + Copy + Drop> Moka<H, Single> {
     /// An empty cache of a capacity under one lock; or nothing, where memory was refused.
     pub fn make(alloc: Global, capacity: NonZeroUsize, clock: H) -> Option<Self> {
         match Cache::new(alloc, capacity.get() as u64, make_env(clock)?) {
@@ -42,7 +42,7 @@ impl<H: Clock + Copy + Drop + Send + Sync> Moka<H, Single> {
     }
 }
 
-impl<H: Clock + Copy + Drop + Send + Sync> Moka<H, Sharded> {
+impl<H: Clock + Copy + Drop> Moka<H, Sharded> {
     /// An empty cache of a capacity in 64 shards; or nothing, where memory was refused.
     pub fn make_shards(alloc: Global, capacity: NonZeroUsize, clock: H) -> Option<Self> {
         match ShardedCache::new(alloc, capacity.get() as u64, 64, make_env(clock)?) {
@@ -52,7 +52,7 @@ impl<H: Clock + Copy + Drop + Send + Sync> Moka<H, Sharded> {
     }
 }
 
-impl<C: Clock + Drop + Send + Sync, F: Drop> SharedNumbers for Moka<C, F> {
+impl<C: Clock + Drop, F: Drop> SharedNumbers for Moka<C, F> {
     fn get<H: Wait>(&self, rt: &H, key: u64) -> bool {
         matches!(self.cache.get(rt, &key), Ok(Some(_)))
     }

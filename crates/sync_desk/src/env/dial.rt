@@ -72,7 +72,7 @@ impl<G> Watch for DialEnv<G> {
     }
 }
 
-impl<G: Rng + Drop + Send> Env for DialEnv<G> {
+impl<G: Rng + Drop> Env for DialEnv<G> {
     type Watch = Arc<Dial>;
 
     type Generator = G;
@@ -86,7 +86,7 @@ impl<G: Rng + Drop + Send> Env for DialEnv<G> {
     }
 }
 
-impl<G: Rng + SeedableRng + Drop + Send> Fork for DialEnv<G> {
+impl<G: Rng + SeedableRng + Drop> Fork for DialEnv<G> {
     fn fork(&mut self) -> Result<Self, AllocError> {
         Ok(DialEnv {
             dial: Arc::try_clone(&self.dial)?,

@@ -12,13 +12,14 @@ pub trait Watch {
 }
 
 /// Gives a cache its moments and its random words. When a cache is built, its environment is split: the watch is read outside the cache's
-/// lock, and the generator is used under the lock, by one call at a time.
+/// lock, and the generator is used under the lock, by one call at a time. Threads share a cache if the watch is `Send` and `Sync`, and the
+/// generator is `Send`.
 pub trait Env: Watch {
     /// What gives the moments.
-    type Watch: Watch + Drop + Send + Sync;
+    type Watch: Watch + Drop;
 
     /// What gives the random words.
-    type Generator: Rng + Drop + Send;
+    type Generator: Rng + Drop;
 
     /// Returns the watch, which gives the environment's moments, and the generator.
     fn split(self) -> (Self::Watch, Self::Generator);

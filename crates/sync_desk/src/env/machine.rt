@@ -72,7 +72,7 @@ impl<C: Clock, G> Watch for MachineEnv<C, G> {
     }
 }
 
-impl<C: Clock + Drop + Send + Sync, G: Rng + Drop + Send> Env for MachineEnv<C, G> {
+impl<C: Clock + Drop, G: Rng + Drop> Env for MachineEnv<C, G> {
     type Watch = MachineWatch<C>;
 
     type Generator = G;
@@ -86,8 +86,7 @@ impl<C: Clock + Drop + Send + Sync, G: Rng + Drop + Send> Env for MachineEnv<C, 
     }
 }
 
-impl<C: Clock + Copy + Drop + Send + Sync, G: Rng + SeedableRng + Drop + Send> Fork
-    for MachineEnv<C, G> {
+impl<C: Clock + Copy + Drop, G: Rng + SeedableRng + Drop> Fork for MachineEnv<C, G> {
     fn fork(&mut self) -> Result<Self, AllocError> {
         let watch = MachineWatch {
             clock: self.watch.clock,

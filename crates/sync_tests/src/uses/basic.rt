@@ -32,7 +32,11 @@ fn fill<H: Wait, E: Env + Drop>(
 fn fill_twice<R: Threads + Wait + Sync, E: Env + Drop>(
     rt: &R,
     prices: &Prices<E>,
-) -> Result<(), CacheError> {
+) -> Result<(), CacheError>
+where
+    E::Watch: Send + Sync,
+    E::Generator: Send,
+{
     let (low, high) = thread::join(
         rt,
         || fill(rt, prices, &[1, 2, 3]),
@@ -45,7 +49,11 @@ fn fill_twice<R: Threads + Wait + Sync, E: Env + Drop>(
 // end
 
 /// Whether the prices that were written can be read, but for the one that was taken back.
-fn is_filled<R: Threads + Wait + Sync, E: Env + Drop>(rt: &R, prices: &Prices<E>) -> bool {
+fn is_filled<R: Threads + Wait + Sync, E: Env + Drop>(rt: &R, prices: &Prices<E>) -> bool
+where
+    E::Watch: Send + Sync,
+    E::Generator: Send,
+{
     fill_twice(rt, prices) == Ok(())
         && prices.get(rt, &1) == Ok(None)
         && prices.get(rt, &2) == Ok(Some(100))
@@ -53,10 +61,7 @@ fn is_filled<R: Threads + Wait + Sync, E: Env + Drop>(rt: &R, prices: &Prices<E>
 }
 
 /// An empty cache, by the machine's clock.
-fn make<C: Clock + RandomSource + Drop + Send + Sync>(
-    alloc: Global,
-    rt: C,
-) -> Option<Prices<MachineEnv<C>>> {
+fn make<C: Clock + RandomSource + Drop>(alloc: Global, rt: C) -> Option<Prices<MachineEnv<C>>> {
     match MachineEnv::new(rt) {
         Ok(env) => make_prices(alloc, env).ok(),
         Err(_) => None,

@@ -67,7 +67,11 @@ fn render<H: Wait, E: Env + Drop>(
 fn render_all<R: Threads + Wait + Sync, E: Env + Drop>(
     rt: &R,
     pages: &Pages<E>,
-) -> Result<(), CacheError> {
+) -> Result<(), CacheError>
+where
+    E::Watch: Send + Sync,
+    E::Generator: Send,
+{
     let (low, high) = thread::join(
         rt,
         || render(rt, pages, &[1, 2]),
