@@ -129,10 +129,6 @@ class Server:
         fields = pathlib.Path(f"/proc/{self.process.pid}/stat").read_text().rsplit(")", 1)[1].split()
         return (int(fields[11]) + int(fields[12])) / 100
 
-    def processor_nanoseconds(self):
-        """What its threads have used of the processors until now."""
-        return sum(int(task.joinpath("schedstat").read_text().split()[0]) for task in pathlib.Path(f"/proc/{self.process.pid}/task").iterdir())
-
     @classmethod
     def is_there(cls):
         return cls.row.path.exists()
