@@ -5,7 +5,6 @@ use Rattle.std.proofs.lemmas.Option.{same_Some}
 use Rattle.std.specs.List.{flat_map, slice_get}
 use Rattle.std.specs.Option.{option_map, option_map_or}
 use Rattle.audit_model.specs.Bytewise.{is_empty}
-use Rattle.audit_model.specs.Grammar.{reading}
 use Rattle.audit_model.specs.Places.{tasks_to_give_up}
 use Rattle.audit_model.specs.Situation.{HeldValue}
 use Rattle.audit_model.specs.Steps.{Task, RunAgain, RunLines}
@@ -24,14 +23,13 @@ use Rattle.cache_lines.specs.Gathered.{IsFresh, adds, gathered, stage, written}
 use Rattle.cache_lines.specs.Leads.Leads.{BeginsUnknown}
 use Rattle.cache_lines.specs.Making.{Making, making_of}
 use Rattle.cache_lines.specs.Tape.Taped.{HasSpare, IsBegun, Taped, spends, started}
-use Rattle.cache_lines.specs.Waiting.{is_load, under_way}
-use Rattle.cache_lines.specs.Whole.{held_line}
+use Rattle.cache_lines.specs.Waiting.{under_way}
 use Rattle.cache_lines.specs.declared.base.Base.{Base}
 use Rattle.cache_core.proofs.Spots.{seen-was, replaced-is, same-here, text-is}
 use Rattle.cache_core.proofs.Steps.{piece-on, piece-on-steps, still-kept, none-begins, piece-none, flat-both, piece-step}
 use Rattle.cache_core.proofs.Touched.{front-more, once-first, rest-next, leaves-others}
 use Rattle.cache_core.proofs.connections.Getting.{found-at}
-use Rattle.cache_core.specs.Connection.Fed.{StepRan, seen_of}
+use Rattle.cache_core.specs.Connection.Fed.{AwaitsLoad, StepRan, seen_of}
 use Rattle.cache_core.specs.Connections.Presence.{Presence, reply_text_of, text_at, Here, is_here}
 use Rattle.cache_core.specs.Fed.{seen_at, ReplacedAt}
 use Rattle.cache_core.specs.Settled.{HasSpareFor, IsAmid, Parts, Piece}
@@ -39,7 +37,6 @@ use Rattle.cache_core.specs.Settling.{PartsUnknown, Reruns, AreThere, IsWaitingA
 use Rattle.cache_core.specs.State.{at_number}
 use Rattle.cache_core.specs.Turned.{replies_to}
 use Rattle.cache_core.specs.declared.connection.connection.Connection.{Connection}
-use Rattle.cache_commands.specs.declared.loads.standing.Standing.TheVariants as now_is
 
 -- room for lines is left
 pub room-left : (k lines : ℕ) (a b : Option Taped) → is_some b ≡ is_some a → spare_of a ≤ spare_of b + k → MatchOption a (Unit {0}) (λ t. k + lines ≤ t.spare) → MatchOption b (Unit {0}) (λ t. lines ≤ t.spare)
@@ -219,17 +216,12 @@ module _ {S T : Type 0} (view : S → Values) (tape : T → Option Taped) (now :
 
 -- The connection at a place, as the calls on it see it.
 
--- the connection at a place that waits
-pub record Waits (config : Config) (c : Connection) : Type 0 where
-  pub waits : c.standing ≡ now_is.Waiting
-  pub is_open : c.closing ≡ None
-  pub load : is_load (reading config (held_line c.unread.bytes)) ≡ true
-
-pub waits-is : (config : Config) (cs : List Presence) (i : ℕ) (c : Connection) → IsWaitingAt config cs (i + 1) → slice_get cs i ≡ Some (Here c) → Waits config c
+-- it waits
+pub waits-is : (config : Config) (cs : List Presence) (i : ℕ) (c : Connection) → IsWaitingAt config cs (i + 1) → slice_get cs i ≡ Some (Here c) → AwaitsLoad config c
 waits-is config cs i c w at =
     let here : w.index ≡ i = omega (arith, w.place) in
     let is : w.is ≡ c = same-here (slice_get cs i) w.is c (ap (slice_get cs) (sym here) ∙ w.at) at in
-    subst (Waits config) is (record { waits = w.waits; is_open = w.is_open; load = w.load })
+    subst (AwaitsLoad config) is w.waits
 
 -- it is here
 pub waits-here : (config : Config) (cs : List Presence) (i : ℕ) → IsWaitingAt config cs (i + 1) → is_here (slice_get cs i) ≡ true
@@ -263,7 +255,7 @@ moved-there view tape R base new_base cs ds m i p number r =
     (subst (λ (x : Seen). R m x (seen_at view tape new_base ds i)) (seen-here view tape base cs i p.was p.at)
     (subst (λ (x : Seen). R m (seen_of view tape base p.was) x) (seen-here view tape new_base ds i p.is (replaced-is cs ds i p)) r))
 
-pub stepped : {S T : Type 0} (view : S → Values) (tape : T → Option Taped) (now : ℕ) (base new_base : Base S T) (cs ds : List Presence) (m i : ℕ) (p : ReplacedAt cs ds i) (task : ℕ → Task) (config : Config) → m ≡ i + 1 → Waits config p.was → IsSoundStore (view base.store)
+pub stepped : {S T : Type 0} (view : S → Values) (tape : T → Option Taped) (now : ℕ) (base new_base : Base S T) (cs ds : List Presence) (m i : ℕ) (p : ReplacedAt cs ds i) (task : ℕ → Task) (config : Config) → m ≡ i + 1 → AwaitsLoad config p.was → IsSoundStore (view base.store)
     → StepRan now m (task m) p.was p.is (seen_of view tape base p.was) (seen_of view tape new_base p.is) → spare_of (tape base.tape) ≤ spare_of (tape new_base.tape) + 1
     → Stepped view tape now base new_base cs ds i (task (i + 1))
 stepped view tape now base new_base cs ds m i p task config number w sound r spare =

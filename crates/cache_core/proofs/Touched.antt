@@ -247,9 +247,11 @@ told-wait config told s cs listed tidy reads = record {
         place = let e = f.place in omega (arith, e);
         is = f.is;
         at = f.at;
-        waits = waits;
-        is_open = f.is_open;
-        load = reads n c.0 line c.1 (ap (λ (k : model.Connection). k.standing) (sym f.shows) ∙ ap (λ st. stands_before st line) waits);
+        waits = record {
+          waits = waits;
+          is_open = f.is_open;
+          load = reads n c.0 line c.1 (ap (λ (k : model.Connection). k.standing) (sym f.shows) ∙ ap (λ st. stands_before st line) waits);
+        };
       };
 }
 
@@ -296,7 +298,7 @@ left-wait config n rest mid new w o = record {
       let first = first-waits config mid n rest w in
       let once = w.once n in
       let differs : here.index ≢ n - 1 = λ at. no-two m n rest (omega (arith, at, here.place, first.place)) some once in
-      record { index = here.index; place = here.place; is = here.is; at = o.others here.index differs ∙ here.at; waits = here.waits; is_open = here.is_open; load = here.load };
+      record { index = here.index; place = here.place; is = here.is; at = o.others here.index differs ∙ here.at; waits = here.waits };
 }
 
 -- and have the room that they had
@@ -321,9 +323,11 @@ same-wait config numbers old new same w = record {
         place = here.place;
         is = d.0;
         at = d.1;
-        waits = d.2.standing ∙ here.waits;
-        is_open = d.2.closing ∙ here.is_open;
-        load = ap (λ bs. is_load (reading config (held_line bs))) d.2.bytes ∙ here.load;
+        waits = record {
+          waits = d.2.standing ∙ here.waits.waits;
+          is_open = d.2.closing ∙ here.waits.is_open;
+          load = ap (λ bs. is_load (reading config (held_line bs))) d.2.bytes ∙ here.waits.load;
+        };
       };
 }
 

@@ -1,4 +1,5 @@
 pub mod Getting
 pub mod Listed
 pub mod Matching
+pub mod Streaks
 pub mod Saying

@@ -6,7 +6,7 @@ use Rattle.audit_laws.specs.Waiting.Tidy.{times_in}
 use Rattle.audit_model.specs.Belongs.{Known}
 use Rattle.audit_model.specs.Bytewise.{is_empty}
 use Rattle.audit_model.specs.Follows.{known_in}
-use Rattle.audit_model.specs.Grammar.{reading}
+use Rattle.audit_model.specs.Replies.{outcome_text}
 use Rattle.audit_model.specs.Situation.{HeldValue, PendingLoad, Situation}
 use Rattle.audit_model.specs.Steps.{Task}
 use Rattle.audit_model.specs.declared.command.Closing.{Closing}
@@ -17,18 +17,17 @@ use Rattle.audit_model.specs.declared.transcript.Accepted.{Accepted}
 use Rattle.audit_model.specs.declared.transcript.Note.{Note}
 use Rattle.audit_model.specs.declared.transcript.Record.{Record}
 use Rattle.cache_commands.specs.Answered.{IsStored}
-use Rattle.cache_commands.specs.Loads.Pending.{load_numbered, loads_pending}
+use Rattle.cache_commands.specs.Loads.Pending.{SameTaken, load_numbered, loads_pending}
 use Rattle.cache_commands.specs.Right.{KeepsFrame}
 use Rattle.cache_commands.specs.declared.loads.standing.Standing.{Standing}
 use Rattle.cache_lines.specs.Leads.Leads.{BeginsUnknown}
 use Rattle.cache_lines.specs.Making.{making_of}
 use Rattle.cache_lines.specs.Tape.Taped.{IsAtRest, Taped, started}
-use Rattle.cache_lines.specs.Waiting.{UnderWay, is_load, under_way}
-use Rattle.cache_lines.specs.Whole.{held_line}
+use Rattle.cache_lines.specs.Waiting.{UnderWay, under_way}
 use Rattle.cache_lines.specs.declared.base.Base.{Base}
 use Rattle.cache_store.specs.Values.{GivesNote, IsMoment, Values}
 use Rattle.audit_model.specs.declared.event.Event.TheVariants as event
-use Rattle.cache_core.specs.Connection.Fed.{FedRan, LooksAsBefore}
+use Rattle.cache_core.specs.Connection.Fed.{AwaitsLoad, FedRan, LooksAsBefore}
 use Rattle.cache_core.specs.declared.connection.connection.Connection.{Connection}
 use Rattle.cache_core.specs.Connections.Presence.{Gone, Here, Out, Presence}
 use Rattle.cache_commands.specs.declared.loads.loads.Loads.{Loads}
@@ -89,9 +88,7 @@ pub record IsWaitingAt (config : Config) (connections : List Presence) (number :
   pub place : number ≡ suc index
   pub is : Connection
   pub at : slice_get connections index ≡ Some (Here is)
-  pub waits : is.standing ≡ now_is.Waiting
-  pub is_open : is.closing ≡ None
-  pub load : is_load (reading config (held_line is.unread.bytes)) ≡ true
+  pub waits : AwaitsLoad config is
 
 -- each of them is like this, and is among them once
 pub record AreWaiting (config : Config) (connections : List Presence) (numbers : List ℕ) :
@@ -114,6 +111,12 @@ abbrev pub HaveReplyRoom : List Presence → ℕ → List ℕ → Type 0
 HaveReplyRoom connections size numbers =
     (n : ℕ) → 1 ≤ times_in n numbers → HasReplyRoomAt connections size (n - 1)
 
+-- the outcome of its load can be handed to the connection at a place: it waits, and has room for the reply
+pub record CanBeTold (config : Config) (connections : List Presence) (outcome : Outcome)
+    (index : ℕ) : Type 0 where
+  pub waits : IsWaitingAt config connections (index + 1)
+  pub room : HasReplyRoomAt connections (length (outcome_text outcome)) index
+
 -- one that was opened looks the same
 abbrev pub LooksLike : (old new : Presence) → Type 0
 LooksLike (Here c) (Here d) = LooksAsBefore c d
@@ -133,6 +136,13 @@ AllLookAsBefore (c ∷ cs) (d ∷ ds) = LooksLike c d × AllLookAsBefore cs ds
 pub record LeavesOthers (old new : List Presence) (index : ℕ) : Type 0 where
   pub count : length new ≡ length old
   pub others : (place : ℕ) → place ≢ index → slice_get new place ≡ slice_get old place
+
+-- no connection except the one at this place was touched, nor the store, and the same loads were taken
+pub record LeavesRest {S T : Type 0} (was is : Base S T) (old new : List Presence) (index : ℕ) :
+    Type 0 where
+  pub store : is.store ≡ was.store
+  pub others : LeavesOthers old new index
+  pub goes : SameTaken was.loads is.loads
 
 -- ---- what one of them does
 

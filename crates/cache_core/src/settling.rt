@@ -6,7 +6,7 @@ ghost use Rattle.audit_model.specs.Replies.{outcome_text};
 ghost use Rattle.audit_model.specs.Steps.{Deliver, RunAgain, RunLines};
 ghost use Rattle.cache_core.specs.Fed.{seen_at};
 ghost use Rattle.cache_core.specs.Settled.{HasSpareFor, IsAmid, Parts};
-ghost use Rattle.cache_core.specs.Settling.{AreThere, AreWaiting, HasReplyRoomAt, HaveReplyRoom, IsWaitingAt, LeavesOthers, PartsUnknown, Reruns, ResumesAt, runs_at, runs_with};
+ghost use Rattle.cache_core.specs.Settling.{AreThere, AreWaiting, CanBeTold, HaveReplyRoom, IsWaitingAt, LeavesOthers, LeavesRest, PartsUnknown, Reruns, ResumesAt, runs_at, runs_with};
 ghost use Rattle.cache_lines.specs.Bases.{CanRun};
 ghost use Rattle.cache_lines.specs.Ended.{spare_of};
 ghost use Rattle.cache_commands.specs.Loads.Pending.{SameTaken};
@@ -75,10 +75,8 @@ impl<S: Store, T: Tape> Interior<S, T> {
     fn tell_at(&mut self, index: usize, outcome: &Outcome)
         requires spare { HasSpareFor 1 (T.view self.old.base.tape) }
         requires inside { index < length self.old.connections }
-        requires waits { IsWaitingAt (S.view self.old.base.store).frame.config self.old.connections
-            (index + 1) }
-        requires room { HasReplyRoomAt self.old.connections (length (outcome_text outcome.now))
-            index }
+        requires can_be_told { CanBeTold (S.view self.old.base.store).frame.config
+            self.old.connections outcome.now index }
         ensures ran { (now : ℕ) → IsAmid S.view T.view now self.old.base self.old.connections 1
             → Parts S.view T.view now self.old.base self.new.base self.old.connections
             self.new.connections (Deliver (index + 1) outcome.now ∷ []) }
@@ -87,9 +85,8 @@ impl<S: Store, T: Tape> Interior<S, T> {
             → IsAmid S.view T.view now self.new.base self.new.connections lines }
         ensures spare { (lines : ℕ) → HasSpareFor (suc lines) (T.view self.old.base.tape)
             → HasSpareFor lines (T.view self.new.base.tape) }
-        ensures store { self.new.base.store ≡ self.old.base.store }
-        ensures others { LeavesOthers self.old.connections self.new.connections index }
-        ensures goes { SameTaken self.old.base.loads self.new.base.loads }
+        ensures rest { LeavesRest self.old.base self.new.base self.old.connections
+            self.new.connections index }
     {
         self.base.store.sound();
         let number = number_at(&self.connections, index);

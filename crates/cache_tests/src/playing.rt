@@ -1,7 +1,7 @@
 //! What plays rows on a service. What is refused for memory is asked once more, and a line that was held back runs at a piece of nothing;
 //! so the rows come out so with any one allocation refused.
 use crate::inputs::{feed, input_of, is_back, moment_from};
-use crate::rows::{Asked, Case, FIRST, Row, SECOND, Sent, Told};
+use crate::rows::{Asked, Case, FIRST, Row, SECOND, Sent, Told, Way};
 use audit_model::{Bytes, Closing, Config, Conn, Input, Instant, LoadId, Note, Seq, ServiceError};
 use cache_spaces::{Core, LentReplies, Output, RecordedService, Refusal, Service, copy_note};
 use rand_core::SeedableRng;
@@ -442,11 +442,57 @@ fn comes_so<S: Played>(stage: &mut Stage<S>, row: Row<'_>) -> bool {
     }
 }
 
+/// A connection of the first namespace.
+fn conn_of(number: u64) -> Conn {
+    Conn {
+        namespace: 0,
+        number,
+    }
+}
+
+/// The row of one of many connections.
+fn row_of<'a>(conn: Conn, way: Way<'a>) -> Row<'a> {
+    match way {
+        Way::Says(piece, replies) => Row::Says(conn, piece, replies),
+        Way::Fills(length) => Row::Does(Asked::Fills(conn, length)),
+        Way::Closes => Row::Does(Asked::Closes(conn)),
+        Way::Closed(wanted) => Row::Closed(conn, wanted),
+    }
+}
+
+fn opens_all<S: Played>(stage: &mut Stage<S>, count: u64) -> bool {
+    for number in 1..=count {
+        if !opens(stage, conn_of(number)) {
+            return false;
+        }
+    }
+    true
+}
+
+/// Whether it comes out so for each connection up to a number whose own number leaves this rest by five.
+fn each_comes_so<S: Played>(stage: &mut Stage<S>, rest: u64, count: u64, way: Way<'_>) -> bool {
+    for number in 1..=count {
+        if number % 5 == rest && !comes_so(stage, row_of(conn_of(number), way)) {
+            return false;
+        }
+    }
+    true
+}
+
+/// Asks one connection, or many, and answers whether it came out so.
+fn all_come_so<S: Played>(stage: &mut Stage<S>, row: Row<'_>) -> bool {
+    match row {
+        Row::OpensAll(count) => opens_all(stage, count),
+        Row::EachFifth(rest, count, way) => each_comes_so(stage, rest, count, way),
+        row => comes_so(stage, row),
+    }
+}
+
 /// Asks one row after another, and answers the place of the first that did not come out so.
 fn first_wrong_of<S: Played>(stage: &mut Stage<S>, rows: &[Row<'_>]) -> Option<usize> {
     for (place, row) in rows.iter().enumerate() {
         stage.now = moment_from(*row, stage.now);
-        if !comes_so(stage, *row) {
+        if !all_come_so(stage, *row) {
             return Some(place);
         }
     }

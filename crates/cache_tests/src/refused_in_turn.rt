@@ -10,7 +10,7 @@ use crate::rows::{
     Asked, Case, FIRST, FIRST_LOAD, Given, PLAIN, Row, SECOND, SECOND_LOAD, no_row_wrong,
     none_wrong,
 };
-use audit_model::{Config, Instant, ServiceError};
+use audit_model::{Config, Conn, Instant, ServiceError};
 use cache_spaces::{Core, Output, Refusal, Service};
 use std::alloc::Global;
 
@@ -215,7 +215,30 @@ const AN_ANSWER: Call<'static> = Call {
     ],
 };
 
-const CALLS: &[Call<'static>] = &[A_SET, A_DROPIF, AN_ANSWER];
+const SIXTEENTH: Conn = Conn {
+    namespace: 0,
+    number: 16,
+};
+
+/// Fifteen are open, so the node of the map that has their words is full.
+const AN_OPEN: Call<'static> = Call {
+    config: PLAIN,
+    before: &[Row::OpensAll(15)],
+    asked: Asked::Opens(0),
+    refused: &[
+        Row::Unknown(SIXTEENTH, ServiceError::NoConnection),
+        Row::Says(FIRST, b"GET a\n", b"NONE\n"),
+        Row::Opens(SIXTEENTH),
+        Row::Says(SIXTEENTH, b"GET a\n", b"NONE\n"),
+    ],
+    held: &[Row::NoNamespace(0)],
+    ran: &[
+        Row::Says(FIRST, b"GET a\n", b"NONE\n"),
+        Row::Says(SIXTEENTH, b"GET a\n", b"NONE\n"),
+    ],
+};
+
+const CALLS: &[Call<'static>] = &[A_SET, A_DROPIF, AN_ANSWER, AN_OPEN];
 
 /// The place of the first call at which something comes out otherwise, and the number of the request that was refused.
 fn first_wrong(alloc: Global) -> Option<(usize, usize)> {

@@ -83,6 +83,17 @@ pub type Told<'a> = (RemovalCause, &'a [u8], &'a [u8]);
 /// A load that goes out, and its key.
 pub type Sent<'a> = (LoadId, &'a [u8]);
 
+/// What one of many connections does, or what is known of it.
+#[derive(Clone, Copy)]
+pub enum Way<'a> {
+    /// A piece of which all lines run, and what the connection is replied till then.
+    Says(&'a [u8], &'a [u8]),
+    /// A piece of so many bytes without a line's end.
+    Fills(usize),
+    Closes,
+    Closed(Option<Closing>),
+}
+
 /// What is asked, and what has to come of it.
 #[derive(Clone, Copy)]
 pub enum Row<'a> {
@@ -112,6 +123,10 @@ pub enum Row<'a> {
     LoadsOpen(u64, u64),
     Waits(Conn, bool),
     Closed(Conn, Option<Closing>),
+    /// The connections of the first namespace up to that number are opened, one after the other.
+    OpensAll(u64),
+    /// Each connection of the first namespace up to a number does so, one after the other, if its own number leaves this rest by five.
+    EachFifth(u64, u64, Way<'a>),
     /// The loads of `k` of the first namespace from one number to before another go out and are given up, one after the other, and nobody
     /// is replied.
     GivesUpEach(u64, u64),

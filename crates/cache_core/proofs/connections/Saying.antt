@@ -8,6 +8,7 @@ use Rattle.std.specs.Option.{option_map}
 use Rattle.audit_model.specs.declared.command.Closing.{Closing}
 use Rattle.cache_core.specs.Connections.Presence.{Gone, Here, Out, Presence, is_here}
 use Rattle.cache_core.specs.Connections.Residents.{AreMatched, AreSettled, first_reason, held_or_out, places_of, presence_by, presence_held, presences_of, reason_numbered, reason_word}
+use Rattle.cache_core.specs.Connections.Words.{StandsApart}
 use Rattle.cache_core.specs.declared.connections.residents.Resident.{Resident}
 use Rattle.audit_model.specs.declared.command.Closing.TheVariants as by
 use Rattle.cache_core.specs.declared.connection.connection.Connection.{Connection}
@@ -163,28 +164,28 @@ module _ (rs : List Resident) (last : Resident) (ws : List ℕ) (i w : ℕ) (why
   abbrev renamed : List ℕ
   renamed = slice_set (slice_set ws i code) last.place w
 
-  there : slice_get ws last.place ≡ Some (length rs)
-  there = m.placed (length rs) last.place (place-there (rs ++ last ∷ []) (length rs) last (at-end rs last))
+  pub last-word-at : slice_get ws last.place ≡ Some (length rs)
+  last-word-at = m.placed (length rs) last.place (place-there (rs ++ last ∷ []) (length rs) last (at-end rs last))
 
   pub last-within : last.place < length ws
-  last-within = slice_get_within ws last.place (length rs) there
+  last-within = slice_get_within ws last.place (length rs) last-word-at
 
-  small_end : length rs < first_reason
-  small_end = let f = m.few in let e = length-map (rs ++ last ∷ []) (λ (r : Resident). r.place) in let k = length-append rs (last ∷ []) in omega arith
+  pub small-end : length rs < first_reason
+  small-end = let f = m.few in let e = length-map (rs ++ last ∷ []) (λ (r : Resident). r.place) in let k = length-append rs (last ∷ []) in omega arith
 
-  away : w < length rs → last.place ≢ i
-  away inside same = let is : length rs ≡ w = same_Some (length rs) w (sym there ∙ ap (slice_get ws) same ∙ at) in absurd (omega arith)
+  pub away : w < length rs → last.place ≢ i
+  away inside same = let is : length rs ≡ w = same_Some (length rs) w (sym last-word-at ∙ ap (slice_get ws) same ∙ at) in absurd (omega arith)
 
   wide : last.place < length (slice_set ws i code)
-  wide = let l = slice_get_within ws last.place (length rs) there in let e = length-set ws i code in omega arith
+  wide = let l = slice_get_within ws last.place (length rs) last-word-at in let e = length-set ws i code in omega arith
 
   elsewhere : w < length rs → (j : ℕ) → j ≢ i → option_map (presence_by closed_up) (slice_get renamed j) ≡ option_map (presence_by (rs ++ last ∷ [])) (slice_get ws j)
   elsewhere inside j other = elim (cases_eq j last.place) [
     | inl same ↦
         ap (λ k. option_map (presence_by closed_up) (slice_get renamed k)) same
         ∙ ap (option_map (presence_by closed_up)) (at-replaced (slice_set ws i code) last.place w wide)
-        ∙ ap Some (by-index closed_up w lt ∙ ap presence_held (at-replaced rs w last inside ∙ sym (at-end rs last)) ∙ sym (by-index (rs ++ last ∷ []) (length rs) small_end))
-        ∙ sym (ap (λ k. option_map (presence_by (rs ++ last ∷ [])) (slice_get ws k)) same ∙ ap (option_map (presence_by (rs ++ last ∷ []))) there)
+        ∙ ap Some (by-index closed_up w lt ∙ ap presence_held (at-replaced rs w last inside ∙ sym (at-end rs last)) ∙ sym (by-index (rs ++ last ∷ []) (length rs) small-end))
+        ∙ sym (ap (λ k. option_map (presence_by (rs ++ last ∷ [])) (slice_get ws k)) same ∙ ap (option_map (presence_by (rs ++ last ∷ []))) last-word-at)
     | inr distinct ↦
         ap (option_map (presence_by closed_up)) (at-other (slice_set ws i code) j last.place w distinct ∙ at-other ws j i code other)
         ∙ option-same (rs ++ last ∷ []) closed_up (slice_get ws j) (λ v e small.
@@ -227,22 +228,52 @@ held-at rs ws i w r at lt there = said-at rs ws i w at ∙ ap Some (by-index rs 
 -- ---- what is found at a place of the whole
 
 module _ (rs : List Resident) (ws : List ℕ) (ps : List Presence) (is : presences_of rs ws ≡ ps) (i w : ℕ) where
-  -- by the word that is read there
-  pub word-in : i < length ps → w ≡ get_or ws i w → slice_get ws i ≡ Some w
-  word-in within read = let e = ap length is in let m = length-map ws (presence_by rs) in at-place ws i w (omega (arith, e, m, within)) read
+  -- it has a word
+  pub has-word : i < length ps → i < length ws
+  has-word within = let e = ap length is in let m = length-map ws (presence_by rs) in omega (arith, e, m, within)
 
-  pub resident-in : AreSettled rs ws → i < length ps → w ≡ get_or ws i w → w < first_reason → w < length rs
-  resident-in settled within read small = resident-there rs ws i w settled (word-in within read) small
+  -- by the word there
+  pub resident-in : AreSettled rs ws → slice_get ws i ≡ Some w → w < first_reason → w < length rs
+  resident-in settled at small = resident-there rs ws i w settled at small
 
-  pub said-in : i < length ps → w ≡ get_or ws i w → slice_get ps i ≡ Some (presence_by rs w)
-  said-in within read = ap (λ qs. slice_get qs i) (sym is) ∙ said-at rs ws i w (word-in within read)
+  pub said-in : slice_get ws i ≡ Some w → slice_get ps i ≡ Some (presence_by rs w)
+  said-in at = ap (λ qs. slice_get qs i) (sym is) ∙ said-at rs ws i w at
 
-  pub held-in : AreSettled rs ws → (r : Resident) → i < length ps → w ≡ get_or ws i w → w < first_reason → r ≡ get_or rs w r → slice_get ps i ≡ Some (held_or_out r.connection)
-  held-in settled r within read small at = ap (λ qs. slice_get qs i) (sym is) ∙ held-at rs ws i w r (word-in within read) small (at-place rs w r (resident-in settled within read small) at)
+  pub held-in : AreSettled rs ws → (r : Resident) → slice_get ws i ≡ Some w → w < first_reason → r ≡ get_or rs w r → slice_get ps i ≡ Some (held_or_out r.connection)
+  held-in settled r at small there = ap (λ qs. slice_get qs i) (sym is) ∙ held-at rs ws i w r at small (at-place rs w r (resident-in settled at small) there)
 
   -- of a connection that is here, or out
-  pub small-here : is_here (slice_get ps i) ≡ true → i < length ps → w ≡ get_or ws i w → w < first_reason
-  small-here here within read = index-here rs ws i w (word-in within read) (ap (λ qs. is_here (slice_get qs i)) is ∙ here)
+  pub small-here : is_here (slice_get ps i) ≡ true → slice_get ws i ≡ Some w → w < first_reason
+  small-here here at = index-here rs ws i w at (ap (λ qs. is_here (slice_get qs i)) is ∙ here)
 
-  pub small-out : slice_get ps i ≡ Some Out → i < length ps → w ≡ get_or ws i w → w < first_reason
-  small-out out within read = index-out rs ws i w (word-in within read) (ap (λ qs. slice_get qs i) is ∙ out)
+  pub small-out : slice_get ps i ≡ Some Out → slice_get ws i ≡ Some w → w < first_reason
+  small-out out at = index-out rs ws i w at (ap (λ qs. slice_get qs i) is ∙ out)
+
+-- ---- a word that names a resident differs from all others
+
+pub apart-at : (ps ws : List ℕ) (i w : ℕ) → AreMatched ps ws → slice_get ws i ≡ Some w → w < first_reason → StandsApart ws i
+apart-at ps ws i w m at small = record {
+  before = λ other e same. absurd (omega (arith, e, other-is other same));
+  behind = λ other e same. absurd (omega (arith, e, other-is other same));
+}
+  where
+    other-is : (other : ℕ) → slice_get ws other ≡ slice_get ws i → other ≡ i
+    other-is other same = same_Some other i (sym (m.owned other w (same ∙ at) small) ∙ m.owned i w at small)
+
+-- also after a word was set that says why one is gone
+pub apart-after : (ps ws : List ℕ) (i j w code : ℕ) → AreMatched ps ws → slice_get ws j ≡ Some w → w < first_reason → first_reason ≤ code → j ≢ i → i < length ws → StandsApart (slice_set ws i code) j
+apart-after ps ws i j w code m at small reason away within = record {
+  before = λ other e same. absurd (omega (arith, e, other-is other same));
+  behind = λ other e same. absurd (omega (arith, e, other-is other same));
+}
+  where
+    still : slice_get (slice_set ws i code) j ≡ Some w
+    still = at-other ws j i code away ∙ at
+
+    other-is : (other : ℕ) → slice_get (slice_set ws i code) other ≡ slice_get (slice_set ws i code) j → other ≡ j
+    other-is other same = elim (cases_eq other i) [
+      | inl there ↦
+          let is : code ≡ w = same_Some code w (sym (at-replaced ws i code within) ∙ ap (slice_get (slice_set ws i code)) (sym there) ∙ same ∙ still) in
+          absurd (omega (arith, is, small, reason))
+      | inr apart ↦ same_Some other j (sym (m.owned other w (sym (at-other ws other i code apart) ∙ same ∙ still) small) ∙ m.owned j w at small)
+    ]

@@ -1,6 +1,7 @@
 -- A step of a `LOAD` that waited: it runs again, or receives its load's outcome.
-use Rattle.std.specs.Prelude.{◌≡◌, ℕ, ◌++◌, false, List, [], ◌∷◌, Option, Some, None, Bool, ◌||◌, if◌then◌else◌}
+use Rattle.std.specs.Prelude.{◌≡◌, ℕ, ◌++◌, true, false, List, [], ◌∷◌, Option, Some, None, Bool, ◌||◌, if◌then◌else◌}
 use Rattle.std.specs.Option.{option_map}
+use Rattle.audit_model.specs.Grammar.{reading}
 use Rattle.audit_model.specs.Places.{tasks_to_feed}
 use Rattle.audit_model.specs.Situation.{HeldValue, Situation, connection_in}
 use Rattle.audit_model.specs.Steps.{Task}
@@ -23,7 +24,7 @@ use Rattle.cache_lines.specs.Lines.{ends_quit, with_drops, IsThere, set_in, situ
 use Rattle.cache_lines.specs.Making.{Making, making_of}
 use Rattle.cache_lines.specs.Ordered.{order_behind_step}
 use Rattle.cache_lines.specs.Tape.Taped.{Taped, spends, text_left}
-use Rattle.cache_lines.specs.Waiting.{loads_in, with_under_way}
+use Rattle.cache_lines.specs.Waiting.{is_load, loads_in, with_under_way}
 use Rattle.cache_lines.specs.Whole.{held_line}
 use Rattle.cache_lines.specs.declared.base.Base.{Base}
 use Rattle.cache_lines.specs.declared.looping.End.{End}
@@ -32,6 +33,12 @@ use Rattle.cache_core.specs.Connection.Shown.{put_in, shown, with_piece}
 use Rattle.cache_core.specs.declared.connection.connection.Connection.{Connection}
 use Rattle.cache_commands.specs.declared.loads.standing.Standing.TheVariants as now_is
 use Rattle.audit_model.specs.declared.command.Closing.TheVariants as by
+
+-- it is open, and its first unread line is a `LOAD` that waits
+pub record AwaitsLoad (config : Config) (c : Connection) : Type 0 where
+  pub waits : c.standing ≡ now_is.Waiting
+  pub is_open : c.closing ≡ None
+  pub load : is_load (reading config (held_line c.unread.bytes)) ≡ true
 
 -- the last of these steps is neither a `QUIT` nor a `LOAD` that waits
 pub record EndsCalm (config : Config) (steps : List Step) : Type 0 where

@@ -1,14 +1,11 @@
 //! A waiting `LOAD` that receives its load's outcome.
-ghost use Rattle.std.specs.Prelude.{◌≡◌, ◌+◌, ◌≤◌, ℕ, None, true, length, suc, vec_len, vec_capacity};
-ghost use Rattle.audit_model.specs.Grammar.{reading};
+ghost use Rattle.std.specs.Prelude.{◌≡◌, ◌+◌, ◌≤◌, ℕ, None, length, suc, vec_len, vec_capacity};
 ghost use Rattle.audit_model.specs.Replies.{outcome_text};
 ghost use Rattle.audit_model.specs.Steps.{Deliver};
-ghost use Rattle.cache_core.specs.Connection.Fed.{IsReplied, StepRan, seen_of};
+ghost use Rattle.cache_core.specs.Connection.Fed.{AwaitsLoad, IsReplied, StepRan, seen_of};
 ghost use Rattle.cache_core.specs.Settled.{HasSpareFor};
 ghost use Rattle.cache_lines.specs.Bases.{CanRun};
 ghost use Rattle.cache_lines.specs.Ended.{spare_of};
-ghost use Rattle.cache_lines.specs.Waiting.{is_load};
-ghost use Rattle.cache_lines.specs.Whole.{held_line};
 ghost use Rattle.cache_commands.specs.declared.loads.standing.Standing.TheVariants as stands;
 ghost use Rattle.cache_lines.specs.Tape.Taped.{HasSpare};
 
@@ -49,11 +46,7 @@ pub fn deliver<S: Store, T: Tape>(
     outcome: &Outcome,
 )
     requires spare { HasSpare (T.view base.old.tape) }
-    requires waits { connection.old.standing ≡ stands.Waiting }
-    requires open { connection.old.closing ≡ None }
-    requires load { is_load
-        (reading (S.view base.old.store).frame.config (held_line connection.old.unread.bytes))
-        ≡ true }
+    requires waits { AwaitsLoad (S.view base.old.store).frame.config connection.old }
     requires room { vec_len connection.old.output.text + length (outcome_text outcome.now)
         ≤ vec_capacity connection.old.output.text }
     ensures ran { (now : ℕ) → CanRun now (seen_of S.view T.view base.old connection.old)

@@ -4,19 +4,23 @@ ghost use Rattle.std.specs.List.{slice_get};
 ghost use Rattle.cache_core.specs.Connections.Presence.{Here, Out, closing_at, is_here, retired_at};
 
 use crate::connection::Connection;
-use crate::connections::residents::{FIRST_REASON, Resident, gone_for, reason_of, remove_at};
+use crate::connections::guesses::Guesses;
+use crate::connections::residents::{FIRST_REASON, Resident, find, gone_for, reason_of, remove_at};
+use crate::connections::words::Words;
 use audit_model::Closing;
 use cache_commands::push_within;
 use std::alloc::{AllocError, Global};
 use std::marker::Model;
 use std::mem;
 
-/// The connections that were opened, in the order of their numbers.
+/// The connections that were opened, in the order of their numbers. Those that are gone for the same cause side by side take no more memory
+/// than one of them.
 #[derive(Drop)]
 pub struct Connections {
     residents: Vec<Resident>,
     // For each place the index of its resident, or why its connection closed.
-    words: Vec<u32>,
+    words: Words,
+    guesses: Guesses,
 }
 
 impl Model for Connections {
@@ -26,9 +30,9 @@ impl Model for Connections {
 
     ghost Value = { List Presence };
 
-    ghost view = { λ s. presences_of s.residents.items s.words.items };
+    ghost view = { λ s. presences_of s.residents.items s.words };
 
-    ghost invariant = { λ s. AreSettled s.residents.items s.words.items };
+    ghost invariant = { λ s. AreSettled s.residents.items s.words };
 }
 
 impl Connections {
@@ -38,7 +42,8 @@ impl Connections {
     {
         Connections {
             residents: Vec::new(alloc),
-            words: Vec::new(alloc),
+            words: Words::new(alloc),
+            guesses: Guesses::new(),
         }
     }
 
@@ -59,11 +64,10 @@ impl Connections {
             return Err(AllocError);
         }
         self.residents.try_reserve(1)?;
-        self.words.try_reserve(1)?;
         let place = self.words.len();
+        self.words.push(index as u32)?;
         let connection = Some(connection);
         push_within(&mut self.residents, Resident { place, connection });
-        push_within(&mut self.words, index as u32);
         Ok(())
     }
 
@@ -73,7 +77,7 @@ impl Connections {
         ensures { MatchOption result (is_here (slice_get self.now index) ≡ false)
             (λ c. slice_get self.now index ≡ Some (Here c.now)) }
     {
-        let word = self.words[index];
+        let word = find(&self.residents, &self.words, &self.guesses, index);
         if word >= FIRST_REASON {
             return None;
         }
@@ -85,7 +89,7 @@ impl Connections {
         requires { index < length self.now }
         ensures { result ≡ closing_at self.now index }
     {
-        let word = self.words[index];
+        let word = find(&self.residents, &self.words, &self.guesses, index);
         if word >= FIRST_REASON {
             return Some(reason_of(word));
         }
@@ -101,7 +105,8 @@ impl Connections {
         ensures taken { slice_get self.old index ≡ Some (Here result) }
         ensures rest { self.new ≡ slice_set self.old index Out }
     {
-        let word = self.words[index];
+        let word = find(&self.residents, &self.words, &self.guesses, index);
+        self.guesses.keep(index, word);
         let resident = &mut self.residents[word as usize];
         match mem::replace(&mut resident.connection, None) {
             Some(connection) => connection,
@@ -114,7 +119,7 @@ impl Connections {
         requires { slice_get self.old index ≡ Some Out }
         ensures { self.new ≡ slice_set self.old index (Here connection) }
     {
-        let word = self.words[index];
+        let word = find(&self.residents, &self.words, &self.guesses, index);
         let resident = &mut self.residents[word as usize];
         resident.connection = Some(connection);
     }
@@ -125,7 +130,7 @@ impl Connections {
         requires { index < length self.old }
         ensures { self.new ≡ retired_at self.old index }
     {
-        let word = self.words[index];
+        let word = find(&self.residents, &self.words, &self.guesses, index);
         if word >= FIRST_REASON {
             return;
         }

@@ -5,6 +5,8 @@ ghost use Rattle.cache_core.specs.Connections.Presence.{Gone, Here, Out, closing
 ghost use Rattle.cache_core.specs.Connections.Residents.{AreSettled, first_reason, held_or_out, presences_of, reason_numbered, reason_word};
 
 use crate::connection::Connection;
+use crate::connections::guesses::Guesses;
+use crate::connections::words::Words;
 use audit_model::Closing;
 
 /// The first of the words that say why a connection closed.
@@ -56,22 +58,35 @@ pub fn gone_for(resident: &Resident) -> Option<Closing>
     }
 }
 
-/// Removes the resident of an index, and sets the word that says why. The last resident moves into the gap.
-pub fn remove_at(residents: &mut Vec<Resident>, words: &mut Vec<u32>, index: usize, why: Closing)
-    requires settled { AreSettled residents.old.items words.old.items }
-    requires within { index < length words.old.items }
-    requires here { IfSome (slice_get words.old.items index) (λ word. word < first_reason) }
-    ensures settled { AreSettled residents.new.items words.new.items }
-    ensures gone { presences_of residents.new.items words.new.items
-        ≡ slice_set (presences_of residents.old.items words.old.items) index (Gone why) }
+/// Returns the word for an index: the guess, if the resident there is the one of this index, and otherwise what the words have.
+pub fn find(residents: &Vec<Resident>, words: &Words, guesses: &Guesses, place: usize) -> u32
+    requires settled { AreSettled residents.now.items words.now }
+    requires within { place < length words.now }
+    ensures { slice_get words.now place ≡ Some result }
 {
-    let gap = words[index] as usize;
-    words[index] = word_of(why);
+    let guess = guesses.get(place);
+    match residents.get(guess as usize) {
+        Some(resident) if resident.place == place => guess,
+        _ => words.get(place),
+    }
+}
+
+/// Removes the resident of an index, and sets the word that says why. The last resident moves into the gap.
+pub fn remove_at(residents: &mut Vec<Resident>, words: &mut Words, index: usize, why: Closing)
+    requires settled { AreSettled residents.old.items words.old }
+    requires within { index < length words.old }
+    requires here { IfSome (slice_get words.old index) (λ word. word < first_reason) }
+    ensures settled { AreSettled residents.new.items words.new }
+    ensures gone { presences_of residents.new.items words.new
+        ≡ slice_set (presences_of residents.old.items words.old) index (Gone why) }
+{
+    let gap = words.get(index) as usize;
+    words.set(index, word_of(why));
     let Some(last) = residents.pop() else {
         unreachable!();
     };
     if gap < residents.len() {
-        words[last.place] = gap as u32;
+        words.set(last.place, gap as u32);
         residents[gap] = last;
     }
 }

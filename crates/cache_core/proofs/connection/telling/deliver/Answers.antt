@@ -18,8 +18,8 @@ returns-clause-ran g c = λ now can_run.
     let was = seen_of view tape base old in
     let is : Seen = record { stage = stage (view base.store) new.output.text.items (tape c.reply_with.new.tape); loads = was.loads } in
     let a = c.reply_with.ensures in
-    let k = load-key _ c.requires.load in
-    delivered-ran now c.args.number old new was is c.requires.waits c.sound.ensures can_run.in_time.0 can_run.clear c.args.outcome.now k.0 k.1 (a.closing ∙ c.requires.open) a.standing a.bytes
+    let k = load-key _ c.requires.waits.load in
+    delivered-ran now c.args.number old new was is c.requires.waits.waits c.sound.ensures can_run.in_time.0 can_run.clear c.args.outcome.now k.0 k.1 (a.closing ∙ c.requires.waits.is_open) a.standing a.bytes
     (said-gathered (view base.store) old.output.text.items new.output.text.items (outcome_text c.args.outcome.now) (held_line old.unread.bytes) c.args.number (tape base.tape) (tape c.reply_with.new.tape) can_run.clear a.said a.text) refl refl
 
 pub returns-clause-further : goal.returns-clause-further

@@ -42,8 +42,10 @@ tell_at-requires g c =
     record {
       spare = (let e = ap length (rest-next ns at lt) in room-least (length (drop at ns)) 1 (g.T.Tape.view mid.base.tape) (omega (arith, e)) i.spare);
       inside = waits-inside config mid.connections _ first;
-      waits = subst (λ (k : Config). IsWaitingAt k mid.connections (n - 1 + 1)) (sym (ap (λ s. (g.S.Store.view s).frame.config) i.store)) (waits-numbered config mid.connections _ first);
-      room = (subst (HaveReplyRoom mid.connections (length (outcome_text c.args.outcome.now))) (rest-next ns at lt) i.room) n (once-first n (drop (at + 1) ns));
+      can_be_told = record {
+        waits = subst (λ (k : Config). IsWaitingAt k mid.connections (n - 1 + 1)) (sym (ap (λ s. (g.S.Store.view s).frame.config) i.store)) (waits-numbered config mid.connections _ first);
+        room = (subst (HaveReplyRoom mid.connections (length (outcome_text c.args.outcome.now))) (rest-next ns at lt) i.room) n (once-first n (drop (at + 1) ns));
+      };
     }
 
 pub loop-number-preserved : goal.loop-number-preserved
@@ -70,11 +72,11 @@ loop-number-preserved g c =
           let h = i.amid now lines amid in
           c.tell_at.ensures.amid now (length rest + lines) (subst (λ k. IsAmid g.S.Store.view g.T.Tape.view now c.loop-number.self.base mid k) (let e = ap length next in omega (arith, e)) h);
       spare = c.tell_at.ensures.spare (length rest) (subst (λ k. HasSpareFor k (g.T.Tape.view c.loop-number.self.base.tape)) (let e = size in omega (arith, e)) i.spare);
-      store = c.tell_at.ensures.store ∙ i.store;
-      waits = left-wait config n rest mid c.tell_at.new.self.connections waits c.tell_at.ensures.others;
-      room = left-room config n (length (outcome_text c.args.outcome.now)) rest mid c.tell_at.new.self.connections waits (subst (HaveReplyRoom mid (length (outcome_text c.args.outcome.now))) next i.room) c.tell_at.ensures.others;
-      count = c.tell_at.ensures.others.count ∙ i.count;
-      goes = taken-on i.goes c.tell_at.ensures.goes;
+      store = c.tell_at.ensures.rest.store ∙ i.store;
+      waits = left-wait config n rest mid c.tell_at.new.self.connections waits c.tell_at.ensures.rest.others;
+      room = left-room config n (length (outcome_text c.args.outcome.now)) rest mid c.tell_at.new.self.connections waits (subst (HaveReplyRoom mid (length (outcome_text c.args.outcome.now))) next i.room) c.tell_at.ensures.rest.others;
+      count = c.tell_at.ensures.rest.others.count ∙ i.count;
+      goes = taken-on i.goes c.tell_at.ensures.rest.goes;
     }
 
 pub returns-clause-ran : goal.returns-clause-ran

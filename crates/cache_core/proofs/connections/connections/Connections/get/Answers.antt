@@ -14,10 +14,10 @@ looked now ps i (Some b) e = e
 
 pub index-requires : goal.index-requires
 index-requires c =
-    let inside = resident-in c.self.inside.residents.items c.self.inside.words.items c.args.self.now c.self.view_is c.args.index c.index-word.result.now c.self.invariant c.requires c.index-word.ensures c.if-word-ge-FIRST_REASON.false in
+    let inside = resident-in c.self.inside.residents.items c.self.inside.words c.args.self.now c.self.view_is c.args.index c.find-word.result c.self.invariant c.find-word.ensures c.if-word-ge-FIRST_REASON.false in
     omega (arith, inside, c.self.inside.residents.ok.0)
 
 pub returns : goal.returns
 returns c =
     looked (λ b. b.now) _ c.args.index c.as_ref.result
-    (held-in c.self.inside.residents.items c.self.inside.words.items c.args.self.now c.self.view_is c.args.index c.index-word.result.now c.self.invariant c.index.result.now c.requires c.index-word.ensures c.if-word-ge-FIRST_REASON.false c.index.ensures ∙ ap (λ o. Some (held_or_out o)) (sym c.as_ref.ensures.value))
+    (held-in c.self.inside.residents.items c.self.inside.words c.args.self.now c.self.view_is c.args.index c.find-word.result c.self.invariant c.index.result.now c.find-word.ensures c.if-word-ge-FIRST_REASON.false c.index.ensures ∙ ap (λ o. Some (held_or_out o)) (sym c.as_ref.ensures.value))
