@@ -16,7 +16,8 @@ ROOT = pathlib.Path(__file__).resolve().parent.parent
 BOUNDS = {
     # (20 of these came with the memcache house, whose libraries were proved after the bound was set)
     "splits by hand": 758,
-    "relations of the service's specs": 494,
+    # (eight of these came with runs of closed connections, interludes, and contracts of at most eight clauses)
+    "relations of the service's specs": 502,
     # (a connection of the memcache service is told in the words of one that speaks lines)
     "names of relations in several crates": 73,
     "names of functions in several crates": 87,

@@ -7,14 +7,16 @@ use Rattle.std.specs.Io.KnownBytes.{Consumes}
 use Rattle.std.specs.Option.{option_map_or}
 use Rattle.audit_model.specs.declared.event.Outcome.{Outcome}
 use Rattle.audit_model.specs.declared.input.Conn.{Conn}
-use Rattle.cache_run.proofs.devices.Sending.{appends_more, askings_more, readings_more}
+use Rattle.cache_run.proofs.devices.Sending.{appends_more}
 use Rattle.cache_run.proofs.driver.Exchanges.{chain-more}
+use Rattle.cache_run.proofs.driver.Interludes.{interlude-none}
 use Rattle.cache_run.specs.Devices.Sent.{SentBut}
 use Rattle.cache_run.specs.Devices.Sources.{Asking, Askings, Readings}
 use Rattle.cache_run.specs.Driver.Drives.{Rest, Talks, asked_of, late_of, lost_of}
 use Rattle.cache_run.specs.Driver.Exchanges.{Chain, Exchange, Outs, asks_of, askings_in, bytes_of, moments_in, pieces_in, replies_in, told_of}
+use Rattle.cache_run.specs.Driver.Interludes.{Interlude, Station, together}
 use Rattle.cache_run.specs.declared.driver.host.Host.{Ghosts as Ways}
-use Rattle.cache_link.specs.Dialogues.{Aside, Comes, ComesBehind, HavePassed, Station, Dialogue, Interlude, Wire}
+use Rattle.cache_link.specs.Dialogues.{Comes, ComesBehind, Dialogue, Wire}
 
 -- a byte that is read later
 abbrev pub sentinel : List ℕ
@@ -33,32 +35,10 @@ pub askings-split : {L : Type 0} (loads : L → List ℕ → Option Outcome → 
 askings-split loads l [] ys n p = (l, refl, p)
 askings-split loads l (x ∷ xs) ys n p = let q = askings-split loads p.0 xs ys n p.2 in (q.0, (p.0, p.1, q.1), q.2)
 
-abbrev pub together : {H K D : Type 0} → H → K → D → Station H K D
-together h c l = record { place = h; clock = c; loader = l }
-
 pub same-together : {H K D : Type 0} (h k : H) (c d : K) (l m : D) → k ≡ h → d ≡ c → m ≡ l → together k d m ≡ together h c l
 same-together h k c d l m place clock loader = rw (place, clock, loader) refl
 
 module _ {X H K D : Type 0} (ways : Ways X H) (reads : K → ℕ → K → Type 0) (loads : D → List ℕ → Option Outcome → D → Type 0) (conn : Conn) where
-  -- nobody had a turn
-  pub interlude-none : (p : Station H K D) → Interlude ways reads loads conn p p
-  interlude-none p = record { asides = []; done = refl; moments = []; told = refl; askings = []; asked = refl }
-
-  passed-more : (h : H) (xs : List Aside) (k : H) (ys : List Aside) (m : H) → HavePassed ways reads loads conn h xs k → HavePassed ways reads loads conn k ys m → HavePassed ways reads loads conn h (xs ++ ys) m
-  passed-more h [] k ys m p q = let P : H → Type 0 = λ x. HavePassed ways reads loads conn x ys m in subst P p q
-  passed-more h (x ∷ xs) k ys m p q = (p.0, p.1, passed-more p.0 xs k ys m p.2 q)
-
-  -- others had more turns
-  pub interlude-more : (p q r : Station H K D) → Interlude ways reads loads conn p q → Interlude ways reads loads conn q r → Interlude ways reads loads conn p r
-  interlude-more p q r x y = record {
-    asides = x.asides ++ y.asides;
-    done = passed-more p.place x.asides q.place y.asides r.place x.done y.done;
-    moments = x.moments ++ y.moments;
-    told = readings_more reads p.clock x.moments q.clock y.moments r.clock x.told y.told;
-    askings = x.askings ++ y.askings;
-    asked = askings_more loads p.loader x.askings q.loader y.askings r.loader x.asked y.asked;
-  }
-
   -- exchanges with the clock's readings, and with what the loader returned
   pub chain-station : (h : H) (hand : Outs) (xs : List Exchange) (k : H) (after : Outs) (c d : K) (l m : D) → Chain (ways.came conn) h hand xs k after → Readings reads c (moments_in xs) d → Askings loads l (askings_in xs) m
       → Chain (Comes ways reads loads conn) (together h c l) hand xs (together k d m) after
@@ -71,7 +51,7 @@ module _ {X H K D : Type 0} (ways : Ways X H) (reads : K → ℕ → K → Type 
   -- between them nobody had a turn
   pub chain-behind : (p : Station H K D) (hand : Outs) (xs : List Exchange) (q : Station H K D) (after : Outs) → Chain (Comes ways reads loads conn) p hand xs q after → Chain (ComesBehind ways reads loads conn) p hand xs q after
   chain-behind p hand [] q after chain = chain
-  chain-behind p hand (x ∷ xs) q after chain = (chain.0, chain.1, record { begin = p; others = interlude-none p; comes = chain.2 }, chain.3, chain-behind chain.0 chain.1 xs q after chain.4)
+  chain-behind p hand (x ∷ xs) q after chain = (chain.0, chain.1, record { begin = p; others = interlude-none ways reads loads conn p; comes = chain.2 }, chain.3, chain-behind chain.0 chain.1 xs q after chain.4)
 
   -- where exchanges that followed leave a connection
   pub record Follows (start : Station H K D) (xs : List Exchange) (q : Station H K D) (after : Outs) : Type 0 where
@@ -94,7 +74,7 @@ module _ {X H K D : Type 0} (ways : Ways X H) (reads : K → ℕ → K → Type 
         last = q;
         chain = chain-more (ComesBehind ways reads loads conn) start [] xs last [] (y ∷ ys) q after before
             (chain.0, chain.1, record { begin = now; others = others; comes = chain.2 }, chain.3, chain-behind chain.0 chain.1 ys q after chain.4);
-        others = interlude-none q;
+        others = interlude-none ways reads loads conn q;
       }
 
   -- exchanges that took place without others, up to what was refused

@@ -3,3 +3,4 @@ pub mod Dialogues
 pub mod Hearing
 pub mod Patience
 pub mod Serving
+pub mod Several

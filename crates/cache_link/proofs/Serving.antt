@@ -6,11 +6,13 @@ use Rattle.std.specs.Io.KnownBytes.{Consumes}
 use Rattle.audit_model.specs.declared.event.Outcome.{Outcome}
 use Rattle.audit_model.specs.declared.input.Conn.{Conn}
 use Rattle.cache_run.proofs.devices.Sending.{consumes_more, same_appends, same_consumes}
+use Rattle.cache_run.proofs.driver.Interludes.{interlude-more, interlude-none}
 use Rattle.cache_run.specs.Devices.Sent.{SentBut}
 use Rattle.cache_run.specs.Driver.Driven.{ComesTo as DriverComesTo, Finished, Stopped, Underway, unfed}
 use Rattle.cache_run.specs.Driver.Drives.{Outside, Rest, Talks, lost_of, no_rest}
 use Rattle.cache_run.specs.Driver.Exchanges.{HaveClosed, Outs, asks_of, pieces_in, told_of}
 use Rattle.cache_run.specs.Driver.Causes.{Because}
+use Rattle.cache_run.specs.Driver.Interludes.{Interlude, Station, together}
 use Rattle.cache_run.specs.declared.devices.errors.RunError.{RunError}
 use Rattle.cache_run.specs.declared.devices.errors.RunError.TheVariants.{Moment, OutOfMemory, Read, UsedUp, Write}
 use Rattle.cache_run.specs.declared.driver.driving.Progress.{Progress}
@@ -18,13 +20,13 @@ use Rattle.cache_run.specs.declared.driver.driving.Progress.TheVariants.{More, O
 use Rattle.cache_run.specs.declared.driver.host.Host.{Ghosts as Ways}
 use Rattle.cache_run.specs.declared.driver.session.Footing.TheVariants.{Closed, Ready}
 use Rattle.cache_run.specs.declared.driver.session.Session.{Session}
-use Rattle.cache_link.specs.Dialogues.{Dialogue, Interlude, Station, Wire}
+use Rattle.cache_link.specs.Dialogues.{Dialogue, Wire}
 use Rattle.cache_link.specs.Served.{Fetched, HasJustOpened, IsAlike, IsAnswered, IsBroken, IsGoing, IsServed}
 use Rattle.cache_link.specs.Patience.{device}
 use Rattle.cache_link.specs.declared.link.Link.{Link}
 use Rattle.cache_link.specs.declared.patient.Patient.{Patient}
 use Rattle.cache_link.proofs.Closing.{closed-more}
-use Rattle.cache_link.proofs.Dialogues.{dialogue-more, dialogue-sent, follows-talks, interlude-more, interlude-none, lost-is, sentinel, together}
+use Rattle.cache_link.proofs.Dialogues.{dialogue-more, dialogue-sent, follows-talks, lost-is, sentinel}
 
 pub no-both : (b : Bool) → b ≡ true → b ≡ false → ⊥
 no-both true holds fails = let h : true ≡ false = fails in cc

@@ -1,55 +1,20 @@
 -- What passes between a host and one connection of several that have their turns at it one after another.
-use Rattle.std.specs.Prelude.{◌≡◌, ◌≢◌, ℕ, List, [], ◌∷◌, ◌++◌, Option}
+use Rattle.std.specs.Prelude.{◌≡◌, ℕ, List, [], ◌++◌, Option}
 use Rattle.std.specs.Io.KnownBytes.{Appends, Consumes}
 use Rattle.audit_model.specs.declared.event.Outcome.{Outcome}
 use Rattle.audit_model.specs.declared.input.Conn.{Conn}
-use Rattle.cache_run.specs.Devices.Sources.{Asking, Askings, Readings}
+use Rattle.cache_run.specs.Devices.Sources.{Askings, Readings}
 use Rattle.cache_run.specs.Driver.Drives.{Rest, lost_of}
 use Rattle.cache_run.specs.Driver.Exchanges.{Chain, Exchange, Outs, asks_of, pieces_in, replies_in, told_of, untaken_in}
+use Rattle.cache_run.specs.Driver.Interludes.{Interlude, Station}
 use Rattle.cache_run.specs.declared.driver.host.Host.{Ghosts as Ways}
-
--- what connections share: a place at the host, a clock and a loader
-pub record Station (H K D : Type 0) : Type 0 where
-  pub place : H
-  pub clock : K
-  pub loader : D
 
 -- what is left of the input of one connection, and what was written to it
 pub record Wire : Type 0 where
   pub remaining : Option (List ℕ)
   pub contents : Option (List ℕ)
 
--- what is done at a host for another connection
-pub data Aside : Type 0 where
-  Opened : (namespace : ℕ) → (other : Conn) → Aside
-  Exchanged : (other : Conn) → (exchange : Exchange) → Aside
-  Refused : Aside
-  Closed : (other : Conn) → Aside
-  Dropped : (other : Conn) → (hand : Outs) → (askings : List Asking) → Aside
-
 module _ {X H K D : Type 0} (ways : Ways X H) (reads : K → ℕ → K → Type 0) (loads : D → List ℕ → Option Outcome → D → Type 0) (conn : Conn) where
-  -- it is done, and it is another connection
-  abbrev pub HasPassed : H → Aside → H → Type 0
-  HasPassed h (Opened namespace other) k = (other ≢ conn) × ways.opens namespace other h k
-  HasPassed h (Exchanged other exchange) k = (other ≢ conn) × ways.came other h exchange k
-  HasPassed h Refused k = ways.rests h k
-  HasPassed h (Closed other) k = (other ≢ conn) × ways.closes other h k
-  HasPassed h (Dropped other hand askings) k = (other ≢ conn) × ways.drops other hand h askings k
-
-  -- one after another
-  abbrev pub HavePassed : H → List Aside → H → Type 0
-  HavePassed h [] k = k ≡ h
-  HavePassed h (aside ∷ asides) k = (m : H) × HasPassed h aside m × HavePassed m asides k
-
-  -- others had their turns
-  pub record Interlude (p q : Station H K D) : Type 0 where
-    pub asides : List Aside
-    pub done : HavePassed p.place asides q.place
-    pub moments : List ℕ
-    pub told : Readings reads p.clock moments q.clock
-    pub askings : List Asking
-    pub asked : Askings loads p.loader askings q.loader
-
   -- an exchange came, at the clock's reading, and with what the loader returned
   pub record Comes (p : Station H K D) (exchange : Exchange) (q : Station H K D) : Type 0 where
     pub came : ways.came conn p.place exchange q.place
@@ -59,7 +24,7 @@ module _ {X H K D : Type 0} (ways : Ways X H) (reads : K → ℕ → K → Type 
   -- others had their turns before it
   pub record ComesBehind (p : Station H K D) (exchange : Exchange) (q : Station H K D) : Type 0 where
     pub begin : Station H K D
-    pub others : Interlude p begin
+    pub others : Interlude ways reads loads conn p begin
     pub comes : Comes begin exchange q
 
   -- Exchanges took place, between which others had their turns. What was read was fed, except for the rest, and the replies were written,

@@ -4,10 +4,11 @@ use Rattle.std.specs.Io.KnownBytes.{Appends, Consumes, IsAtEnd}
 use Rattle.audit_model.specs.declared.event.Outcome.{Outcome}
 use Rattle.cache_run.specs.Driver.Drives.{Rest, lost_of}
 use Rattle.cache_run.specs.Driver.Exchanges.{Exchange, HaveClosed, Outs}
+use Rattle.cache_run.specs.Driver.Interludes.{Interlude, Station}
 use Rattle.cache_run.specs.declared.devices.errors.RunError.{RunError}
 use Rattle.cache_run.specs.declared.driver.host.Host.{Ghosts as Ways}
 use Rattle.cache_run.specs.declared.driver.session.Footing.TheVariants.{Ready, Closed}
-use Rattle.cache_link.specs.Dialogues.{Station, Dialogue, Interlude, Wire}
+use Rattle.cache_link.specs.Dialogues.{Dialogue, Wire}
 use Rattle.cache_link.specs.Patience.{device}
 use Rattle.cache_link.specs.declared.link.Link.{Link}
 use Rattle.cache_link.specs.declared.link.Next.{Next}

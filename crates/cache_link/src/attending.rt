@@ -3,6 +3,7 @@ ghost use Rattle.std.specs.Prelude.{◌≡◌, [], IfOk, IfErr};
 ghost use Rattle.cache_run.specs.Devices.Sources.{HasToldLate};
 ghost use Rattle.cache_run.specs.Driver.Causes.{Because};
 ghost use Rattle.cache_run.specs.Driver.Driven.{Holds, Turns, spot};
+ghost use Rattle.cache_run.specs.Driver.Interludes.{InterludeBut, together};
 
 use cache_run::{
     Clock, Footing, Host, Loader, Progress, RunError, Session, Watched, feed_piece, settle_next,
@@ -24,6 +25,8 @@ fn take_step<H: Host, O: Write, K: Clock, D: Loader>(
     ensures goes { Turns H.Host K.reads D.loads result session.old session.new
         (spot O.contents place.old writer.old clock.old loader.old)
         (spot O.contents place.new writer.new clock.new loader.new) }
+    ensures among { InterludeBut H.Host K.reads D.loads session.old.conn
+        (together place.old clock.old loader.old) (together place.new clock.new loader.new) }
     ensures why { IfErr result (Because ⊥ (Unit {0}) (Unit {0}) (HasToldLate K.reads clock.new)) }
 {
     if !session.has_no_load() || session.footing == Footing::Waiting {
@@ -48,6 +51,8 @@ fn settle_all<H: Host, O: Write, K: Clock, D: Loader>(
     ensures goes { Turns H.Host K.reads D.loads result session.old session.new
         (spot O.contents place.old writer.old clock.old loader.old)
         (spot O.contents place.new writer.new clock.new loader.new) }
+    ensures among { InterludeBut H.Host K.reads D.loads session.old.conn
+        (together place.old clock.old loader.old) (together place.new clock.new loader.new) }
     ensures why { IfErr result (Because ⊥ (Unit {0}) (Unit {0}) (HasToldLate K.reads clock.new)) }
     ensures settled { IfOk result
         (λ progress. progress ≡ Progress.More → session.new.taken.items ≡ []) }
@@ -81,6 +86,8 @@ pub fn attend<H: Host, O: Write, K: Clock, D: Loader>(
     ensures goes { Turns H.Host K.reads D.loads result session.old session.new
         (spot O.contents place.old writer.old clock.old loader.old)
         (spot O.contents place.new writer.new clock.new loader.new) }
+    ensures among { InterludeBut H.Host K.reads D.loads session.old.conn
+        (together place.old clock.old loader.old) (together place.new clock.new loader.new) }
     ensures why { IfErr result (Because ⊥ (Unit {0}) (Unit {0}) (HasToldLate K.reads clock.new)) }
     ensures settled { IfOk result
         (λ progress. progress ≡ Progress.More → session.new.taken.items ≡ []) }

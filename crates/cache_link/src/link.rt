@@ -4,6 +4,7 @@ ghost use Rattle.cache_run.specs.Devices.Sources.{HasToldLate};
 ghost use Rattle.cache_run.specs.Devices.Sent.{SentBut};
 ghost use Rattle.cache_run.specs.Driver.Causes.{Because};
 ghost use Rattle.cache_run.specs.Driver.Driven.{ClosesAfter};
+ghost use Rattle.cache_run.specs.Driver.Interludes.{InterludeBut};
 ghost use Rattle.cache_link.specs.Patience.{BreaksDown, WritesOn, is_broken_by};
 ghost use Rattle.cache_link.specs.Reports.{HearsOf, Hears, report_after, report_with};
 ghost use Rattle.cache_link.specs.Served.{Attends, Fetched, IsAlike, HasJustOpened, Proceeds, Works, WritesFirst, TakesTurn, station, wire};
@@ -184,12 +185,14 @@ impl Link {
             (station place.old tools.old) (station place.new tools.new)
             (wire I.remaining O.contents reader.old writer.old)
             (wire I.remaining O.contents reader.new writer.new) }
+        ensures among { InterludeBut H.Host K.reads D.loads self.old.session.conn
+            (station place.old tools.old) (station place.new tools.new) }
         ensures why { IfErr result (Because (BreaksDown reader.old reader.new)
             (BreaksDown writer.old writer.new) (Unit {0}) (HasToldLate K.reads tools.new.clock)) }
         ensures first { WritesFirst O.contents self.old (station place.old tools.old)
             (station place.new tools.new) reader.old reader.new writer.old writer.new }
-        ensures hears { Hears I.remaining self.old.report self.new.report reader.old reader.new }
-        ensures idle { result ≡ Ok Next.Input → self.new.report ≡ Report.Nothing }
+        ensures hears { Hears I.remaining self.old.report self.new.report reader.old reader.new
+            × (result ≡ Ok Next.Input → self.new.report ≡ Report.Nothing) }
     {
         if !self.backlog.write_to(writer)? {
             return Ok(Next::Room);
@@ -220,7 +223,9 @@ impl Link {
             (wire I.remaining O.contents reader.new writer.new) }
         ensures why { IfErr result (Because (BreaksDown reader.old reader.new)
             (BreaksDown writer.old writer.new) (Unit {0}) (HasToldLate K.reads tools.new.clock)) }
-        ensures writes { WritesOn O.contents writer.old writer.new }
+        ensures beside { WritesOn O.contents writer.old writer.new
+            × InterludeBut H.Host K.reads D.loads self.old.session.conn
+            (station place.old tools.old) (station place.new tools.new) }
         ensures hears { Hears I.remaining self.old.report self.new.report reader.old reader.new
             × (result ≡ Ok Next.Input → self.new.report ≡ Report.Nothing) }
     {
@@ -268,6 +273,8 @@ impl Link {
             × (self.new.session.conn ≡ self.old.session.conn) }
         ensures goes { Works H.Host K.reads D.loads I.remaining result self.old self.new
             (station place.old tools.old) (station place.new tools.new) reader.old reader.new }
+        ensures among { InterludeBut H.Host K.reads D.loads self.old.session.conn
+            (station place.old tools.old) (station place.new tools.new) }
         ensures why { IfErr result (Because (BreaksDown reader.old reader.new) ⊥ (Unit {0})
             (HasToldLate K.reads tools.new.clock)) }
         ensures hears { Hears I.remaining self.old.report self.new.report reader.old reader.new }
@@ -320,6 +327,8 @@ impl Link {
         ensures known { H.knows self.new.session.conn place.new
             × (self.new.session.conn ≡ self.old.session.conn) }
         ensures goes { Attends H.Host K.reads D.loads result self.old self.new
+            (station place.old tools.old) (station place.new tools.new) }
+        ensures among { InterludeBut H.Host K.reads D.loads self.old.session.conn
             (station place.old tools.old) (station place.new tools.new) }
         ensures why { IfErr result (Because ⊥ ⊥ (Unit {0})
             (HasToldLate K.reads tools.new.clock)) }

@@ -3,3 +3,4 @@ pub mod Driven
 pub mod Drives
 pub mod Exchanges
 pub mod Hosting
+pub mod Interludes

@@ -4,6 +4,7 @@ ghost use Rattle.cache_run.specs.Devices.Sources.{HasToldLate};
 ghost use Rattle.cache_run.specs.Devices.Watched.{failures};
 ghost use Rattle.cache_run.specs.Driver.Causes.{Because, Fails};
 ghost use Rattle.cache_run.specs.Driver.Driven.{Goes, Holds, asks_nobody, spot};
+ghost use Rattle.cache_run.specs.Driver.Interludes.{InterludeBut, together};
 
 use crate::devices::{Clock, RunError, Watched};
 use crate::driver::driving::Progress;
@@ -31,6 +32,8 @@ pub fn feed_piece<H: Host, O: Write, K: Clock>(
     ensures goes { Goes H.came H.closes K.reads asks_nobody H.LENT result
         session.old session.new (spot O.contents place.old writer.old clock.old tt)
         (spot O.contents place.new writer.new clock.new tt) }
+    ensures among { InterludeBut H.Host K.reads asks_nobody session.old.conn
+        (together place.old clock.old tt) (together place.new clock.new tt) }
     ensures why { IfErr result (Because ⊥ (Fails writer.old writer.new)
         (H.exhausts (H.counted place.old) (H.counted place.new)) (HasToldLate K.reads clock.new)) }
     ensures forward { (failures writer.old ≤ failures writer.new)

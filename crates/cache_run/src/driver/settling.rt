@@ -4,6 +4,7 @@ ghost use Rattle.cache_run.specs.Devices.Sources.{HasToldLate};
 ghost use Rattle.cache_run.specs.Devices.Watched.{failures};
 ghost use Rattle.cache_run.specs.Driver.Causes.{Because, Fails, HasAsked};
 ghost use Rattle.cache_run.specs.Driver.Driven.{Holds, Settles, Turns, spot};
+ghost use Rattle.cache_run.specs.Driver.Interludes.{InterludeBut, together};
 
 use crate::devices::{Clock, Loader, RunError, Watched};
 use crate::driver::driving::Progress;
@@ -31,6 +32,8 @@ fn settle_one<H: Host, O: Write, K: Clock, D: Loader>(
     ensures goes { Settles H.came H.closes K.reads D.loads H.LENT result session.old
         session.new (spot O.contents place.old writer.old clock.old loader.old)
         (spot O.contents place.new writer.new clock.new loader.new) }
+    ensures among { InterludeBut H.Host K.reads D.loads session.old.conn
+        (together place.old clock.old loader.old) (together place.new clock.new loader.new) }
     ensures why { IfErr result (Because ⊥ (Fails writer.old writer.new)
         (H.exhausts (H.counted place.old) (H.counted place.new)) (HasToldLate K.reads clock.new)) }
     ensures forward { (failures writer.old ≤ failures writer.new)
@@ -67,6 +70,8 @@ pub fn settle_next<H: Host, O: Write, K: Clock, D: Loader>(
     ensures goes { Turns H.Host K.reads D.loads result session.old session.new
         (spot O.contents place.old writer.old clock.old loader.old)
         (spot O.contents place.new writer.new clock.new loader.new) }
+    ensures among { InterludeBut H.Host K.reads D.loads session.old.conn
+        (together place.old clock.old loader.old) (together place.new clock.new loader.new) }
     ensures why { IfErr result (Because ⊥ (Fails writer.old writer.new)
         (H.exhausts (H.counted place.old) (H.counted place.new)) (HasToldLate K.reads clock.new)) }
     ensures forward { (failures writer.old ≤ failures writer.new)

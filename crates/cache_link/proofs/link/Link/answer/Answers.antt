@@ -22,3 +22,9 @@ returns-in-Err-clause-goes g c =
 
 pub returns-in-Err-clause-why : goal.returns-in-Err-clause-why
 returns-in-Err-clause-why g c = answer-because _ _ _ c.error_of_answer.ensures.kept c.error_of_answer.ensures.none c.in-Err.ensures.why
+
+pub returns-in-Ok-clause-among : goal.returns-in-Ok-clause-among
+returns-in-Ok-clause-among g c = c.in-Ok.ensures.among
+
+pub returns-in-Err-clause-among : goal.returns-in-Err-clause-among
+returns-in-Err-clause-among g c = c.in-Err.ensures.among

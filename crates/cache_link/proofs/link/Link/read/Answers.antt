@@ -1,4 +1,4 @@
-use Rattle.std.proofs.Common.{◌≡◌, ◌∙◌, ◌++◌, [], refl, sym, ap, inl, inr, rules}
+use Rattle.std.proofs.Common.{◌≡◌, ◌++◌, [], refl, sym, ap, inl, inr, rules}
 use Rattle.std.proofs.lemmas.List.{append-nil}
 use Rattle.cache_run.proofs.devices.Sending.{same_consumes}
 use Rattle.cache_link.proofs.Hearing.{hears-read, hears-same}

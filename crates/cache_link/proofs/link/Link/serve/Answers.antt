@@ -1,5 +1,6 @@
 use Rattle.std.proofs.Common.{refl, sym, subst}
 use Rattle.std.proofs.lemmas.Result.{err_from_is_err_and}
+use Rattle.cache_run.proofs.driver.Interludes.{but-more, but-still}
 use Rattle.cache_link.specs.Served.{IsServed}
 use Rattle.cache_link.proofs.Dialogues.{same-together}
 use Rattle.cache_link.proofs.Hearing.{hears-same, hears-then}
@@ -30,3 +31,15 @@ returns-then-eq-clause-hears g c = hears-same _ _ _ _ _ c.answer.ensures.report
 
 pub returns-clause-hears : goal.returns-clause-hears
 returns-clause-hears g c = hears-then _ _ _ _ _ _ c.answer-2.ensures.report c.read.ensures.hears
+
+pub returns-in_err-read-clause-among : goal.returns-in_err-read-clause-among
+returns-in_err-read-clause-among g c = but-still g.H.Host g.K.Clock.reads g.D.Loader.loads _ _ _ _ _ _ c.read.ensures.same.0 c.read.ensures.same.1
+
+pub returns-then-not-has_work-clause-among : goal.returns-then-not-has_work-clause-among
+returns-then-not-has_work-clause-among g c = but-still g.H.Host g.K.Clock.reads g.D.Loader.loads _ _ _ _ _ _ c.read.ensures.same.0 c.read.ensures.same.1
+
+pub returns-then-eq-clause-among : goal.returns-then-eq-clause-among
+returns-then-eq-clause-among g c = c.answer.ensures.among
+
+pub returns-clause-among : goal.returns-clause-among
+returns-clause-among g c = but-more g.H.Host g.K.Clock.reads g.D.Loader.loads _ _ _ _ _ c.read.ensures.fetched.conn (but-still g.H.Host g.K.Clock.reads g.D.Loader.loads _ _ _ _ _ _ c.read.ensures.same.0 c.read.ensures.same.1) c.answer-2.ensures.among

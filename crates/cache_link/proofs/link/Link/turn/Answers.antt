@@ -2,6 +2,7 @@ use Rattle.std.proofs.Common.{◌≡◌, inl, inr, refl, rules}
 use Rattle.std.proofs.lemmas.Result.{err_from_is_err_and}
 use Rattle.cache_run.proofs.devices.Sending.{failed_after}
 use Rattle.cache_run.proofs.driver.Exchanges.{why-map}
+use Rattle.cache_run.proofs.driver.Interludes.{but-still}
 use Rattle.cache_link.specs.declared.link.Next.TheVariants.{Input, Room, Over}
 use Rattle.cache_link.proofs.Hearing.{hears-same}
 use Rattle.cache_link.proofs.Patience.{appends-first}
@@ -29,10 +30,10 @@ pub returns-clause-goes : goal.returns-clause-goes
 returns-clause-goes g c = λ start before a x others. c.work.ensures.goes start a (served-sent g.H.Host g.K.Clock.reads g.D.Loader.loads c.requires.shared start a c.args.self.now _ _ c.write_to.new.self _ c.write_to.ensures.sent (served-later g.H.Host g.K.Clock.reads g.D.Loader.loads c.requires.shared start a c.args.self.now before _ _ others x))
 
 pub returns-clause-why : goal.returns-clause-why
-returns-clause-why g c = why-map c.work.result (λ broke. broke) (failed_after _ _ _ c.write_to.ensures.later c.work.ensures.writes.later) (λ used. used) (λ late. late) c.work.ensures.why
+returns-clause-why g c = why-map c.work.result (λ broke. broke) (failed_after _ _ _ c.write_to.ensures.later c.work.ensures.beside.0.later) (λ used. used) (λ late. late) c.work.ensures.why
 
 pub returns-clause-first : goal.returns-clause-first
-returns-clause-first g c = inl (appends-first g.O.Write.contents c.args.writer.now c.write_to.new.writer c.work.new.writer c.write_to.new.self _ c.write_to.ensures.sent (c.in_ok-write_to.ensures.all c.if-not-branch.false) c.work.ensures.writes)
+returns-clause-first g c = inl (appends-first g.O.Write.contents c.args.writer.now c.write_to.new.writer c.work.new.writer c.write_to.new.self _ c.write_to.ensures.sent (c.in_ok-write_to.ensures.all c.if-not-branch.false) c.work.ensures.beside.0)
 
 pub returns-in_err-write_to-clause-first : goal.returns-in_err-write_to-clause-first
 returns-in_err-write_to-clause-first g c = inr (refl, refl)
@@ -43,28 +44,28 @@ returns-then-not-branch-clause-first g c = inr (refl, refl)
 pub returns-then-self-clause-first : goal.returns-then-self-clause-first
 returns-then-self-clause-first g c = inr (refl, refl)
 
+pub returns-in_err-write_to-clause-among : goal.returns-in_err-write_to-clause-among
+returns-in_err-write_to-clause-among g c = but-still g.H.Host g.K.Clock.reads g.D.Loader.loads _ _ _ _ _ _ refl refl
+
+pub returns-then-not-branch-clause-among : goal.returns-then-not-branch-clause-among
+returns-then-not-branch-clause-among g c = but-still g.H.Host g.K.Clock.reads g.D.Loader.loads _ _ _ _ _ _ refl refl
+
+pub returns-then-self-clause-among : goal.returns-then-self-clause-among
+returns-then-self-clause-among g c = but-still g.H.Host g.K.Clock.reads g.D.Loader.loads _ _ _ _ _ _ refl refl
+
+pub returns-clause-among : goal.returns-clause-among
+returns-clause-among g c = c.work.ensures.beside.1
+
 pub returns-in_err-write_to-clause-hears : goal.returns-in_err-write_to-clause-hears
-returns-in_err-write_to-clause-hears g c = hears-same _ _ _ _ _ refl
+returns-in_err-write_to-clause-hears g c =
+    let p = err_from_is_err_and c.from_residual.result c.from_residual.ensures.1 in
+    (hears-same _ _ _ _ _ refl, rw p.1 (λ is. absurd (not-ok _ _ is)))
 
 pub returns-then-not-branch-clause-hears : goal.returns-then-not-branch-clause-hears
-returns-then-not-branch-clause-hears g c = hears-same _ _ _ _ _ refl
+returns-then-not-branch-clause-hears g c = (hears-same _ _ _ _ _ refl, λ is. let no : Room ≡ Input = search rules in cc)
 
 pub returns-then-self-clause-hears : goal.returns-then-self-clause-hears
-returns-then-self-clause-hears g c = hears-same _ _ _ _ _ refl
+returns-then-self-clause-hears g c = (hears-same _ _ _ _ _ refl, λ is. let no : Over ≡ Input = search rules in cc)
 
 pub returns-clause-hears : goal.returns-clause-hears
-returns-clause-hears g c = c.work.ensures.hears.0
-
-pub returns-in_err-write_to-clause-idle : goal.returns-in_err-write_to-clause-idle
-returns-in_err-write_to-clause-idle g c =
-    let p = err_from_is_err_and c.from_residual.result c.from_residual.ensures.1 in
-    rw p.1 (λ is. absurd (not-ok _ _ is))
-
-pub returns-then-not-branch-clause-idle : goal.returns-then-not-branch-clause-idle
-returns-then-not-branch-clause-idle g c = λ is. let no : Room ≡ Input = search rules in cc
-
-pub returns-then-self-clause-idle : goal.returns-then-self-clause-idle
-returns-then-self-clause-idle g c = λ is. let no : Over ≡ Input = search rules in cc
-
-pub returns-clause-idle : goal.returns-clause-idle
-returns-clause-idle g c = c.work.ensures.hears.1
+returns-clause-hears g c = c.work.ensures.hears

@@ -1,5 +1,6 @@
 use Rattle.std.proofs.Common.{◌≡◌, ◌∙◌, refl, sym, subst, rules}
 use Rattle.std.proofs.lemmas.Result.{err_from_is_err_and}
+use Rattle.cache_run.proofs.driver.Interludes.{but-more, but-still}
 use Rattle.cache_link.specs.Served.{IsServed, wire}
 use Rattle.cache_link.specs.declared.link.Next.TheVariants.{Input, Room, Over}
 use Rattle.cache_link.proofs.Dialogues.{same-together}
@@ -33,17 +34,17 @@ returns-clause-goes g c = λ start a x.
     (sym (same-together c.serve-served.new.place c.serve-served.new.place c.serve-served.new.tools.clock c.put_away.new.tools.clock c.serve-served.new.tools.loader c.put_away.new.tools.loader refl c.put_away.ensures.same.0 c.put_away.ensures.same.1)) served in
     (there, λ done. record { served = there; over = c.next.ensures.over (search rules); written = c.put_away.ensures.link.backlog ∙ c.in_ok-written.ensures.all c.if-not-branch.false })
 
-pub returns-in_err-served-clause-writes : goal.returns-in_err-served-clause-writes
-returns-in_err-served-clause-writes g c = writes-sent _ _ _ _ _ c.write_to-written.ensures.later c.write_to-written.ensures.sent
+pub returns-in_err-served-clause-beside : goal.returns-in_err-served-clause-beside
+returns-in_err-served-clause-beside g c = (writes-sent _ _ _ _ _ c.write_to-written.ensures.later c.write_to-written.ensures.sent, c.serve-served.ensures.among)
 
-pub returns-in_err-written-clause-writes : goal.returns-in_err-written-clause-writes
-returns-in_err-written-clause-writes g c = writes-sent _ _ _ _ _ c.write_to-written.ensures.later c.write_to-written.ensures.sent
+pub returns-in_err-written-clause-beside : goal.returns-in_err-written-clause-beside
+returns-in_err-written-clause-beside g c = (writes-sent _ _ _ _ _ c.write_to-written.ensures.later c.write_to-written.ensures.sent, c.serve-served.ensures.among)
 
-pub returns-then-not-branch-clause-writes : goal.returns-then-not-branch-clause-writes
-returns-then-not-branch-clause-writes g c = writes-sent _ _ _ _ _ c.write_to-written.ensures.later c.write_to-written.ensures.sent
+pub returns-then-not-branch-clause-beside : goal.returns-then-not-branch-clause-beside
+returns-then-not-branch-clause-beside g c = (writes-sent _ _ _ _ _ c.write_to-written.ensures.later c.write_to-written.ensures.sent, c.serve-served.ensures.among)
 
-pub returns-clause-writes : goal.returns-clause-writes
-returns-clause-writes g c = writes-sent _ _ _ _ _ c.write_to-written.ensures.later c.write_to-written.ensures.sent
+pub returns-clause-beside : goal.returns-clause-beside
+returns-clause-beside g c = (writes-sent _ _ _ _ _ c.write_to-written.ensures.later c.write_to-written.ensures.sent, but-more g.H.Host g.K.Clock.reads g.D.Loader.loads _ _ _ _ _ refl c.serve-served.ensures.among (but-still g.H.Host g.K.Clock.reads g.D.Loader.loads _ _ _ _ _ _ c.put_away.ensures.same.0 c.put_away.ensures.same.1))
 
 pub returns-in_err-served-clause-hears : goal.returns-in_err-served-clause-hears
 returns-in_err-served-clause-hears g c =

@@ -1,11 +1,12 @@
-use Rattle.std.proofs.Common.{◌≡◌, false, take, refl, sym, ap, ◌∙◌}
+use Rattle.std.proofs.Common.{◌≡◌, [], ◌∷◌, false, take, refl, sym, ap, ◌∙◌}
 use Rattle.std.proofs.lemmas.Result.{err_from_is_err_and}
 use Rattle.std.specs.Option.{is_some, option_map}
 use Rattle.cache_run.specs.declared.devices.errors.RunError.TheVariants.{Moment, OutOfMemory}
-use Rattle.cache_run.specs.Driver.Driven.{IsSettled}
+use Rattle.cache_run.specs.Driver.Driven.{IsSettled, asks_nobody}
 use Rattle.cache_run.specs.Driver.Exchanges.{Fed}
 use Rattle.cache_run.specs.Driver.Hosting.{exchange_of}
 use Rattle.cache_run.proofs.driver.Exchanges.{fed-cut, footing-closed, holds-none, keeps-none, not-late, one-broke, one-went, some-mapped, moves-refused, refused-broke, refused-some}
+use Rattle.cache_run.proofs.driver.Interludes.{but-exchange, but-rest}
 use Rattle.cache_run.proofs.driver.feeding.feed_piece.Goals as goal
 
 pub returns-in_default-clause-goes : goal.returns-in_default-clause-goes
@@ -48,3 +49,26 @@ returns-clause-goes g c =
       none = keeps-none (option_map (λ loads. loads.items) given.loads) c.args.session.now.taken.items _ handed.keeps (some-mapped (λ loads. loads.items) given.loads (came.1.wanted is refl)) empty;
       all = holds-none (take c.args.count c.as_slice.result.now) c.now-moment.result given.held given.closing c.if-held.false;
     }) c.in_ok-hand_out.ensures.sent
+
+pub returns-in_default-clause-among : goal.returns-in_default-clause-among
+returns-in_default-clause-among g c =
+    let closed = c.in_ok-given.ensures.closed (ap is_some c.in_default.is) in
+    but-rest g.H.Host g.K.Clock.reads asks_nobody _ (c.now-moment.result ∷ []) [] _ _ closed.1 (_, c.now-moment.ensures, refl) refl
+
+pub returns-in_err-given-clause-among : goal.returns-in_err-given-clause-among
+returns-in_err-given-clause-among g c = but-rest g.H.Host g.K.Clock.reads asks_nobody _ (c.now-moment.result ∷ []) [] _ _ c.in_err-given.ensures.rests (_, c.now-moment.ensures, refl) refl
+
+pub returns-in_err-hand_out-clause-among : goal.returns-in_err-hand_out-clause-among
+returns-in_err-hand_out-clause-among g c =
+    let came = rw c.in-Some.is at c.in_ok-given.ensures.came in
+    but-exchange g.H.Host g.K.Clock.reads asks_nobody _ (exchange_of (Fed _ c.now-moment.result c.in-Some.given.held) c.in-Some.given) (c.now-moment.result ∷ []) [] _ _ came.0 (_, c.now-moment.ensures, refl) refl
+
+pub returns-then-held-clause-among : goal.returns-then-held-clause-among
+returns-then-held-clause-among g c =
+    let came = rw c.in-Some.is at c.in_ok-given.ensures.came in
+    but-exchange g.H.Host g.K.Clock.reads asks_nobody _ (exchange_of (Fed _ c.now-moment.result c.in-Some.given.held) c.in-Some.given) (c.now-moment.result ∷ []) [] _ _ came.0 (_, c.now-moment.ensures, refl) refl
+
+pub returns-clause-among : goal.returns-clause-among
+returns-clause-among g c =
+    let came = rw c.in-Some.is at c.in_ok-given.ensures.came in
+    but-exchange g.H.Host g.K.Clock.reads asks_nobody _ (exchange_of (Fed _ c.now-moment.result c.in-Some.given.held) c.in-Some.given) (c.now-moment.result ∷ []) [] _ _ came.0 (_, c.now-moment.ensures, refl) refl

@@ -1,9 +1,10 @@
-use Rattle.std.proofs.Common.{length, vec_len, refl, sym, ap, arith, ◌∙◌}
+use Rattle.std.proofs.Common.{[], ◌∷◌, length, vec_len, refl, sym, ap, arith, ◌∙◌}
 use Rattle.std.proofs.lemmas.Result.{err_from_is_err_and}
 use Rattle.std.specs.Option.{option_copied, option_map}
 use Rattle.cache_run.specs.Driver.Exchanges.{GivenUp, Looked, Settled}
 use Rattle.cache_run.specs.Driver.Hosting.{exchange_of}
 use Rattle.cache_run.proofs.driver.Exchanges.{footing-closed, keeps-none, moves-refused, one-settles, refused-broke, some-mapped, asked-once, hand-last, none-last, settle-goes, wanted-by, why-map}
+use Rattle.cache_run.proofs.driver.Interludes.{but-exchange, but-rest}
 use Rattle.cache_run.proofs.driver.settling.settle_one.Goals as goal
 
 pub returns-in_default-clause-goes : goal.returns-in_default-clause-goes
@@ -43,3 +44,15 @@ returns-clause-goes g c =
 
 pub returns-clause-asked : goal.returns-clause-asked
 returns-clause-asked g c = λ lent. asked-once g.D.Loader.loads _ _ _ _ c.load-said.ensures
+
+pub returns-in_default-clause-among : goal.returns-in_default-clause-among
+returns-in_default-clause-among g c = but-exchange g.H.Host g.K.Clock.reads g.D.Loader.loads _ (exchange_of Looked c.await_owed-given.result) [] [] _ _ c.await_owed-given.ensures.came refl refl
+
+pub returns-in_err-given-clause-among : goal.returns-in_err-given-clause-among
+returns-in_err-given-clause-among g c =
+    but-rest g.H.Host g.K.Clock.reads g.D.Loader.loads _ (c.now-moment.result ∷ []) (record { key = c.as_slice.result.now; answer = _ } ∷ []) _ _ c.in_err-given.ensures.rests (_, c.now-moment.ensures, refl) (_, c.load-said.ensures, refl)
+
+pub returns-clause-among : goal.returns-clause-among
+returns-clause-among g c =
+    let came = c.in_ok-given.ensures.came c.as_slice.result.now in
+    but-exchange g.H.Host g.K.Clock.reads g.D.Loader.loads _ (exchange_of came.0 c.in_ok-given.given) (c.now-moment.result ∷ []) (record { key = c.as_slice.result.now; answer = _ } ∷ []) _ _ came.2 (_, c.now-moment.ensures, refl) (_, c.load-said.ensures, refl)
