@@ -40,7 +40,7 @@ for page in docs/man/*; do
     gzip -9n < "$page" > "$folder/page"
     put 644 "$folder/page" "usr/share/man/man${page##*.}/$(basename "$page").gz"
 done
-for document in PROTOCOL OPERATING CHOOSING; do
+for document in PROTOCOL MEMCACHE OPERATING CHOOSING; do
     put 644 "docs/$document.md" "usr/share/doc/cached/$document.md"
 done
 put 644 docs/hit_ratios.svg usr/share/doc/cached/hit_ratios.svg

@@ -39,7 +39,7 @@ same "cached_check" "$(usr/bin/cached_check etc/cached.toml)" "etc/cached.toml: 
 same "a script" "$(printf 'SET a - two words\nGET a\nHAS b\n' | usr/bin/cached --script 2> /dev/null)" $'OK\nVAL two words\nNO'
 same "the programs of the units" "$(grep -h ^ExecStart= usr/lib/systemd/system/*.service | grep -o '/usr/[a-z/]*bin/[a-z]*' | xargs)" "/usr/bin/bivrangd /usr/bin/cached"
 same "the version of bivrangd" "$(usr/bin/bivrangd --version)" "bivrangd $(dpkg-deb -f "$package" Version)"
-usr/bin/bivrangd --check etc/bivrangd.toml > "$folder/told" 2>&1 || fail "bivrangd --check: $(cat "$folder/told")"
+same "bivrangd --check" "$(usr/bin/bivrangd --check etc/bivrangd.toml)" "etc/bivrangd.toml: ok"
 if command -v systemd-analyze > /dev/null; then
     # What the unit of bivrangd runs of the system; the folder has none of it.
     install -D -m 755 /bin/true bin/sh

@@ -10,7 +10,7 @@ use crate::writing::Writing;
 use cache_run::{Watched, send};
 use cached_config::{ConfigFault, ConfigReport, check_hosted};
 use cached_server::{Ending, Fault, Machine, Scribe, Shown, Threaded};
-use crossbeam_channel::{Receiver, Sender, unbounded};
+use crossbeam_channel::{Receiver, Sender, bounded};
 use std::alloc::{AllocError, Global};
 use std::convert::AsStr;
 use std::io::{ErrorKind, Read, Write};
@@ -24,6 +24,9 @@ const VERSION: &[u8] = b"bivrangd 0.2.0\n";
 
 /// The command that lists all that is wrong with a configuration file.
 const CHECK: &str = "bivrangd --check";
+
+/// So many reports may wait for the program. One that comes then waits for room, and no report needs memory.
+const REPORTS: usize = 64;
 
 /// The two ends of the channel by which threads report to the program.
 pub type Orders = (Sender<Told, Global>, Receiver<Told, Global>);
@@ -128,7 +131,8 @@ fn show<O: Write>(text: &[u8], writer: &mut Watched<O>) -> Result<(), Ending> {
     }
 }
 
-/// Writes the faults of the configuration file at a path, a line each, and its warnings. It is an error if there are faults.
+/// Writes the faults of the configuration file at a path, a line each, and its warnings; then, that it is accepted. It is an error if there
+/// are faults.
 fn check_file<O: Write, R: Machine + Files + AllocGlobal>(
     rt: &R,
     alloc: Global,
@@ -139,11 +143,11 @@ fn check_file<O: Write, R: Machine + Files + AllocGlobal>(
     let ConfigReport { faults, warnings } = check_hosted(alloc, text.as_str())?;
     show_each(alloc, path, "", &faults, writer)?;
     show_each(alloc, path, "warning: ", &warnings, writer)?;
-    if faults.is_empty() {
-        Ok(())
-    } else {
-        Err(Ending::from(Fault::BadConfiguration))
+    if !faults.is_empty() {
+        return Err(Ending::from(Fault::BadConfiguration));
     }
+    let accepted = format!(in alloc; "{path}: ok\n")?;
+    show(accepted.as_bytes(), writer)
 }
 
 /// Writes faults of this kind of the file at a path, a line each.
@@ -175,7 +179,7 @@ where
     R: Machine + Files + AllocGlobal,
 {
     let text = fs::read_to_string(&rt, path).map_err(Ending::file)?;
-    let orders = unbounded(alloc)?;
+    let orders = bounded(alloc, REPORTS)?;
     start_reading(rt, input, &orders.0)?;
     serve_text(rt, alloc, text.as_str(), shown, alarms, orders)
 }

@@ -32,7 +32,7 @@ impl Line {
     }
 }
 
-/// Reads lines, and passes on each that stops the server, until there are no more.
+/// Reads lines, and passes on each that stops the server, until there are no more or nobody waits for them.
 pub fn read_orders<I: Read, R: Wait>(rt: &R, input: &mut I, orders: &Sender<Told, Global>) {
     let mut line = Line { shared: Some(0) };
     let mut byte = [0u8; 1];

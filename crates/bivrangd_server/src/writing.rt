@@ -1,7 +1,7 @@
 //! The thread that writes notices.
 
 use cached_server::{Machine, Outlet, Scribe, Shown};
-use crossbeam_channel::{Receiver, unbounded};
+use crossbeam_channel::{Receiver, bounded};
 use std::alloc::{AllocError, Global};
 use std::sync::Arc;
 use std::thread;
@@ -24,7 +24,7 @@ impl Writing {
         outlet: &Arc<Outlet>,
     ) -> Result<Writing, AllocError> {
         let outlet = Arc::try_clone(outlet)?;
-        let (ending, ended) = unbounded(alloc)?;
+        let (ending, ended) = bounded(alloc, 1)?;
         let writing = move || {
             scribe.write_all(&rt, &outlet);
             let _ = ending.send(&rt, ());

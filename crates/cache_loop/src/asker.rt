@@ -2,7 +2,7 @@
 
 use audit_model::{Bytes, LoadId, Outcome};
 use cache_run::Loader;
-use crossbeam_channel::{Receiver, Sender, unbounded};
+use crossbeam_channel::{Receiver, Sender, bounded, unbounded};
 use mio::Waker;
 use std::alloc::{AllocError, Global};
 use std::sync::atomic::{AtomicU64, Ordering};
@@ -84,7 +84,8 @@ impl<R: Threads + Wait + Copy + Send + Sync + 'static> Pool<R> {
         let waker = Arc::new(alloc, waker)?;
         let stale = Arc::new(alloc, AtomicU64::new(0))?;
         let (questions, asked) = unbounded(alloc)?;
-        let (answering, answers) = unbounded(alloc)?;
+        // (an answer waits for room, so none is lost for want of memory)
+        let (answering, answers) = bounded(alloc, loaders.len().max(1))?;
         let mut threads = Vec::with_capacity(alloc, loaders.len())?;
         for loader in loaders {
             let asked = Receiver::clone(&asked)?;
