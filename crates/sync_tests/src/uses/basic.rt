@@ -1,4 +1,5 @@
 //! One cache, which two threads fill.
+use crate::caches::{Moments, make_moments};
 use moka_sync::{BuildError, Cache, CacheError, Env, MachineEnv, PlainCache};
 use std::alloc::Global;
 use std::random::RandomSource;
@@ -29,9 +30,9 @@ fn fill<H: Wait, E: Env + Drop>(
 }
 
 /// Two threads insert at the same time. Then one price is invalidated.
-fn fill_twice<R: Threads + Wait + Clock + Copy + Drop + Send + Sync>(
+fn fill_twice<R: Threads + Wait + Sync, E: Env<Watch: Send + Sync, Generator: Send> + Drop + Send>(
     rt: &R,
-    prices: &Prices<MachineEnv<R>>,
+    prices: &Prices<E>,
 ) -> Result<(), CacheError> {
     let (low, high) = thread::join(
         rt,
@@ -45,14 +46,25 @@ fn fill_twice<R: Threads + Wait + Clock + Copy + Drop + Send + Sync>(
 // end
 
 /// Whether the prices that were written can be read, but for the one that was taken back.
-fn is_filled<R: Threads + Wait + Clock + Copy + Drop + Send + Sync>(
+fn is_filled<R: Threads + Wait + Sync, E: Env<Watch: Send + Sync, Generator: Send> + Drop + Send>(
     rt: &R,
-    prices: &Prices<MachineEnv<R>>,
+    prices: &Prices<E>,
 ) -> bool {
     fill_twice(rt, prices) == Ok(())
         && prices.get(rt, &1) == Ok(None)
         && prices.get(rt, &2) == Ok(Some(100))
         && prices.get(rt, &6) == Ok(Some(100))
+}
+
+/// The same of a cache, if it could be made.
+fn is_made_and_filled<
+    R: Threads + Wait + Sync,
+    E: Env<Watch: Send + Sync, Generator: Send> + Drop + Send,
+>(rt: &R, made: Option<Prices<E>>) -> bool {
+    match made {
+        Some(prices) => is_filled(rt, &prices),
+        None => false,
+    }
 }
 
 /// An empty cache, by the machine's clock.
@@ -63,15 +75,17 @@ fn make<C: Clock + RandomSource + Drop>(alloc: Global, rt: C) -> Option<Prices<M
     }
 }
 
-/// The same of a new cache.
+/// An empty cache, by a clock that is set by hand.
+fn make_by_hand(alloc: Global) -> Option<Prices<Moments>> {
+    make_prices(alloc, make_moments(alloc)?).ok()
+}
+
+/// The same of a new cache of each of these environments.
 fn is_filled_anew<R: Threads + Wait + Sync + Clock + RandomSource + Copy + Drop + Send>(
     rt: &R,
     alloc: Global,
 ) -> bool {
-    match make(alloc, *rt) {
-        Some(prices) => is_filled(rt, &prices),
-        None => false,
-    }
+    is_made_and_filled(rt, make(alloc, *rt)) && is_made_and_filled(rt, make_by_hand(alloc))
 }
 
 #[test]

@@ -64,7 +64,10 @@ fn render<H: Wait, E: Env + Drop>(
 }
 
 /// Two threads render pages at the same time.
-fn render_all<R: Machine + Drop>(rt: &R, pages: &Pages<MachineEnv<R>>) -> Result<(), CacheError> {
+fn render_all<R: Threads + Wait + Sync, E: Env<Watch: Send + Sync, Generator: Send> + Drop + Send>(
+    rt: &R,
+    pages: &Pages<E>,
+) -> Result<(), CacheError> {
     let (low, high) = thread::join(
         rt,
         || render(rt, pages, &[1, 2]),
