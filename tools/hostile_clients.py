@@ -8,7 +8,7 @@ protocol. Without `--server`, all of them. The cases; without a name, all that t
 
     descriptors  80 connections to a server that has 60 descriptors: all are answered, as others end
     rooms        a namespace without connections while the connections of another one have all descriptors: the server continues
-    short        20,000 connections one after the other: each leaves at most 16 bytes of memory
+    short        20,000 connections one after the other: each leaves at most 4 bytes of memory
     halves       200 clients that send half a request and wait; another one is answered in the meantime, and they are once they continue
     garbage      200 clients that send random bytes and half requests; another one gets only its own replies, and soon
     resets       500 clients that reset their connection, some during their replies, some during a long one; then another is answered
@@ -405,8 +405,8 @@ def short(connections=20_000):
         left = (server.resident_kibibytes() - before) * 1024 / connections
         print(f"short: {connections} connections, {left:.1f} bytes left of each, "
               f"{(time.monotonic() - start) / connections * 1e6:.0f} us each")
-        if left > 16:
-            raise Failed("a connection leaves more than 16 bytes")
+        if left > 4:
+            raise Failed("a connection leaves more than 4 bytes")
     finally:
         server.stop()
 

@@ -309,7 +309,7 @@ def next_port():
 
 def serve(refuser, words, folder, use, **how):
     """Starts the server so, uses it by its port, and stops it. Answers how it ended, its counts, and what the use returned; None if it never
-    listened."""
+    listened, and False if it was used in vain."""
     port = next_port()
     config = pathlib.Path(folder, f"{port}.toml")
     config.write_text(CONFIG.format(port=port), encoding="ascii")
@@ -319,16 +319,14 @@ def serve(refuser, words, folder, use, **how):
     try:
         if server.stdout.readline():
             used = use(port)
-        # (a line that finds no memory may be lost, and after a second one it ends at once)
-        for _ in range(3):
-            with contextlib.suppress(OSError):
-                server.stdin.write(b"stop\n")
-                server.stdin.flush()
-            with contextlib.suppress(subprocess.TimeoutExpired):
-                server.wait(12)
-                break
+        with contextlib.suppress(OSError):
+            server.stdin.write(b"stop\n")
+            server.stdin.flush()
+        with contextlib.suppress(subprocess.TimeoutExpired):
+            server.wait(12)
         ended = subprocess.CompletedProcess(words, server.poll(), b"", server.stderr.read() if server.poll() is not None else b"it does not stop")
     except Wrong as error:
+        used = False
         # (while it starts, a client may be served already)
         with contextlib.suppress(subprocess.TimeoutExpired):
             server.wait(1)
@@ -458,7 +456,8 @@ class Table:
         def one(way, number):
             ended, counts, lacked = serve(self.refuser, [copy], folder, lambda port: play(port, right), **hows[way](number))
             may_end = [0]
-            if number <= begun:
+            # (how many it asks for while it starts depends on its threads, which may start after it says that it listens)
+            if number <= begun + IN_A_ROW or lacked is None:
                 may_end += [1 if ended.stderr or way == "following" else 2, 2]
             passed = ended.returncode in may_end
             return number, counts, passed, ended, lacked
