@@ -9,16 +9,22 @@
                                             rounds in turn, medians; fills figures.json
     python3 benches/connections.py soak     a million requests over 200 connections, with the server's memory on the way
     python3 benches/connections.py memory   what the server holds for each of a million values
-    python3 benches/connections.py idle     what `bivrangd` holds for each of 5,000 idle connections, and what is left once they have closed
+    python3 benches/connections.py idle     what `bivrangd` holds for each of 10,000 idle connections, what is left once they have closed, and
+                                            what a request over 16 others costs without and with them
+    python3 benches/connections.py waits    how long a request waits that comes at its time, over 64 connections at half the rate that the
+                                            slowest of `cached`, `bivrangd` and `redis` reaches: three rounds in turn
+    python3 benches/connections.py spaces   requests a second of one namespace of `bivrangd`, and of two, each with one loop: three rounds
 
 Build the servers first (servers.py says where they are). Half of the requests are SET, half GET, with keys of 16 bytes and values of 32. Each connection has keys
 of its own, so a GET returns what the same connection stored last, or NONE if that was evicted: each reply is compared, and a stale value
 ends the run with an error. With `hits` each has stored all its keys before.
 """
+import collections
 import contextlib
 import multiprocessing
 import pathlib
 import random
+import resource
 import selectors
 import shutil
 import socket
@@ -44,7 +50,10 @@ SOAK_CONNECTIONS, SOAK_REQUESTS, SOAK_DEPTH = 200, 1_000_000, 8
 CLIENT_PROCESSES = 3
 ANSWER_SECONDS = 30
 HELD = 1_000_000
-IDLE = 5_000
+IDLE, ACTIVE = 10_000, 16
+# (each client process that keeps time takes a core)
+WAITING, WAIT_SECONDS, WAIT_PROCESSES = 64, 5, 2
+SPACES_CONNECTIONS, SPACES_LINES, SPACES_BATCHES = 16, 1_000, 150
 
 
 class Lines:
@@ -412,8 +421,15 @@ def memory():
 
 def idle():
     """Connects so many clients, each of which asks once, and tells what that takes."""
+    allowed = resource.getrlimit(resource.RLIMIT_NOFILE)[1]
+    resource.setrlimit(resource.RLIMIT_NOFILE, (min(allowed, 2 * IDLE), allowed))
     server = Bivrangd(KEYS)
+    done, _, used = run(server, ACTIVE, 1, DEPTHS[1])
+    alone = used / done * 1e6
     with socket.create_connection((HOST, server.port), timeout=ANSWER_SECONDS) as client:
+        # (the others begin anew)
+        client.sendall(b"CLEAR\n")
+        client.recv(100)
         client.sendall(b"SYNC\n")
         client.recv(100)
         before = server.resident_kibibytes()
@@ -424,20 +440,151 @@ def idle():
             clients[-1].recv(100)
             progress.show(f"{number:,} of {IDLE:,} connections")
         progress.clear()
-        used = (server.resident_kibibytes() - before) * 1024
-        for held in clients:
-            held.close()
+        held = (server.resident_kibibytes() - before) * 1024
+        done, _, used = run(server, ACTIVE, 1, DEPTHS[1])
+        beside_idle = used / done * 1e6
+        for idle_one in clients:
+            idle_one.close()
         time.sleep(1)
         client.sendall(b"SYNC\n")
         client.recv(100)
         left = (server.resident_kibibytes() - before) * 1024
     server.stop()
-    figures.keep("idle", {"bivrangd": {"bytes": round(used / IDLE), "left": round(left / IDLE)}})
-    print(f"{IDLE} idle connections: {used / IDLE:.0f} bytes each, {left / IDLE:.0f} once they have closed")
+    row = {"bytes": round(held / IDLE), "left": round(left / IDLE), "alone": round(alone, 1), "beside": round(beside_idle, 1)}
+    figures.keep("idle", {"bivrangd": row})
+    print(f"{IDLE} idle connections: {held / IDLE:.0f} bytes each, {left / IDLE:.0f} once they have closed;"
+          f" over {ACTIVE} others a request costs {alone:.1f} us without them and {beside_idle:.1f} us with them")
+
+
+class Paced(Client):
+    """One that sends a request when its time has come, and notes how long after it the reply was there."""
+
+    due = None
+
+    def ask(self, due):
+        self.due = due
+        self.send()
+
+
+def drive_paced(port, dialect, numbers, rate, count, waited):
+    """Sends so many requests, this many a second, each over a connection that waits for none; puts how long each waited."""
+    poll, waits, late = selectors.DefaultSelector(), [], collections.deque()
+    free = [Paced(port, dialect, number, KEYS // WAITING, 1, count, False) for number in numbers]
+    for client in free:
+        poll.register(client.socket, selectors.EVENT_READ, client)
+    sent, start = 0, time.perf_counter()
+    while len(waits) < count:
+        now = time.perf_counter()
+        while sent < count and start + sent / rate <= now:
+            late.append(start + sent / rate)
+            sent += 1
+        while late and free:
+            free.pop().ask(late.popleft())
+        # (a selector waits for whole milliseconds)
+        for key, _ in poll.select(0):
+            if key.data.receive():
+                waits.append(time.perf_counter() - key.data.due)
+                free.insert(0, key.data)
+    waited.put(waits)
+
+
+def waits_at(server, rate):
+    """How long each of a few seconds' requests waits, sorted, at so many a second in all."""
+    waited, each = multiprocessing.Queue(), rate / WAIT_PROCESSES
+    words = [
+        (server.port, server.dialect, range(first, WAITING, WAIT_PROCESSES), each, int(each * WAIT_SECONDS), waited)
+        for first in range(WAIT_PROCESSES)
+    ]
+    drivers = [multiprocessing.Process(target=drive_paced, args=of) for of in words]
+    for driver in drivers:
+        driver.start()
+    waits = sorted(wait for _ in drivers for wait in waited.get(timeout=ANSWER_SECONDS + 2 * WAIT_SECONDS))
+    for driver in drivers:
+        driver.join()
+    return waits
+
+
+def waits():
+    """Fills figures.json with the medians over the rounds of the middle wait and of that which one request in a hundred exceeds."""
+    makes = {name: make for name, make in SERVERS.items() if name in ("cached", "bivrangd", "redis") and make.is_there()}
+    rates = {}
+    for name, make in makes.items():
+        progress.show(f"{name}: its rate")
+        server = make(KEYS)
+        done, seconds, _ = run(server, WAITING, 1, DEPTHS[1])
+        rates[name] = done / seconds
+        server.stop()
+    rate, taken = min(rates.values()) / 2, {name: [] for name in makes}
+    for _ in range(ROUNDS):
+        for name, make in makes.items():
+            progress.show(f"{name}: {rate:,.0f} requests a second")
+            server = make(KEYS)
+            taken[name].append([it * 1e6 for it in waits_at(server, rate)])
+            server.stop()
+    progress.clear()
+    for name, rounds in taken.items():
+        row = {}
+        for word, part in (("half", 0.5), ("one in a hundred", 0.99)):
+            values = [of[int(len(of) * part)] for of in rounds]
+            row[word] = figures.spread(values, statistics.median(values), 0)
+        figures.keep("waits", {name: {**row, "rate": round(rate)}})
+        print(f"{name}: at {rate:,.0f} requests a second half wait at most {row['half'][0]:.0f} us, 99 of 100 at most {row['one in a hundred'][0]:.0f} us")
+
+
+def drive_spaces(port, number, ready, started):
+    """Sends batches of lines over some connections of a namespace, each when the one before was answered; each reply is compared."""
+    lines = b"".join(b"SET key-%012d - value-%026d\nGET key-%012d\n" % (place, place, place) for place in range(SPACES_LINES // 2))
+    right = b"".join(b"OK\nVAL value-%026d\n" % place for place in range(SPACES_LINES // 2))
+    links = [socket.create_connection((HOST, port), timeout=ANSWER_SECONDS) for _ in range(SPACES_CONNECTIONS)]
+    ready.wait()
+    started.wait()
+    for _ in range(SPACES_BATCHES):
+        for link in links:
+            link.sendall(lines)
+        for link in links:
+            left = len(right)
+            pieces = []
+            while left:
+                pieces.append(link.recv(left))
+                left -= len(pieces[-1])
+                if not pieces[-1]:
+                    sys.exit("the server closed a connection")
+            if b"".join(pieces) != right:
+                sys.exit(f"namespace {number} replies something else")
+
+
+def rate_of_spaces(count):
+    """Requests a second of so many namespaces at once, each with a loop and a client process of its own."""
+    server = Bivrangd.__new__(Bivrangd)
+    ports = free_ports(count)
+    server.start([f'name = "space-{number}"\nport = {port}\ncapacity = {KEYS}\nloops = 1\nnotices = "off"\n' for number, port in enumerate(ports)])
+    ready, started = multiprocessing.Barrier(count + 1), multiprocessing.Event()
+    drivers = [multiprocessing.Process(target=drive_spaces, args=(port, number, ready, started)) for number, port in enumerate(ports)]
+    for driver in drivers:
+        driver.start()
+    ready.wait(ANSWER_SECONDS)
+    begun = time.perf_counter()
+    started.set()
+    for driver in drivers:
+        driver.join()
+    seconds = time.perf_counter() - begun
+    server.stop()
+    if any(driver.exitcode for driver in drivers):
+        sys.exit(1)
+    return count * SPACES_CONNECTIONS * SPACES_LINES * SPACES_BATCHES / seconds
+
+
+def spaces():
+    """Fills figures.json with the rates of one namespace and of two."""
+    rates = {count: [rate_of_spaces(count) / 1e6 for _ in range(ROUNDS)] for count in (1, 2)}
+    for count, of in rates.items():
+        figures.keep("spaces", {str(count): {"millions": figures.spread(of, statistics.median(of))}})
+    one, two = (statistics.median(of) for of in rates.values())
+    print(f"one namespace: {one:.2f} million requests a second; two: {two:.2f}, {two / one:.2f} times as many")
 
 
 SERVERS = {"cached": Server, "bivrangd": Bivrangd, "memcache": Memcache, "redis": Redis, "memcached": Memcached, "plain": Plain}
-KINDS = {"soak": soak, "memory": memory, "idle": idle, "beside": beside, "hits": hits}
+KINDS = {"soak": soak, "memory": memory, "idle": idle, "waits": waits, "spaces": spaces, "beside": beside, "hits": hits}
 
 
 if __name__ == "__main__":

@@ -42,6 +42,12 @@ def hits(kept):
     return table(["Connections", "Depth", *names.values()], rows)
 
 
+def waits(kept):
+    names = {"bivrangd": "`bivrangd`", "cached": "`cached`", "redis": "Redis"}
+    rows = [[said, *(shown(kept["waits"][name][word]) for word in ("half", "one in a hundred"))] for name, said in names.items() if name in kept["waits"]]
+    return table(["Server", "Half wait at most", "99 of 100 wait at most"], rows)
+
+
 def calls(kept):
     def cell(size, work):
         found = [kept["calls"][size].get(f"{name} {work}") for name in ("tiny_lfu", "lru_cache", "caffeine")]
@@ -155,16 +161,20 @@ def judge(kept):
 def server(kept):
     lines, line = kept["million_lines"]["a million lines"]["seconds"], kept["instructions"]["a line"]
     memory, soak, made = kept["memory"]["cached"]["bytes"], kept["soak"]["cached"], kept["calls_made"]["GET a"]
-    idle = kept["idle"]["bivrangd"]["bytes"]
+    idle, spaces = kept["idle"]["bivrangd"], kept.get("spaces")
     rows = [
         ("million_lines", "`million_lines.py`", f"{shown(lines, 2)} s of processor time", "1 s"),
         ("memory", "`connections.py memory`", f"{memory} bytes per value in addition to key and value: a million values of 32 bytes, keys of 16", "200"),
-        ("idle", "`connections.py idle`", f"{idle} bytes for each of 5,000 idle connections of `bivrangd`", "350"),
+        ("idle", "`connections.py idle`", f"{idle['bytes']} bytes for each of 10,000 idle connections of `bivrangd`; a request over 16 others takes "
+         f"{idle['alone']} us without them, {idle['beside']} us with them", "350, and no more"),
         ("soak", "`connections.py soak`", f"at most {soak['first quarter']} MiB in the first quarter of a million requests, {soak['last quarter']} MiB in the last", "flat"),
         ("instructions", "`instructions.py`", f"{shown(line['cached'])} instructions per line, `plain_server` {shown(line['plain_server'])}: "
          f"{line['cached'] / line['plain_server']:.2f} times", "1,400, and 1.3 times"),
         ("calls_made", "`calls.py`", f"a `GET` makes {made['all']} calls, {made['own']} of them to functions of this repository and the kit's crates", ""),
     ]
+    if spaces:
+        one, two = (figures.middle(spaces[count]["millions"]) for count in ("1", "2"))
+        rows.append(("spaces", "`connections.py spaces`", f"{one} million requests a second of one namespace of `bivrangd` with one loop, {two} of two: {two / one:.2f} times", "1.8 times"))
     dated = [[name, kept["measured"][kind].split(",")[0], figure, goal] for kind, name, figure, goal in rows]
     return table(["Benchmark", "Measured", "Figure", "Goal"], dated)
 
@@ -205,6 +215,7 @@ def same_memory(kept):
 TABLES = {
     "requests": ("requests", requests),
     "hits": ("hits", hits),
+    "waits": ("waits", waits),
     "same memory": ("same_memory", same_memory),
     "server": (None, server),
     "calls": ("calls", calls),
