@@ -1,4 +1,4 @@
-"""A client of `cached`, a cache server with a line protocol (docs/PROTOCOL.md).
+"""A client of `bivrangd` and `cached`, cache servers with a line protocol (docs/PROTOCOL.md).
 
 It needs only Python's standard library, for Python 3.8 or later.
 

@@ -30,6 +30,7 @@ from ._errors import (
     ConnectTimeout,
     LinkError,
     PoolTimeout,
+    is_path,
 )
 from ._links import RECEIVED_AT_ONCE, Link, Pool, Receive, Send, Steps, limit
 from ._protocol import (
@@ -189,12 +190,31 @@ class Commands(KeyedCommands[Given, Told]):
         return self._ask(Request.ping())
 
 
+def _connected(host: str, port: int, seconds: float) -> socket.socket:
+    """A socket connected to a port of a host, or to a path."""
+    if is_path(host):
+        link = socket.socket(socket.AF_UNIX, socket.SOCK_STREAM)
+    else:
+        link = socket.create_connection((host, port), timeout=seconds)
+    try:
+        if is_path(host):
+            link.settimeout(seconds)
+            link.connect(host)
+        else:
+            link.setsockopt(socket.IPPROTO_TCP, socket.TCP_NODELAY, 1)
+        return link
+    except BaseException:
+        link.close()
+        raise
+
+
 class Connection(Link, Commands[Text, bytes]):
     """One connection to one namespace, for one thread at a time. It does not reconnect: after a
     `LinkError` it is closed, and stays closed. In a child process made by `fork` it is closed,
     which the parent and the server do not notice.
 
-    host, port: the address of the namespace.
+    host, port: the address of the namespace. A host that begins with `/` is the path of a Unix
+        socket (of `bivrangd`), and the port is not used.
     connect_seconds: the time limit for connecting.
     reply_seconds: the time limit for sending, and for each line of a reply, counted from the
         sending or from the line before.
@@ -213,8 +233,7 @@ class Connection(Link, Commands[Text, bytes]):
     ) -> None:
         super().__init__(host, port, reply_seconds)
         try:
-            self._socket = socket.create_connection((host, port), timeout=limit(connect_seconds))
-            self._socket.setsockopt(socket.IPPROTO_TCP, socket.TCP_NODELAY, 1)
+            self._socket = _connected(host, port, limit(connect_seconds))
         except OSError as error:
             self.close()
             failed = connect_error(error, connect_seconds)
@@ -283,7 +302,8 @@ class Client(Pool[Connection], Commands[Given, Told]):
     """A pool of connections to one namespace, which threads share. Connections are made when they
     are needed, and kept. A child process made by `fork` makes its own.
 
-    host, port: the address of the namespace.
+    host, port: the address of the namespace. A host that begins with `/` is the path of a Unix
+        socket (of `bivrangd`), and the port is not used.
     connections: the maximum number of connections, at least 1.
     connect_seconds, reply_seconds: the time limits of each, as in `Connection`.
     wait_seconds: how long a call waits at most for a connection while all are in use; then it

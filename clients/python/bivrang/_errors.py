@@ -2,12 +2,22 @@
 from typing import Dict, Optional, Type
 
 
+def is_path(host: str) -> bool:
+    """Whether a host is the path of a Unix socket."""
+    return host.startswith("/")
+
+
+def place_of(host: str, port: Optional[int]) -> str:
+    """How a server is called in texts."""
+    return host if is_path(host) else f"{host}:{port}"
+
+
 class BivrangError(Exception):
     """The base class of all exceptions of this package. Their texts name the server and the key,
     where they are known."""
 
     host: Optional[str] = None
-    """The host of the server."""
+    """The host of the server, or the path of its Unix socket."""
     port: Optional[int] = None
     """The port of the namespace."""
     key: Optional[bytes] = None
@@ -18,7 +28,7 @@ class BivrangError(Exception):
         if self.key is not None:
             places.append(f"key {self.key.decode('ascii', 'backslashreplace')}")
         if self.host is not None:
-            places.append(f"server {self.host}:{self.port}")
+            places.append(f"server {place_of(self.host, self.port)}")
         text = super().__str__()
         return f"{text} ({', '.join(places)})" if places else text
 

@@ -25,6 +25,7 @@ from ._errors import (
     LinkError,
     PoolClosed,
     ReplyTimeout,
+    place_of,
 )
 from ._protocol import Call, Mismatch, window
 
@@ -105,7 +106,7 @@ class Link(Forked):
 
     def __repr__(self) -> str:
         state = "open" if self.is_open else "closed"
-        return f"<{type(self).__name__} {self.host}:{self.port}, {state}>"
+        return f"<{type(self).__name__} {place_of(self.host, self.port)}, {state}>"
 
     @property
     def is_open(self) -> bool:
@@ -269,7 +270,7 @@ class Pool(Forked, Generic[AnyLink]):
     def __repr__(self) -> str:
         idle = f"{len(self._idle)} idle of at most {self._connections} connections"
         state = "closed" if self._is_closed else idle
-        return f"<{type(self).__name__} {self.host}:{self.port}, {state}>"
+        return f"<{type(self).__name__} {place_of(self.host, self.port)}, {state}>"
 
     def close(self) -> None:
         """Closes the idle connections, and each other one when its call has ended. Later calls

@@ -39,7 +39,7 @@ from typing import (
 
 from . import _blocking
 from ._codecs import RAW, Codec, Given, Text, Told
-from ._errors import BivrangError, ConnectionBroken, LinkError, PoolTimeout
+from ._errors import BivrangError, ConnectionBroken, LinkError, PoolTimeout, is_path
 from ._links import RECEIVED_AT_ONCE, Link, Pool, Receive, Send, Steps
 from ._protocol import (
     Call,
@@ -180,7 +180,9 @@ _NOT_YET = (BlockingIOError, InterruptedError)
 
 
 async def _addresses(host: str, port: int, until: float) -> List[Any]:
-    """The addresses of a host, as `socket.getaddrinfo` returns them."""
+    """The addresses of a host, as `socket.getaddrinfo` returns them, or that of a path."""
+    if is_path(host):
+        return [(socket.AF_UNIX, socket.SOCK_STREAM, 0, "", host)]
     search = asyncio.get_running_loop().getaddrinfo(host, port, type=socket.SOCK_STREAM)
     try:
         return await asyncio.wait_for(search, until - time.monotonic())
@@ -207,9 +209,12 @@ async def _connected(host: str, port: int, until: float) -> socket.socket:
 
 async def _connect(link: socket.socket, address: Any, until: float) -> None:
     link.setblocking(False)
-    link.setsockopt(socket.IPPROTO_TCP, socket.TCP_NODELAY, 1)
+    has_path = isinstance(address, str)
+    if not has_path:
+        link.setsockopt(socket.IPPROTO_TCP, socket.TCP_NODELAY, 1)
     code = link.connect_ex(address)
-    if code in (errno.EINPROGRESS, errno.EWOULDBLOCK):
+    # (to a path it connects at once or not at all)
+    if code in (errno.EINPROGRESS, errno.EWOULDBLOCK) and not has_path:
         await _ready(link, until, is_to_send=True)
         code = link.getsockopt(socket.SOL_SOCKET, socket.SO_ERROR)
     if code:

@@ -211,13 +211,18 @@ class Fake:
     """A listener that deals with one connection behind the other by the acts it is given."""
 
     def __init__(self, case, *acts):
-        self.listener = socket.create_server((HOST, 0))
+        self.listener = self.bound(case)
         self.listener.settimeout(PATIENCE)
-        self.port = self.listener.getsockname()[1]
         self.received = []
         self.thread = threading.Thread(target=self.serve, args=(acts,), daemon=True)
         self.thread.start()
         case.addCleanup(self.end)
+
+    def bound(self, case):
+        """The listener."""
+        listener = socket.create_server((HOST, 0))
+        self.port = listener.getsockname()[1]
+        return listener
 
     def serve(self, acts):
         for act in acts:
@@ -247,6 +252,19 @@ class Fake:
             self.listener.shutdown(socket.SHUT_RDWR)
             self.thread.join(PATIENCE)
         self.listener.close()
+
+
+class FakeAtPath(Fake):
+    """One that listens at the path of a Unix socket."""
+
+    def bound(self, case):
+        folder = tempfile.TemporaryDirectory()
+        case.addCleanup(folder.cleanup)
+        self.path = str(pathlib.Path(folder.name, "socket"))
+        listener = socket.socket(socket.AF_UNIX)
+        listener.bind(self.path)
+        listener.listen()
+        return listener
 
 
 def replies(*texts):

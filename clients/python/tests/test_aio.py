@@ -55,6 +55,10 @@ class Pipelines(AwaitedCase, test_client.Pipelines):
     test_loads_in_a_pipeline = None
 
 
+class Paths(AwaitedCase, test_client.Paths):
+    pass
+
+
 class Pools(AwaitedCase, test_client.Pools):
     test_threads_share_a_pool = None
 

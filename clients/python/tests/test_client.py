@@ -6,7 +6,7 @@ import socket
 import threading
 import time
 
-from support import HOST, PATIENCE, SHORT, Fake, FakeCase, RealCase, RealServer
+from support import HOST, PATIENCE, SHORT, Fake, FakeAtPath, FakeCase, RealCase, RealServer
 from support import free_port, read_all, read_all_or_reset
 from support import replies, replies_and_ends, resets, trickles
 import bivrang
@@ -428,6 +428,26 @@ class Retries(FakeCase):
         time.sleep(SHORT)
         cache.set("a", "2")
         self.assertEqual([line for line in fake.received], [b"SET a - 1\n", b"SET a - 2\n"])
+
+
+class Paths(FakeCase):
+    def test_path_of_a_unix_socket(self):
+        fake = FakeAtPath(self, replies(b"OK\n", b"VAL 1\n"), replies(b"ERR number\n"))
+        cache = self.make(fake.path, reply_seconds=PATIENCE)
+        self.addCleanup(cache.close)
+        cache.set("a", "1")
+        self.assertEqual(cache.get("a"), b"1")
+        self.assertEqual(fake.received, [b"SET a - 1\nGET a\n"])
+        self.assertIn(f"<Client {fake.path}, 1 idle", repr(cache))
+        cache._idle.pop().close()
+        with self.assertRaisesRegex(bivrang.ServerError, f"server {fake.path}\\)"):
+            cache.incr("a", 1)
+
+    def test_path_at_which_nobody_listens(self):
+        cache = self.make("/nowhere/socket", reply_seconds=PATIENCE)
+        self.addCleanup(cache.close)
+        with self.assertRaisesRegex(bivrang.ConnectFailed, "server /nowhere/socket"):
+            cache.get("a")
 
 
 class BrokenReplies(FakeCase):

@@ -1,4 +1,4 @@
-//! A client of `cached`, a cache server with a line protocol (`docs/PROTOCOL.md` of the
+//! A client of `bivrangd` and `cached`, cache servers with a line protocol (`docs/PROTOCOL.md` of the
 //! repository).
 //!
 //! Its calls block. It needs only the standard library.
@@ -30,6 +30,8 @@ use std::collections::HashSet;
 use std::fmt;
 use std::io::{self, Read, Write};
 use std::net::{TcpStream, ToSocketAddrs};
+#[cfg(unix)]
+use std::os::unix::net::UnixStream;
 use std::sync::{Arc, Condvar, Mutex, MutexGuard, PoisonError};
 use std::time::{Duration, Instant};
 
@@ -765,7 +767,7 @@ pub struct Connection {
     address: String,
     /// The process that opened it. Another one, made by `fork`, would read its replies.
     process: u32,
-    stream: Option<TcpStream>,
+    stream: Option<Stream>,
     received: Vec<u8>,
     /// How many bytes at the front of `received` were already used.
     taken: usize,
@@ -779,28 +781,108 @@ fn is_timeout(error: &io::Error) -> bool {
     )
 }
 
-/// A connection to the first socket address that accepts it.
-fn connect(address: &str, limit: Duration) -> io::Result<TcpStream> {
-    let mut failed = io::Error::new(io::ErrorKind::NotFound, "the address names no place");
-    for place in address.to_socket_addrs()? {
-        match TcpStream::connect_timeout(&place, limit) {
-            Ok(stream) => return Ok(stream),
-            Err(error) => failed = error,
+/// The socket of a connection: to a port, or to a path.
+#[derive(Debug)]
+enum Stream {
+    Tcp(TcpStream),
+    #[cfg(unix)]
+    Unix(UnixStream),
+}
+
+impl Stream {
+    /// A connection to a path, or else to the first socket address that accepts it.
+    fn connect(address: &str, limit: Duration) -> io::Result<Stream> {
+        #[cfg(unix)]
+        if address.starts_with('/') {
+            return UnixStream::connect(address).map(Stream::Unix);
+        }
+        let mut failed = io::Error::new(io::ErrorKind::NotFound, "the address names no place");
+        for place in address.to_socket_addrs()? {
+            match TcpStream::connect_timeout(&place, limit) {
+                Ok(stream) => {
+                    stream.set_nodelay(true)?;
+                    return Ok(Stream::Tcp(stream));
+                }
+                Err(error) => failed = error,
+            }
+        }
+        Err(failed)
+    }
+
+    fn set_read_timeout(&self, limit: Duration) -> io::Result<()> {
+        match self {
+            Stream::Tcp(stream) => stream.set_read_timeout(Some(limit)),
+            #[cfg(unix)]
+            Stream::Unix(stream) => stream.set_read_timeout(Some(limit)),
         }
     }
-    Err(failed)
+
+    fn set_write_timeout(&self, limit: Duration) -> io::Result<()> {
+        match self {
+            Stream::Tcp(stream) => stream.set_write_timeout(Some(limit)),
+            #[cfg(unix)]
+            Stream::Unix(stream) => stream.set_write_timeout(Some(limit)),
+        }
+    }
+
+    fn set_nonblocking(&self, is_nonblocking: bool) -> io::Result<()> {
+        match self {
+            Stream::Tcp(stream) => stream.set_nonblocking(is_nonblocking),
+            #[cfg(unix)]
+            Stream::Unix(stream) => stream.set_nonblocking(is_nonblocking),
+        }
+    }
+
+    /// Whether neither bytes nor the end have come, without waiting. Of a path, a byte that has
+    /// come is lost.
+    fn is_silent(&self) -> bool {
+        if self.set_nonblocking(true).is_err() {
+            return false;
+        }
+        let came = match self {
+            Stream::Tcp(stream) => stream.peek(&mut [0]),
+            #[cfg(unix)]
+            Stream::Unix(stream) => (&*stream).read(&mut [0]),
+        };
+        let is_silent = matches!(came, Err(error) if error.kind() == io::ErrorKind::WouldBlock);
+        is_silent && self.set_nonblocking(false).is_ok()
+    }
+}
+
+impl Read for Stream {
+    fn read(&mut self, room: &mut [u8]) -> io::Result<usize> {
+        match self {
+            Stream::Tcp(stream) => stream.read(room),
+            #[cfg(unix)]
+            Stream::Unix(stream) => stream.read(room),
+        }
+    }
+}
+
+impl Write for Stream {
+    fn write(&mut self, text: &[u8]) -> io::Result<usize> {
+        match self {
+            Stream::Tcp(stream) => stream.write(text),
+            #[cfg(unix)]
+            Stream::Unix(stream) => stream.write(text),
+        }
+    }
+
+    fn flush(&mut self) -> io::Result<()> {
+        Ok(())
+    }
 }
 
 impl Connection {
-    /// Connects to an address, such as `127.0.0.1:7411`. Fails with `Connect` or `ConnectTimeout`.
+    /// Connects to an address, such as `127.0.0.1:7411`, or to the path of a Unix socket, from `/`
+    /// on, for which there is no time limit. Fails with `Connect` or `ConnectTimeout`.
     pub fn open(address: &str, options: &Options) -> Result<Connection, Error> {
         Connection::made(address, options).map_err(|kind| kind.asking(address, &[]))
     }
 
     fn made(address: &str, options: &Options) -> Result<Connection, ErrorKind> {
-        let made = connect(address, options.connect).and_then(|stream| {
-            stream.set_nodelay(true)?;
-            stream.set_write_timeout(Some(options.reply))?;
+        let made = Stream::connect(address, options.connect).and_then(|stream| {
+            stream.set_write_timeout(options.reply)?;
             Ok(stream)
         });
         match made {
@@ -828,15 +910,9 @@ impl Connection {
         let Some(stream) = &self.stream else {
             return false;
         };
-        if self.process != std::process::id()
-            || self.taken < self.received.len()
-            || stream.set_nonblocking(true).is_err()
-        {
-            return false;
-        }
-        let peeked = stream.peek(&mut [0]);
-        let is_silent = matches!(peeked, Err(error) if error.kind() == io::ErrorKind::WouldBlock);
-        is_silent && stream.set_nonblocking(false).is_ok()
+        self.process == std::process::id()
+            && self.taken >= self.received.len()
+            && stream.is_silent()
     }
 
     /// `QUIT`: the server replies `OK` and closes the connection; then so does the client.
@@ -994,7 +1070,7 @@ impl Connection {
         let start = self.received.len();
         self.received.resize(start + RECEIVED_AT_ONCE, 0);
         let told = stream
-            .set_read_timeout(Some(left))
+            .set_read_timeout(left)
             .and_then(|()| stream.read(&mut self.received[start..]));
         self.received
             .truncate(start + told.as_ref().map_or(0, |count| *count));

@@ -1170,3 +1170,31 @@ fn errors_as_misses() -> Result<(), Error> {
     drop(servers);
     Ok(())
 }
+
+#[test]
+fn path_of_a_unix_socket() {
+    let folder = std::env::temp_dir().join(format!("bivrang-{}", std::process::id()));
+    std::fs::create_dir_all(&folder).expect("a folder");
+    let path = folder.join("socket");
+    let address = path.to_str().expect("it is text").to_string();
+    let listener = std::os::unix::net::UnixListener::bind(&path).expect("the path is free");
+    let serving = thread::spawn(move || {
+        let (mut link, _) = listener.accept().expect("a client");
+        for reply in [&b"OK\n"[..], b"VAL 1\n"] {
+            let mut piece = [0; 100];
+            let count = link.read(&mut piece).expect("a request");
+            assert!(piece[..count].ends_with(b"\n"));
+            link.write_all(reply).expect("a client that waits");
+        }
+    });
+    let cache = Pool::new(&address, Options::default());
+    cache.set("a", "1", None).expect("it is stored");
+    assert_eq!(cache.get("a").expect("a reply"), Some(b"1".to_vec()));
+    serving.join().expect("both requests came");
+    std::fs::remove_dir_all(&folder).expect("the folder goes");
+    let failed = Pool::new(&address, Options::default()).get("a");
+    assert!(failed
+        .expect_err("nobody listens")
+        .to_string()
+        .contains(&address));
+}
