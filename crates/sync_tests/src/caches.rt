@@ -55,6 +55,22 @@ pub fn moments_of(dial: &Arc<Dial>) -> Option<Moments> {
     }
 }
 
+/// A dial, and what gives the moments that it shows.
+fn with_moments(dial: Arc<Dial>) -> Option<(Arc<Dial>, Moments)> {
+    match moments_of(&dial) {
+        Some(moments) => Some((dial, moments)),
+        None => None,
+    }
+}
+
+/// The same of a dial at moment 0.
+pub fn make_dialed(alloc: Global) -> Option<(Arc<Dial>, Moments)> {
+    match make_dial(alloc) {
+        Some(dial) => with_moments(dial),
+        None => None,
+    }
+}
+
 /// What gives moments that are all 0.
 pub fn make_moments(alloc: Global) -> Option<Moments> {
     moments_of(&make_dial(alloc)?)
@@ -82,11 +98,25 @@ pub fn stage_of<T: Drop>(cache: T, dial: Arc<Dial>) -> Stage<T> {
     }
 }
 
-/// The cache of a play on a stage, with a dial of its own.
+/// The cache of a play on a stage, with a dial.
+fn stage_by<H, P: Play<H>>(
+    rt: &H,
+    alloc: Global,
+    play: &P,
+    dial: Arc<Dial>,
+) -> Option<Stage<P::Cache>> {
+    match make_cache(rt, alloc, play, &dial) {
+        Some(cache) => Some(stage_of(cache, dial)),
+        None => None,
+    }
+}
+
+/// The same, with a dial of its own.
 pub fn make_stage<H, P: Play<H>>(rt: &H, alloc: Global, play: &P) -> Option<Stage<P::Cache>> {
-    let dial = make_dial(alloc)?;
-    let cache = make_cache(rt, alloc, play, &dial)?;
-    Some(stage_of(cache, dial))
+    match make_dial(alloc) {
+        Some(dial) => stage_by(rt, alloc, play, dial),
+        None => None,
+    }
 }
 
 /// Whether a play comes out so on a new cache.
@@ -152,11 +182,12 @@ pub fn is_awaited<T, P: Fn() -> bool + Drop>(stage: &Stage<T>, is_gone: P) -> bo
 {
     let readings = stage.dial.readings().saturating_add(1);
     let turn = stage.runs.fetch_add(1, Ordering::SeqCst);
-    if !wait_for_readings(&stage.dial, readings) {
-        return false;
+    if wait_for_readings(&stage.dial, readings) {
+        stage.dial.set(moment_of(turn));
+        wait_until(is_gone)
+    } else {
+        false
     }
-    stage.dial.set(moment_of(turn));
-    wait_until(is_gone)
 }
 
 /// Whether each of the threads says yes.

@@ -34,7 +34,7 @@ const CALLS: &[Row] = &[
 ];
 
 /// What one thread calls.
-const CALLED: Table = Table {
+const CALLED: &Table = &Table {
     settings: FIVE_HUNDRED,
     rows: CALLS,
 };
@@ -56,7 +56,7 @@ const UNKEPT: &[Row] = &[
 ];
 
 /// A value is taken by a cache of capacity 0 and not kept, before a run and after it.
-const NO_ROOM: Table = Table {
+const NO_ROOM: &Table = &Table {
     settings: Settings {
         capacity: 0,
         ..FIVE_HUNDRED

@@ -33,31 +33,38 @@ fn make_halves(alloc: Global, dial: Arc<Dial>) -> Result<Halves, BuildError> {
         .build_with_hasher(alloc, Itself, DialEnv::new(dial, Turning(4)))
 }
 
-/// Whether both keys get the value; each is inserted at the second try where memory is refused.
-fn keeps_both<H: Wait>(rt: &H, cache: &Halves) -> bool {
-    for key in KEYS {
-        if cache.insert(rt, key, VALUE).is_err() && cache.insert(rt, key, VALUE).is_err() {
-            return false;
-        }
-    }
-    true
+/// Whether a key gets the value, at the second try where memory is refused.
+fn keeps<H: Wait>(rt: &H, cache: &Halves, key: u64) -> bool {
+    cache.insert(rt, key, VALUE).is_ok() || cache.insert(rt, key, VALUE).is_ok()
 }
 
-/// Whether both keys answer the value.
-fn shows_both<H: Wait>(rt: &H, cache: &Halves) -> bool {
-    for key in KEYS {
-        let found = cache.get(rt, &key);
-        if found != Ok(Some(VALUE)) && cache.get(rt, &key) != Ok(Some(VALUE)) {
-            return false;
-        }
+/// What a key answers, at the second try where memory is refused.
+fn find<H: Wait>(rt: &H, cache: &Halves, key: u64) -> Result<Option<u64>, CacheError> {
+    match cache.get(rt, &key) {
+        Ok(found) => Ok(found),
+        Err(_) => cache.get(rt, &key),
     }
-    true
 }
 
-/// What comes of a predicate, at the second try where memory is refused.
+/// Whether a key answers the value.
+fn shows<H: Wait>(rt: &H, cache: &Halves, key: u64) -> bool {
+    find(rt, cache, key) == Ok(Some(VALUE))
+}
+
+/// Whether the first predicate is taken, and the next one, which covers the value, is not.
+fn are_drawn<H: Wait>(rt: &H, cache: &Halves) -> bool {
+    cover(rt, cache, 9) == Ok(()) && cover(rt, cache, VALUE) == Err(CacheError::IdsInUse)
+}
+
+/// What comes of a predicate.
+fn cover_once<H: Wait>(rt: &H, cache: &Halves, value: u64) -> Result<(), CacheError> {
+    cache.invalidate_entries_if(rt, HasValue(value))
+}
+
+/// The same, at the second try where memory is refused.
 fn cover<H: Wait>(rt: &H, cache: &Halves, value: u64) -> Result<(), CacheError> {
-    match cache.invalidate_entries_if(rt, HasValue(value)) {
-        Err(CacheError::OutOfMemory) => cache.invalidate_entries_if(rt, HasValue(value)),
+    match cover_once(rt, cache, value) {
+        Err(CacheError::OutOfMemory) => cover_once(rt, cache, value),
         covered => covered,
     }
 }
@@ -77,11 +84,13 @@ impl<H: Wait> Play<H> for Drawing {
     }
 
     fn plays(&self, rt: &H, _alloc: Global, stage: &Stage<Halves>) -> bool {
-        keeps_both(rt, &stage.cache)
-            && cover(rt, &stage.cache, 9) == Ok(())
-            && cover(rt, &stage.cache, VALUE) == Err(CacheError::IdsInUse)
-            && shows_both(rt, &stage.cache)
-            && stage.cache.next_notice(rt).is_none()
+        let halves = &stage.cache;
+        keeps(rt, halves, KEYS[0])
+            && keeps(rt, halves, KEYS[1])
+            && are_drawn(rt, halves)
+            && shows(rt, halves, KEYS[0])
+            && shows(rt, halves, KEYS[1])
+            && halves.next_notice(rt).is_none()
     }
 }
 

@@ -198,6 +198,6 @@ impl<C: Covers> Staged for Tested<C> {
     }
 
     fn shows_each_once<H: Wait + Copy>(&self, rt: &H, alloc: Global, keys: usize) -> bool {
-        visiting::shows_each_once(rt, alloc, self, keys) == Ok(true)
+        visiting::shows_each_once(rt, alloc, self, keys)
     }
 }

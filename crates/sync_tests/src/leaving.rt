@@ -2,7 +2,7 @@
 use crate::caches::{Moments, Play, Stage, passes};
 use crate::forms::{FIVE_HUNDRED, Odd, Settings, Staged, Tested, builder_of};
 use crate::numbers::Numbers;
-use crate::rows::{Deed, Row, are_so, does_all, inserts, told};
+use crate::rows::{Deed, Row, are_so, does_all, told};
 use crate::scenes::{Scene, Table, holds};
 use moka_sync::{Build, BuildError, ConcurrentCacheExt, EvictionPolicy, RemovalCause, Single};
 use std::alloc::Global;
@@ -60,6 +60,24 @@ fn names_are_covered(rt: HostRuntime) {
     assert!(rt; holds(&rt, rt.alloc(), Scene::Names));
 }
 
+/// Whether the identifier of a predicate has 36 bytes.
+fn is_named<H: Wait>(rt: &H, cache: &Tested<Single>) -> bool {
+    match cache.invalidate_entries_if(rt, Odd) {
+        Ok(id) => id.len() == 36,
+        Err(_) => false,
+    }
+}
+
+/// Whether a value is written.
+fn keeps<H: Wait>(rt: &H, cache: &Tested<Single>) -> bool {
+    cache.insert(rt, 3, 1).is_ok() || cache.insert(rt, 3, 1).is_ok()
+}
+
+/// Whether maintenance runs by its older name.
+fn syncs<H: Wait>(rt: &H, cache: &Tested<Single>) -> bool {
+    cache.sync(rt).is_ok()
+}
+
 /// One segment returns the identifier of a predicate, which has 36 bytes. Maintenance has an older name.
 struct Identified;
 
@@ -71,11 +89,7 @@ impl<H: Wait> Play<H> for Identified {
     }
 
     fn plays(&self, rt: &H, _alloc: Global, stage: &Stage<Tested<Single>>) -> bool {
-        let is_named = match stage.cache.invalidate_entries_if(rt, Odd) {
-            Ok(id) => id.len() == 36,
-            Err(_) => false,
-        };
-        is_named && inserts(rt, &stage.cache, 3, 1) && stage.cache.sync(rt).is_ok()
+        is_named(rt, &stage.cache) && keeps(rt, &stage.cache) && syncs(rt, &stage.cache)
     }
 }
 
@@ -175,7 +189,7 @@ const IDLE: Settings = Settings {
     ..HUNDRED
 };
 
-const TABLES: [Table; 5] = [
+const TABLES: &[Table] = &[
     Table {
         settings: Settings {
             parts: 1,
@@ -210,15 +224,22 @@ const TABLES: [Table; 5] = [
 ];
 
 /// The place of the first table that does not come out so in each form.
-fn first_wrong<R: Threads + Wait + Sync + Copy>(rt: &R, alloc: Global) -> Option<usize> {
-    TABLES
-        .iter()
-        .position(|table| !holds(rt, alloc, Scene::Rows(*table)))
+fn first_wrong<R: Threads + Wait + Sync + Copy>(
+    rt: &R,
+    alloc: Global,
+    tables: &'static [Table],
+) -> Option<usize> {
+    for (place, table) in tables.iter().enumerate() {
+        if !holds(rt, alloc, Scene::Rows(table)) {
+            return Some(place);
+        }
+    }
+    None
 }
 
 #[test]
 fn what_leaves_is_told(rt: HostRuntime) {
-    assert_eq!(rt; first_wrong(&rt, rt.alloc()), None);
+    assert_eq!(rt; first_wrong(&rt, rt.alloc(), TABLES), None);
 }
 
 /// Whether this many notices of a cause are told, and then no more.

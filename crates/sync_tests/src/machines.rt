@@ -25,13 +25,18 @@ fn gives_words<C: Clock + Drop>(clock: C) -> bool {
     }
 }
 
+/// The first word of a new environment of the machine.
+fn word_anew<C: Clock + RandomSource + Drop>(rt: C) -> Option<u64> {
+    match MachineEnv::new(rt) {
+        Ok(env) => word_of(env),
+        Err(_) => None,
+    }
+}
+
 /// Whether two environments of the machine give other words than one another.
 fn differ<C: Clock + RandomSource + Copy + Drop>(rt: C) -> bool {
-    match (MachineEnv::new(rt), MachineEnv::new(rt)) {
-        (Ok(one), Ok(other)) => match (word_of(one), word_of(other)) {
-            (Some(word), Some(another)) => word != another,
-            _ => false,
-        },
+    match (word_anew(rt), word_anew(rt)) {
+        (Some(word), Some(another)) => word != another,
         _ => false,
     }
 }

@@ -2,7 +2,7 @@
 ghost use Rattle.std.specs.Prelude.{◌≡◌};
 
 use crate::caches::{
-    LIFE, Moments, Stage, begin_turn, come_later, is_awaited, make_dial, moments_of, stage_of,
+    LIFE, Moments, Stage, begin_turn, come_later, is_awaited, make_dialed, stage_of,
 };
 use crate::forms::Form;
 use moka_sync::{
@@ -125,28 +125,52 @@ fn next_leads_on<R: Threads + Wait + Sync, T: Fussies + Sync>(
     }
 }
 
-/// The same of a new cache of a form.
-fn next_leads_in<R: Threads + Wait + Sync>(rt: &R, alloc: Global, form: Form) -> Option<bool> {
-    let dial = make_dial(alloc)?;
-    let moments = moments_of(&dial)?;
+/// The same on one of such numbers. (That they are fussy is proved here, once for all forms.)
+fn next_leads_among<R: Threads + Wait + Sync, C: Drop + Send + Sync>(
+    rt: &R,
+    dial: Arc<Dial>,
+    cache: Result<FussiesBy<C>, BuildError>,
+) -> bool {
+    next_leads_on(rt, dial, cache)
+}
+
+/// The same of a new cache of a form, with the moments of a dial.
+fn next_leads_by<R: Threads + Wait + Sync>(
+    rt: &R,
+    alloc: Global,
+    form: Form,
+    dial: Arc<Dial>,
+    moments: Moments,
+) -> bool {
     let builder = CacheBuilder::new(10).time_to_live(Duration::from_secs(LIFE));
-    Some(match form {
-        Form::One => next_leads_on(rt, dial, builder.build(alloc, moments)),
-        Form::Segments => next_leads_on(rt, dial, builder.segments(4).build(alloc, moments)),
-        Form::Shards => next_leads_on(rt, dial, builder.shards(4).build(alloc, moments)),
-    })
+    match form {
+        Form::One => next_leads_among(rt, dial, builder.build(alloc, moments)),
+        Form::Segments => next_leads_among(rt, dial, builder.segments(4).build(alloc, moments)),
+        Form::Shards => next_leads_among(rt, dial, builder.shards(4).build(alloc, moments)),
+    }
+}
+
+/// The same, with a dial of its own.
+fn next_leads_in<R: Threads + Wait + Sync>(rt: &R, alloc: Global, form: Form) -> bool {
+    match make_dialed(alloc) {
+        Some((dial, moments)) => next_leads_by(rt, alloc, form, dial, moments),
+        None => false,
+    }
 }
 
 /// The same, on the second attempt if memory is refused.
 fn holds<R: Threads + Wait + Sync>(rt: &R, alloc: Global, form: Form) -> bool {
-    next_leads_in(rt, alloc, form) == Some(true) || next_leads_in(rt, alloc, form) == Some(true)
+    next_leads_in(rt, alloc, form) || next_leads_in(rt, alloc, form)
+}
+
+/// The same of each form.
+fn all_hold<R: Threads + Wait + Sync>(rt: &R, alloc: Global) -> bool {
+    holds(rt, alloc, Form::One)
+        && holds(rt, alloc, Form::Segments)
+        && holds(rt, alloc, Form::Shards)
 }
 
 #[test]
 fn refused_leader_gives_its_turn_up(rt: HostRuntime) {
-    assert!(rt;
-        holds(&rt, rt.alloc(), Form::One)
-            && holds(&rt, rt.alloc(), Form::Segments)
-            && holds(&rt, rt.alloc(), Form::Shards)
-    );
+    assert!(rt; all_hold(&rt, rt.alloc()));
 }

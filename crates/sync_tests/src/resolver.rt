@@ -23,10 +23,26 @@ pub struct Unresolved;
 /// The rules of the answers: each weighs one.
 type AnswerRules = Bundle<NoExpiry, WeighOne, NoPredicate, Unresolved>;
 
+/// Addresses by their names.
+type Answers<E> = Cache<String, u32, StdHasher, AnswerRules, E>;
+
+/// An empty cache of at most this many answers, each of which is kept for this time.
+fn make_answers<E: Env + Drop>(
+    alloc: Global,
+    answers: u64,
+    time: Duration,
+    env: E,
+) -> Result<Answers<E>, BuildError> {
+    CacheBuilder::new(answers)
+        .time_to_live(time)
+        .faults::<Unresolved>()
+        .build(alloc, env)
+}
+
 /// Answers the addresses of names, for all threads that share it. Answers are kept for a time; that a name has none is not kept, and is asked again.
 #[derive(Drop)]
 pub struct Resolver<U, E: Env> {
-    answers: Cache<String, u32, StdHasher, AnswerRules, E>,
+    answers: Answers<E>,
     upstream: U,
     alloc: Global,
 }
@@ -40,15 +56,29 @@ impl<U: Upstream + Drop, E: Env + Drop> Resolver<U, E> {
         upstream: U,
         env: E,
     ) -> Result<Self, BuildError> {
-        let answers = CacheBuilder::new(answers)
-            .time_to_live(time)
-            .faults::<Unresolved>()
-            .build(alloc, env)?;
-        Ok(Resolver {
-            answers,
-            upstream,
-            alloc,
-        })
+        match make_answers(alloc, answers, time, env) {
+            Ok(answers) => Ok(Resolver {
+                answers,
+                upstream,
+                alloc,
+            }),
+            Err(why) => Err(why),
+        }
+    }
+
+    /// The address of a name that is also there as a key.
+    fn resolve_key<H: Wait>(
+        &self,
+        rt: &H,
+        key: String,
+        name: &str,
+    ) -> Result<Result<u32, Arc<Unresolved>>, CacheError>
+        ensures { IfErr result IsTurnRefusal }
+    {
+        self.answers
+            .try_get_with(rt, key, || -> Result<u32, Unresolved> {
+                self.upstream.ask(name)
+            })
     }
 
     /// The address of a name. If threads ask for a name at the same time, one asks the upstream, and the others wait for its answer.
@@ -59,13 +89,9 @@ impl<U: Upstream + Drop, E: Env + Drop> Resolver<U, E> {
     ) -> Result<Result<u32, Arc<Unresolved>>, CacheError>
         ensures { IfErr result IsTurnRefusal }
     {
-        let own = match String::from_str(self.alloc, name) {
-            Ok(own) => own,
-            Err(_) => return Err(CacheError::OutOfMemory),
-        };
-        self.answers
-            .try_get_with(rt, own, || -> Result<u32, Unresolved> {
-                self.upstream.ask(name)
-            })
+        match String::from_str(self.alloc, name) {
+            Ok(key) => self.resolve_key(rt, key, name),
+            Err(_) => Err(CacheError::OutOfMemory),
+        }
     }
 }

@@ -1,7 +1,7 @@
 //! Four threads resolve four names.
 use crate::caches::{Moments, each_says_yes, make_moments};
 use crate::resolver::{Resolver, Unresolved, Upstream};
-use moka_sync::BuildError;
+use moka_sync::{BuildError, CacheError};
 use std::alloc::Global;
 use std::sync::atomic::{AtomicU64, Ordering};
 use std::sync::{Arc, Wait};
@@ -42,10 +42,18 @@ fn make_resolver(
     questions: &Arc<AtomicU64>,
     moments: Moments,
 ) -> Result<Resolver<Slow, Moments>, BuildError> {
-    let theirs = Slow {
-        questions: Arc::try_clone(questions)?,
-    };
-    Resolver::new(alloc, 100, Duration::from_secs(60), theirs, moments)
+    match Arc::try_clone(questions) {
+        Ok(questions) => {
+            Resolver::new(
+                alloc,
+                100,
+                Duration::from_secs(60),
+                Slow { questions },
+                moments,
+            )
+        }
+        Err(_) => Err(BuildError::OutOfMemory),
+    }
 }
 
 /// The same, with its count.
@@ -54,16 +62,37 @@ fn make_names(
     questions: Arc<AtomicU64>,
     moments: Moments,
 ) -> Result<Names, BuildError> {
-    let resolver = make_resolver(alloc, &questions, moments)?;
-    Ok(Names {
-        resolver,
-        questions,
-    })
+    match make_resolver(alloc, &questions, moments) {
+        Ok(resolver) => Ok(Names {
+            resolver,
+            questions,
+        }),
+        Err(why) => Err(why),
+    }
+}
+
+/// What resolves names.
+trait Resolves {
+    /// The address of a name.
+    fn ask<H: Wait>(&self, rt: &H, name: &str) -> Result<Result<u32, Arc<Unresolved>>, CacheError>;
+
+    /// How often the upstream was asked.
+    fn questions(&self) -> u64;
+}
+
+impl Resolves for Names {
+    fn ask<H: Wait>(&self, rt: &H, name: &str) -> Result<Result<u32, Arc<Unresolved>>, CacheError> {
+        self.resolver.resolve(rt, name)
+    }
+
+    fn questions(&self) -> u64 {
+        self.questions.load(Ordering::SeqCst)
+    }
 }
 
 /// Whether a name gets this address, or has none.
-fn is_resolved<H: Wait>(rt: &H, names: &Names, name: &str, address: Option<u32>) -> bool {
-    match names.resolver.resolve(rt, name) {
+fn is_resolved<H: Wait, N: Resolves>(rt: &H, names: &N, name: &str, address: Option<u32>) -> bool {
+    match names.ask(rt, name) {
         Ok(Ok(found)) => address == Some(found),
         Ok(Err(fault)) => address.is_none() && *fault == Unresolved,
         Err(_) => false,
@@ -71,7 +100,7 @@ fn is_resolved<H: Wait>(rt: &H, names: &Names, name: &str, address: Option<u32>)
 }
 
 /// Whether all names of one thread get their addresses.
-fn are_resolved<H: Wait>(rt: &H, names: &Names) -> bool {
+fn are_resolved<H: Wait, N: Resolves>(rt: &H, names: &N) -> bool {
     for name in ["one", "two", "six", "ten"] {
         if !is_resolved(rt, names, name, Some(3)) {
             return false;
@@ -81,17 +110,25 @@ fn are_resolved<H: Wait>(rt: &H, names: &Names) -> bool {
 }
 
 /// Whether four threads resolve the same names.
-fn all_resolve<R: Threads + Wait + Sync>(rt: &R, alloc: Global, names: &Names) -> bool {
+fn all_resolve<R: Threads + Wait + Sync, N: Resolves + Sync>(
+    rt: &R,
+    alloc: Global,
+    names: &N,
+) -> bool {
     each_says_yes(thread::map_indices(rt, alloc, 4, &|_: usize| are_resolved(rt, names)))
 }
 
 /// Four threads resolve the same names, and each is requested once; a name that has no address is requested each time.
-fn asks_once<R: Threads + Wait + Sync>(rt: &R, alloc: Global, names: &Names) -> bool {
+fn asks_once<R: Threads + Wait + Sync, N: Resolves + Sync>(
+    rt: &R,
+    alloc: Global,
+    names: &N,
+) -> bool {
     all_resolve(rt, alloc, names)
-        && names.questions.load(Ordering::SeqCst) == 4
+        && names.questions() == 4
         && is_resolved(rt, names, "three", None)
         && is_resolved(rt, names, "three", None)
-        && names.questions.load(Ordering::SeqCst) == 6
+        && names.questions() == 6
 }
 
 /// The same, with moments that are all 0.
@@ -102,13 +139,17 @@ fn make_all(alloc: Global, questions: Arc<AtomicU64>) -> Option<Names> {
     }
 }
 
-/// Whether each name is asked for once by a new resolver.
-fn asks_once_anew<R: Threads + Wait + Sync>(rt: &R, alloc: Global) -> bool {
-    let names = match Arc::new(alloc, AtomicU64::new(0)) {
+/// The same, with a count of its own.
+fn make_anew(alloc: Global) -> Option<Names> {
+    match Arc::new(alloc, AtomicU64::new(0)) {
         Ok(questions) => make_all(alloc, questions),
         Err(_) => None,
-    };
-    match names {
+    }
+}
+
+/// Whether each name is asked for once by a new resolver.
+fn asks_once_anew<R: Threads + Wait + Sync>(rt: &R, alloc: Global) -> bool {
+    match make_anew(alloc) {
         Some(names) => asks_once(rt, alloc, &names),
         None => false,
     }

@@ -1,9 +1,12 @@
 //! Calls of one thread on any cache of numbers, and what each is to answer. A call that is refused for lack of memory has changed
 //! nothing, and is made once more.
-use crate::caches::Stage;
+use crate::caches::{Moments, Stage};
 use crate::numbers::Numbers;
-use moka_sync::RemovalCause;
+use moka_sync::{CacheError, PlainCache, RemovalCause};
 use std::sync::Wait;
+
+/// A cache of numbers by plain rules.
+pub type Plain = PlainCache<u64, u64, Moments>;
 
 /// What is done, and what is to come of it.
 #[derive(Clone, Copy)]
@@ -34,20 +37,30 @@ pub fn inserts<H: Wait, T: Numbers>(rt: &H, cache: &T, key: u64, value: u64) -> 
     cache.put(rt, key, value).is_ok() || cache.put(rt, key, value).is_ok()
 }
 
+/// The value of a key.
+fn find<H: Wait, T: Numbers>(rt: &H, cache: &T, key: u64) -> Result<Option<u64>, CacheError> {
+    match cache.find(rt, key) {
+        Ok(found) => Ok(found),
+        Err(_) => cache.find(rt, key),
+    }
+}
+
 /// Whether a key has this value, or none.
 pub fn gets<H: Wait, T: Numbers>(rt: &H, cache: &T, key: u64, value: Option<u64>) -> bool {
-    match cache.find(rt, key) {
-        Ok(found) => found == value,
-        Err(_) => cache.find(rt, key) == Ok(value),
+    find(rt, cache, key) == Ok(value)
+}
+
+/// The value that a key had.
+fn take_out<H: Wait, T: Numbers>(rt: &H, cache: &T, key: u64) -> Result<Option<u64>, CacheError> {
+    match cache.take_out(rt, key) {
+        Ok(found) => Ok(found),
+        Err(_) => cache.take_out(rt, key),
     }
 }
 
 /// Whether a key had this value, or none, and has none now.
 pub fn removes<H: Wait, T: Numbers>(rt: &H, cache: &T, key: u64, value: Option<u64>) -> bool {
-    match cache.take_out(rt, key) {
-        Ok(found) => found == value,
-        Err(_) => cache.take_out(rt, key) == Ok(value),
-    }
+    take_out(rt, cache, key) == Ok(value)
 }
 
 /// Whether a key is taken back.
@@ -55,16 +68,15 @@ pub fn invalidates<H: Wait, T: Numbers>(rt: &H, cache: &T, key: u64) -> bool {
     cache.take_back(rt, key).is_ok() || cache.take_back(rt, key).is_ok()
 }
 
-/// Whether a key has this value, once one is made if there is none or a certain old one.
-fn makes_if<H: Wait, T: Numbers>(
+/// The value of a key, once one is made if there is none or a certain old one.
+fn make_if<H: Wait, T: Numbers>(
     rt: &H,
     cache: &T,
     key: u64,
     made: u64,
     old: u64,
-    value: u64,
-) -> bool {
-    cache.make_if(rt, key, || made, |seen: &u64| *seen == old) == Ok(value)
+) -> Result<u64, CacheError> {
+    cache.make_if(rt, key, || made, |seen: &u64| *seen == old)
 }
 
 /// Whether maintenance runs.
@@ -117,7 +129,7 @@ fn comes_so<H: Wait, T: Numbers>(rt: &H, cache: &T, row: Row) -> bool {
         Row::Invalidate(key) => invalidates(rt, cache, key),
         Row::Clear => cache.clear(rt).is_ok(),
         Row::Run => runs(rt, cache),
-        Row::MakeIf(key, made, old, value) => makes_if(rt, cache, key, made, old, value),
+        Row::MakeIf(key, made, old, value) => make_if(rt, cache, key, made, old) == Ok(value),
         row => shows_so(rt, cache, row),
     }
 }
@@ -148,6 +160,12 @@ pub fn are_so<H: Wait, T: Numbers>(rt: &H, stage: &Stage<T>, rows: &[Row]) -> bo
     wrong_row(rt, stage, rows).is_none()
 }
 
+/// The same of a cache by plain rules. (Each function that has a cache of a type of its own play rows is dear to prove: this one is for
+/// all that use this type.)
+pub fn plain_are_so<H: Wait>(rt: &H, stage: &Stage<Plain>, rows: &[Row]) -> bool {
+    are_so(rt, stage, rows)
+}
+
 /// What is done with a key.
 #[derive(Clone, Copy)]
 pub enum Deed {
@@ -155,6 +173,8 @@ pub enum Deed {
     Insert,
     /// The same, with a run behind it.
     InsertAndRun,
+    /// It is inserted with itself.
+    InsertItself,
     Invalidate,
 }
 
@@ -163,6 +183,7 @@ fn does<H: Wait, T: Numbers>(rt: &H, cache: &T, deed: Deed, key: u64) -> bool {
     match deed {
         Deed::Insert => inserts(rt, cache, key, key.wrapping_mul(2)),
         Deed::InsertAndRun => inserts(rt, cache, key, key.wrapping_mul(2)) && runs(rt, cache),
+        Deed::InsertItself => inserts(rt, cache, key, key),
         Deed::Invalidate => invalidates(rt, cache, key),
     }
 }

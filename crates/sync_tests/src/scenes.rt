@@ -1,6 +1,6 @@
 //! What is played on a new cache of each form.
-use crate::caches::{LIFE, Moments, Stage, make_dial, moments_of, stage_of};
-use crate::forms::{FIVE_HUNDRED, Form, Settings, Staged, builder_of};
+use crate::caches::{LIFE, Moments, Stage, make_dialed, stage_of};
+use crate::forms::{Covers, FIVE_HUNDRED, Form, Settings, Staged, Tested, builder_of};
 use crate::rows::{Row, are_so};
 use crate::{crowds, entries, leaving, replacing, sharding, turns, visiting};
 use moka_sync::{Build, BuildError, Dial};
@@ -18,7 +18,7 @@ pub struct Table {
 /// What is played.
 #[derive(Clone, Copy)]
 pub enum Scene {
-    Rows(Table),
+    Rows(&'static Table),
     /// A predicate covers names.
     Names,
     /// 600 keys come into a cache of 500: 100 are told `Size`. Then all are invalidated: 500 are told `Explicit`.
@@ -129,6 +129,17 @@ fn plays_on<R: Threads + Wait + Sync + Copy, T: Staged + Sync>(
     }
 }
 
+/// The same on one by the tests' rules. (That it is staged is proved here, once for all forms.)
+fn plays_in<R: Threads + Wait + Sync + Copy, C: Covers + Send + Sync>(
+    rt: &R,
+    alloc: Global,
+    scene: Scene,
+    dial: Arc<Dial>,
+    cache: Result<Tested<C>, BuildError>,
+) -> Option<bool> {
+    plays_on(rt, alloc, scene, dial, cache)
+}
+
 /// The same on a new cache of a form, with the moments of a dial.
 fn plays_by<R: Threads + Wait + Sync + Copy>(
     rt: &R,
@@ -141,14 +152,14 @@ fn plays_by<R: Threads + Wait + Sync + Copy>(
     let settings = scene.settings();
     let builder = builder_of(settings);
     match form {
-        Form::One => plays_on(rt, alloc, scene, dial, builder.build(alloc, moments)),
+        Form::One => plays_in(rt, alloc, scene, dial, builder.build(alloc, moments)),
         Form::Segments => {
             let builder = builder.segments(settings.parts);
-            plays_on(rt, alloc, scene, dial, builder.build(alloc, moments))
+            plays_in(rt, alloc, scene, dial, builder.build(alloc, moments))
         }
         Form::Shards => {
             let builder = builder.shards(settings.parts);
-            plays_on(rt, alloc, scene, dial, builder.build(alloc, moments))
+            plays_in(rt, alloc, scene, dial, builder.build(alloc, moments))
         }
     }
 }
@@ -160,9 +171,10 @@ fn plays_once<R: Threads + Wait + Sync + Copy>(
     form: Form,
     scene: Scene,
 ) -> Option<bool> {
-    let dial = make_dial(alloc)?;
-    let moments = moments_of(&dial)?;
-    plays_by(rt, alloc, scene, form, dial, moments)
+    match make_dialed(alloc) {
+        Some((dial, moments)) => plays_by(rt, alloc, scene, form, dial, moments),
+        None => None,
+    }
 }
 
 /// The same, on the second attempt if memory is refused: it has another new cache.

@@ -3,7 +3,7 @@
 use crate::caches::{Stage, each_says_yes};
 use crate::forms::{FIVE_HUNDRED, Form, Settings, Staged};
 use crate::numbers::Told;
-use crate::rows::{inserts, removes, runs};
+use crate::rows::{Deed, does_all, inserts, removes, runs};
 use crate::scenes::{Scene, holds, holds_in, never_fails};
 use std::alloc::Global;
 use std::sync::Wait;
@@ -71,12 +71,17 @@ fn makes<H: Wait, T: Staged>(rt: &H, cache: &T, made: &AtomicU64) -> bool {
     true
 }
 
-/// Calls on all shards, and one on another key.
+/// Whether calls on all shards are taken, after which another key has no value.
+fn are_called<H: Wait, T: Staged>(rt: &H, cache: &T, key: u64) -> bool {
+    cache.cover_odd(rt).is_ok()
+        && cache.clear(rt).is_ok()
+        && !cache.has(rt, key.wrapping_add(1))
+        && runs(rt, cache)
+}
+
+/// The key, once there were calls on all shards, and one on another key.
 fn calls_all<H: Wait, T: Staged>(rt: &H, cache: &T, key: u64) -> u64 {
-    let is_covered = cache.cover_odd(rt).is_ok();
-    let is_cleared = cache.clear(rt).is_ok();
-    let is_there = cache.has(rt, key.wrapping_add(1));
-    if is_covered && is_cleared && !is_there && runs(rt, cache) {
+    if are_called(rt, cache, key) {
         key
     } else {
         u64::MAX
@@ -138,6 +143,49 @@ fn has_visible<H: Wait, T: Staged>(rt: &H, cache: &T, count: u64) -> bool {
         && cache.weight(rt) == count
 }
 
+/// What is done with what threads fill, and what is to come of it.
+#[derive(Clone, Copy)]
+enum Step {
+    /// Four threads work.
+    All(Work),
+    /// So many keys are visible.
+    Visible(u64),
+    /// A predicate covers the odd ones.
+    Cover,
+    Clear,
+    /// So many closures ran.
+    Made(u64),
+}
+
+const FILLED: [Step; 9] = [
+    Step::All(Work::Fill),
+    Step::Visible(1600),
+    Step::Cover,
+    Step::Visible(800),
+    Step::All(Work::Make),
+    Step::Made(800),
+    Step::Visible(1600),
+    Step::Clear,
+    Step::Visible(0),
+];
+
+/// Whether a step comes out so.
+fn goes<R: Threads + Wait + Sync, T: Staged + Sync>(
+    rt: &R,
+    alloc: Global,
+    cache: &T,
+    made: &AtomicU64,
+    step: Step,
+) -> bool {
+    match step {
+        Step::All(work) => all_work(rt, alloc, cache, made, work),
+        Step::Visible(count) => has_visible(rt, cache, count),
+        Step::Cover => cache.cover_odd(rt).is_ok(),
+        Step::Clear => cache.clear(rt).is_ok(),
+        Step::Made(count) => made.load(Ordering::SeqCst) == count,
+    }
+}
+
 /// Whether what four threads fill is covered by a predicate, is made once each by four threads, and is gone after a clear.
 pub fn are_right<R: Threads + Wait + Sync, T: Staged + Sync>(
     rt: &R,
@@ -145,15 +193,12 @@ pub fn are_right<R: Threads + Wait + Sync, T: Staged + Sync>(
     cache: &T,
     made: &AtomicU64,
 ) -> bool {
-    all_work(rt, alloc, cache, made, Work::Fill)
-        && has_visible(rt, cache, 1600)
-        && cache.cover_odd(rt).is_ok()
-        && has_visible(rt, cache, 800)
-        && all_work(rt, alloc, cache, made, Work::Make)
-        && made.load(Ordering::SeqCst) == 800
-        && has_visible(rt, cache, 1600)
-        && cache.clear(rt).is_ok()
-        && has_visible(rt, cache, 0)
+    for step in &FILLED {
+        if !goes(rt, alloc, cache, made, *step) {
+            return false;
+        }
+    }
+    true
 }
 
 /// Counts that a value was told. One that was never written is left out, and then another is missing.
@@ -205,6 +250,21 @@ fn removes_or_hears<R: Wait, T: Staged>(
     }
 }
 
+/// Whether each of five threads does what it should.
+fn all_remove<R: Threads + Wait + Sync, T: Staged + Sync>(
+    rt: &R,
+    alloc: Global,
+    cache: &T,
+    told: &[AtomicU64],
+) -> bool {
+    each_says_yes(thread::map_indices(
+        rt,
+        alloc,
+        5,
+        &|number: usize| removes_or_hears(rt, alloc, cache, told, number),
+    ))
+}
+
 /// Whether each is 1.
 fn are_all_one(told: &[AtomicU64]) -> bool {
     told.iter().all(|times| times.load(Ordering::SeqCst) == 1)
@@ -217,28 +277,21 @@ fn are_counted_once<R: Threads + Wait + Sync, T: Staged + Sync>(
     cache: &T,
     told: &[AtomicU64],
 ) -> bool {
-    fills(rt, cache, 0, 1600)
-        && fills(rt, cache, 1, 1600)
-        && fills(rt, cache, 2, 1600)
-        && fills(rt, cache, 3, 1600)
-        && each_says_yes(thread::map_indices(
-            rt,
-            alloc,
-            5,
-            &|number: usize| removes_or_hears(rt, alloc, cache, told, number),
-        ))
+    does_all(rt, cache, Deed::InsertItself, 1600)
+        && all_remove(rt, alloc, cache, told)
         && hears(rt, alloc, cache, told, 1000)
         && are_all_one(told)
         && cache.tell(rt).is_none()
 }
 
-/// This many counts at 0.
-fn make_counts(alloc: Global, count: usize) -> Option<Vec<AtomicU64>> {
-    let mut counts = Vec::with_capacity(alloc, count).ok()?;
+/// Whether this many counts at 0 are added.
+fn adds_counts(counts: &mut Vec<AtomicU64>, count: usize) -> bool {
     for _ in 0..count {
-        counts.push(AtomicU64::new(0)).ok()?;
+        if counts.push(AtomicU64::new(0)).is_err() {
+            return false;
+        }
     }
-    Some(counts)
+    true
 }
 
 /// The same, with memory for the counts.
@@ -247,10 +300,8 @@ pub fn are_told_once<R: Threads + Wait + Sync, T: Staged + Sync>(
     alloc: Global,
     cache: &T,
 ) -> bool {
-    match make_counts(alloc, 1600) {
-        Some(told) => are_counted_once(rt, alloc, cache, told.as_slice()),
-        None => false,
-    }
+    let mut told = Vec::new(alloc);
+    adds_counts(&mut told, 1600) && are_counted_once(rt, alloc, cache, told.as_slice())
 }
 
 /// Whether a predicate covers all shards, or none if it is refused. A value that is refused is no fault of the cache.

@@ -33,13 +33,32 @@ fn is_new_item(seen: &mut Vec<bool>, item: Result<(Shared<u64>, u64), CacheError
 /// How many items come, if each of them is such a pair. (It stops at one that is not: a call that lacks memory would go on for ever.)
 fn count_seen<H: Wait, C: Drop>(attached: &Handle<H, C>, seen: &mut Vec<bool>) -> Option<usize> {
     let mut count: usize = 0;
+    let mut are_new = true;
     for item in attached {
-        if !is_new_item(seen, item) {
-            return None;
+        are_new = is_new_item(seen, item);
+        if !are_new {
+            break;
         }
         count = count.saturating_add(1);
     }
-    Some(count)
+    are_new.then_some(count)
+}
+
+/// The same by another handle of a cache.
+fn count_by<H: Wait + Copy, C: Drop>(
+    rt: &H,
+    cache: &Tested<C>,
+    seen: &mut Vec<bool>,
+) -> Option<usize> {
+    match cache.attached(rt) {
+        Ok(attached) => count_seen(&attached, seen),
+        Err(_) => None,
+    }
+}
+
+/// So many keys, none of which was seen.
+fn make_unseen(alloc: Global, keys: usize) -> Result<Vec<bool>, AllocError> {
+    vec![in alloc; false; keys]
 }
 
 /// Whether each of so many keys comes once.
@@ -48,11 +67,10 @@ pub fn shows_each_once<H: Wait + Copy, C: Drop>(
     alloc: Global,
     cache: &Tested<C>,
     keys: usize,
-) -> Result<bool, AllocError> {
-    let mut seen = vec![in alloc; false; keys]?;
-    match cache.attached(rt) {
-        Ok(attached) => Ok(count_seen(&attached, &mut seen) == Some(keys)),
-        Err(_) => Ok(false),
+) -> bool {
+    match make_unseen(alloc, keys) {
+        Ok(mut seen) => count_by(rt, cache, &mut seen) == Some(keys),
+        Err(_) => false,
     }
 }
 

@@ -1,6 +1,5 @@
 //! Whole caches: keys alone, printed text, what builders make.
 use crate::caches::{Moments, NumbersBy, Play, Stage, make_moments, passes};
-use crate::numbers::Numbers;
 use crate::scenes::{Scene, holds};
 use crate::visiting::prints;
 use moka_sync::{
@@ -104,14 +103,17 @@ fn has_word(alloc: Global, seen: Seen, word: &str) -> bool {
     shows(alloc, &seen, word) == Ok(true) || shows(alloc, &seen, word) == Ok(true)
 }
 
+/// Whether each turn has its word.
+fn have_words(alloc: Global) -> bool {
+    has_word(alloc, WaiterValue::Underway, "Computing")
+        && has_word(alloc, WaiterValue::Done(Made::Value(7)), "Ready")
+        && has_word(alloc, WaiterValue::Done(Made::Nothing), "ReadyNone")
+        && has_word(alloc, WaiterValue::GivenUp, "InitFuturePanicked")
+}
+
 #[test]
 fn turns_have_words(rt: HostRuntime) {
-    assert!(rt;
-        has_word(rt.alloc(), WaiterValue::Underway, "Computing")
-            && has_word(rt.alloc(), WaiterValue::Done(Made::Value(7)), "Ready")
-            && has_word(rt.alloc(), WaiterValue::Done(Made::Nothing), "ReadyNone")
-            && has_word(rt.alloc(), WaiterValue::GivenUp, "InitFuturePanicked")
-    );
+    assert!(rt; have_words(rt.alloc()));
 }
 
 /// 24 wanted segments are 32; the capacity is the wanted one, and the name is kept.
@@ -142,9 +144,11 @@ fn parts_are_rounded(rt: HostRuntime) {
 }
 
 /// How many segments or shards a cache has, or why it was refused.
-fn parts_of<T: Numbers>(made: Result<T, BuildError>) -> Result<usize, BuildError> {
+fn parts_of<C: Drop>(
+    made: Result<NumbersBy<PlainRules, C>, BuildError>,
+) -> Result<usize, BuildError> {
     match made {
-        Ok(cache) => Ok(cache.parts()),
+        Ok(cache) => Ok(cache.policy().num_segments()),
         Err(why) => Err(why),
     }
 }
@@ -162,15 +166,25 @@ fn make_shards(alloc: Global, shards: usize, moments: Moments) -> Result<PlainSh
     ShardedCache::new(alloc, 1, shards, moments)
 }
 
+/// Why so many segments are refused.
+fn count_segments(alloc: Global, parts: usize) -> Result<usize, BuildError> {
+    match make_moments(alloc) {
+        Some(moments) => parts_of(make_segments(alloc, parts, moments)),
+        None => Err(BuildError::OutOfMemory),
+    }
+}
+
+/// Why so many shards are.
+fn count_shards(alloc: Global, parts: usize) -> Result<usize, BuildError> {
+    match make_moments(alloc) {
+        Some(moments) => parts_of(make_shards(alloc, parts, moments)),
+        None => Err(BuildError::OutOfMemory),
+    }
+}
+
 /// Whether so many segments and shards are refused for this reason.
 fn are_refused(alloc: Global, parts: usize, why: BuildError) -> bool {
-    match (make_moments(alloc), make_moments(alloc)) {
-        (Some(one), Some(other)) => {
-            parts_of(make_segments(alloc, parts, one)) == Err(why)
-                && parts_of(make_shards(alloc, parts, other)) == Err(why)
-        }
-        _ => false,
-    }
+    count_segments(alloc, parts) == Err(why) && count_shards(alloc, parts) == Err(why)
 }
 
 /// The same, on the second attempt if memory is refused.
@@ -216,18 +230,17 @@ fn make_for_cores<R: Threads>(
     ShardedCache::for_cores(rt, alloc, capacity, moments)
 }
 
+/// How many shards are chosen for a capacity.
+fn count_chosen<R: Threads>(rt: &R, alloc: Global, capacity: u64) -> Result<usize, BuildError> {
+    match make_moments(alloc) {
+        Some(moments) => parts_of(make_for_cores(rt, alloc, capacity, moments)),
+        None => Err(BuildError::OutOfMemory),
+    }
+}
+
 /// Whether a small cache has one shard, and a large one 16 or more.
 fn are_shards_chosen<R: Threads>(rt: &R, alloc: Global) -> bool {
-    match (make_moments(alloc), make_moments(alloc)) {
-        (Some(one), Some(other)) => {
-            parts_of(make_for_cores(rt, alloc, 150, one)) == Ok(1)
-                && matches!(
-                    parts_of(make_for_cores(rt, alloc, 1_000_000, other)),
-                    Ok(16..)
-                )
-        }
-        _ => false,
-    }
+    count_chosen(rt, alloc, 150) == Ok(1) && matches!(count_chosen(rt, alloc, 1_000_000), Ok(16..))
 }
 
 #[test]

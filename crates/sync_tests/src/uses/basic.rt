@@ -45,15 +45,25 @@ fn fill_twice<R: Threads + Wait + Sync, E: Env<Watch: Send + Sync, Generator: Se
 }
 // end
 
+/// Whether an article has this price, or none.
+fn has_price<H: Wait, E: Env + Drop>(
+    rt: &H,
+    prices: &Prices<E>,
+    article: u64,
+    price: Option<u64>,
+) -> bool {
+    prices.get(rt, &article) == Ok(price)
+}
+
 /// Whether the prices that were written can be read, but for the one that was taken back.
 fn is_filled<R: Threads + Wait + Sync, E: Env<Watch: Send + Sync, Generator: Send> + Drop + Send>(
     rt: &R,
     prices: &Prices<E>,
 ) -> bool {
     fill_twice(rt, prices) == Ok(())
-        && prices.get(rt, &1) == Ok(None)
-        && prices.get(rt, &2) == Ok(Some(100))
-        && prices.get(rt, &6) == Ok(Some(100))
+        && has_price(rt, prices, 1, None)
+        && has_price(rt, prices, 2, Some(100))
+        && has_price(rt, prices, 6, Some(100))
 }
 
 /// The same of a cache, if it could be made.

@@ -1,6 +1,6 @@
 //! All that is in a cache.
 use crate::caches::{Moments, Play, Stage, passes};
-use crate::rows::{Row, are_so};
+use crate::rows::{Row, plain_are_so};
 use moka_sync::{BuildError, Cache, CacheError, Env, PlainCache};
 use std::alloc::Global;
 use std::sync::Wait;
@@ -44,7 +44,7 @@ impl<H: Wait> Play<H> for Summing {
     }
 
     fn plays(&self, rt: &H, _alloc: Global, stage: &Stage<Amounts<Moments>>) -> bool {
-        are_so(rt, stage, THREE) && sum_from(rt, &stage.cache, 2) == Ok(50)
+        plain_are_so(rt, stage, THREE) && sum_from(rt, &stage.cache, 2) == Ok(50)
     }
 }
 

@@ -1,6 +1,6 @@
 //! Values that are made if there is none.
 use crate::caches::{Moments, Play, Stage, passes};
-use crate::rows::{Row, are_so};
+use crate::rows::{Row, plain_are_so};
 use moka_sync::{BuildError, Cache, CacheError, Env, PlainCache};
 use std::alloc::Global;
 use std::sync::Wait;
@@ -56,7 +56,7 @@ impl<H: Wait> Play<H> for Making {
         square(rt, &stage.cache, 7) == Ok(49)
             && half(rt, &stage.cache, 3) == Ok(None)
             && half(rt, &stage.cache, 8) == Ok(Some(4))
-            && are_so(rt, stage, KEPT)
+            && plain_are_so(rt, stage, KEPT)
     }
 }
 

@@ -1,6 +1,6 @@
 //! Removals are reported as notices.
 use crate::caches::{Moments, Play, Stage, passes};
-use crate::rows::{Row, are_so, invalidates};
+use crate::rows::{Row, plain_are_so};
 use moka_sync::{Build, BuildError, CacheBuilder, Env, PlainCache};
 use std::alloc::Global;
 use std::sync::Wait;
@@ -37,6 +37,9 @@ const OPENED: &[Row] = &[
     Row::Run,
 ];
 
+/// One is closed.
+const CLOSED: &[Row] = &[Row::Invalidate(1)];
+
 /// One of three files is evicted, and none if one is closed.
 struct Telling;
 
@@ -48,9 +51,9 @@ impl<H: Wait> Play<H> for Telling {
     }
 
     fn plays(&self, rt: &H, _alloc: Global, stage: &Stage<Files<Moments>>) -> bool {
-        are_so(rt, stage, OPENED)
+        plain_are_so(rt, stage, OPENED)
             && count_evicted(rt, &stage.cache) == 1
-            && invalidates(rt, &stage.cache, 1)
+            && plain_are_so(rt, stage, CLOSED)
             && count_evicted(rt, &stage.cache) == 0
     }
 }

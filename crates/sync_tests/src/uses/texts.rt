@@ -33,15 +33,20 @@ fn refuse() -> Result<Shared<String>, AllocError> {
     Err(AllocError)
 }
 
-/// Whether a closure's refusal is returned as such, and leaves nothing.
+/// Whether a closure's refusal is returned as such.
 fn is_refused<H: Wait>(rt: &H, texts: &Texts<Moments>) -> bool {
     match texts.get_with_alloc(rt, 7, refuse) {
         Ok(_) => false,
-        Err(error) => error == CacheError::OutOfMemory && !texts.contains_key(rt, &7),
+        Err(error) => error == CacheError::OutOfMemory,
     }
 }
 
-/// A text is refused, then written.
+/// Whether there is a text.
+fn has_text<H: Wait>(rt: &H, texts: &Texts<Moments>) -> bool {
+    texts.contains_key(rt, &7)
+}
+
+/// A text is refused, which leaves nothing, then written.
 struct Writing;
 
 impl<H: Wait> Play<H> for Writing {
@@ -53,8 +58,9 @@ impl<H: Wait> Play<H> for Writing {
 
     fn plays(&self, rt: &H, alloc: Global, stage: &Stage<Texts<Moments>>) -> bool {
         is_refused(rt, &stage.cache)
+            && !has_text(rt, &stage.cache)
             && is_written(rt, alloc, &stage.cache)
-            && stage.cache.contains_key(rt, &7)
+            && has_text(rt, &stage.cache)
     }
 }
 

@@ -1,6 +1,6 @@
 //! Values that live for a time.
 use crate::caches::{Moments, Play, Stage, passes};
-use crate::rows::{Row, are_so};
+use crate::rows::{Row, plain_are_so};
 use moka_sync::{Build, BuildError, CacheBuilder, Env, PlainCache};
 use std::alloc::Global;
 use std::sync::Wait;
@@ -48,7 +48,7 @@ impl<H: Wait> Play<H> for Ending {
     }
 
     fn plays(&self, rt: &H, _alloc: Global, stage: &Stage<Logins<Moments>>) -> bool {
-        are_so(rt, stage, USED_THEN_IDLE)
+        plain_are_so(rt, stage, USED_THEN_IDLE)
     }
 }
 

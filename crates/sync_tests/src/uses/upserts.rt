@@ -1,6 +1,6 @@
 //! Values that are made of the one that is there.
 use crate::caches::{Moments, Play, Stage, passes};
-use crate::rows::gets;
+use crate::rows::{Row, plain_are_so};
 use moka_sync::{BuildError, Cache, CacheError, CompResult, Env, Op, PlainCache};
 use std::alloc::Global;
 use std::sync::Wait;
@@ -43,17 +43,18 @@ fn take<H: Wait + Copy, E: Env + Drop>(
 }
 // end
 
-/// Whether there is a count to take from, and how much it is then.
-const TAKEN: [(bool, Option<u64>); 3] = [(true, Some(1)), (true, None), (false, None)];
+const ONE_LEFT: &[Row] = &[Row::Get(7, Some(1))];
 
-/// Whether two are taken, and no third.
-fn are_taken<H: Wait + Copy>(rt: &H, counts: &Counts<Moments>) -> bool {
-    for (was_there, left) in TAKEN {
-        if take(rt, counts, 7) != Ok(was_there) || !gets(rt, counts, 7, left) {
-            return false;
-        }
-    }
-    true
+const NONE_LEFT: &[Row] = &[Row::Get(7, None)];
+
+/// Whether there was a count to take from, and what is left.
+fn is_taken<H: Wait + Copy>(
+    rt: &H,
+    stage: &Stage<Counts<Moments>>,
+    was_there: bool,
+    left: &[Row],
+) -> bool {
+    take(rt, &stage.cache, 7) == Ok(was_there) && plain_are_so(rt, stage, left)
 }
 
 /// Two are counted, and can be taken.
@@ -74,7 +75,9 @@ impl<H: Wait + Copy> Play<H> for Counting {
     fn plays(&self, rt: &H, _alloc: Global, stage: &Stage<Counts<Moments>>) -> bool {
         count(rt, &stage.cache, 7) == Ok(1)
             && count(rt, &stage.cache, 7) == Ok(2)
-            && are_taken(rt, &stage.cache)
+            && is_taken(rt, stage, true, ONE_LEFT)
+            && is_taken(rt, stage, true, NONE_LEFT)
+            && is_taken(rt, stage, false, NONE_LEFT)
     }
 }
 
