@@ -159,6 +159,14 @@ class Bivrangd(Server):
     row = servers.ROWS["bivrangd"]
 
 
+class Spaces(Bivrangd):
+    """The same with so many namespaces, each with one loop, that tell no notices."""
+
+    def __init__(self, count):
+        self.ports = free_ports(count)
+        self.start([f'name = "space-{port}"\nport = {port}\ncapacity = {KEYS}\nloops = 1\nnotices = "off"\n' for port in self.ports])
+
+
 class Memcache(Server):
     """A namespace of `bivrangd` that speaks the memcache protocol."""
 
@@ -555,11 +563,9 @@ def drive_spaces(port, number, ready, started):
 
 def rate_of_spaces(count):
     """Requests a second of so many namespaces at once, each with a loop and a client process of its own."""
-    server = Bivrangd.__new__(Bivrangd)
-    ports = free_ports(count)
-    server.start([f'name = "space-{number}"\nport = {port}\ncapacity = {KEYS}\nloops = 1\nnotices = "off"\n' for number, port in enumerate(ports)])
+    server = Spaces(count)
     ready, started = multiprocessing.Barrier(count + 1), multiprocessing.Event()
-    drivers = [multiprocessing.Process(target=drive_spaces, args=(port, number, ready, started)) for number, port in enumerate(ports)]
+    drivers = [multiprocessing.Process(target=drive_spaces, args=(port, number, ready, started)) for number, port in enumerate(server.ports)]
     for driver in drivers:
         driver.start()
     ready.wait(ANSWER_SECONDS)

@@ -17,18 +17,19 @@ import bisect
 import pathlib
 import random
 import socket
-import subprocess
 import sys
-import tempfile
 import threading
 import time
 
 ROOT = pathlib.Path(__file__).resolve().parent.parent
 sys.path.insert(0, str(ROOT / "benches"))
 
+import connections
 import servers
 
 CLIENTS, REQUESTS, KEYS, COUNTERS = 8, 1_500, 12, 3
+# (more than is ever stored)
+CAPACITY = 100_000
 # An item with an expiry of E seconds lives between E - SLACK and E + SLACK.
 SLACK = 1.2
 EXPIRIES = [0, 0, 0, 0, 0, 2, 3]
@@ -253,29 +254,9 @@ def kinds_of_lies(asked, draw):
     return counts
 
 
-class Server:
-    """The program, with a namespace of such items."""
-
-    def __init__(self):
-        with socket.socket() as probe:
-            probe.bind(("127.0.0.1", 0))
-            self.port = probe.getsockname()[1]
-        self.folder = tempfile.TemporaryDirectory()
-        file = pathlib.Path(self.folder.name, "bivrangd.toml")
-        row = servers.MEMCACHE
-        file.write_text(f'[[namespace]]\nname = "items"\nport = {self.port}\n{row.keys}{row.capacity(100_000)}', encoding="ascii")
-        self.process = subprocess.Popen([row.path, "--config", file], stdin=subprocess.PIPE, stdout=subprocess.PIPE, stderr=subprocess.DEVNULL)
-        if not self.process.stdout.readline().startswith(b"listening "):
-            sys.exit("the server does not listen")
-
-    def stop(self):
-        self.process.communicate(b"stop\n", timeout=30)
-        self.folder.cleanup()
-
-
 def play(seed, flushes):
     """What a round's clients have asked: with flushes, or else with counters, which a flush would remove."""
-    server = Server()
+    server = connections.Memcache(CAPACITY)
     with socket.create_connection(("127.0.0.1", server.port), timeout=30) as link:
         for number in range(COUNTERS):
             link.sendall(b"set n%d 0 0 1\r\n0\r\n" % number)
