@@ -2,6 +2,11 @@
 """Counts the processor's instructions per line of `cached --script` and of `plain_server --script`, with valgrind's callgrind.
 
     python3 benches/instructions.py
+    python3 benches/instructions.py calls
+
+With `calls` it counts instead those per call of the cache of one part, loop and hash included, and those of a `get` and of a `get_with` that
+finds its value, of the cache that threads share, without the loop: the difference of two runs that make 10 and 30 rounds of 1,000 calls, by
+20,000. In crates/bench, `rt run` leaves the program at out/bench (BENCH names another one).
 
 120,000 lines, half SET, half GET, of keys drawn from 10,000, keys of 16 bytes, values of 32: the count of these minus that of the first
 20,000, divided by 100,000. Both programs have to give the same replies. A count does not depend on what else runs, so one run of each is
@@ -26,7 +31,17 @@ PROGRAMS = {
     "cached": os.environ.get("CACHED", HERE.parent / "crates/cached/out/cached"),
     "plain_server": os.environ.get("PLAIN_SERVER", HERE / "plain_server/target/release/plain_server"),
 }
+BENCH = os.environ.get("BENCH", HERE.parent / "crates/bench/out/bench")
 LINES, FIRST, KEYS = 120_000, 20_000, 10_000
+# By the name of a call the words of a run, in which {} is how many rounds of a thousand calls it makes.
+ENGINE = {
+    "look-up": "engine tiny_lfu gets zipf 1000 1000 {}",
+    "overwrite": "engine lru writes uniform 1000 1000 {}",
+    "insert that evicts": "engine lru inserts uniform 1000 1000 {}",
+}
+SHARED = {name: "sync " + words + " 1 1000 1000 {}000" for name, words in
+          {"get": "moka gets", "get_with": "moka fetches", "the loop": "loops gets"}.items()}
+ROUNDS = 10, 30
 
 
 def make_lines():
@@ -40,16 +55,34 @@ def make_lines():
             yield b"GET " + key + b"\n"
 
 
-def count(program, lines, folder):
-    """The instructions that a program takes for so many lines, and its replies."""
-    words = ["valgrind", "--tool=callgrind", f"--callgrind-out-file={folder}/profile", program, "--script"]
-    source, replies, log = (pathlib.Path(folder, name) for name in ("lines", "replies", "log"))
-    source.write_bytes(b"".join(lines))
-    with open(source, "rb") as reader, open(replies, "wb") as writer, open(log, "wb") as errors:
-        subprocess.run(words, stdin=reader, stdout=writer, stderr=errors, check=True)
+def count(words, source, folder):
+    """The instructions that a program takes, and what it writes, where it reads these bytes."""
+    words = ["valgrind", "--tool=callgrind", f"--callgrind-out-file={folder}/profile", *words]
+    log = pathlib.Path(folder, "log")
+    with open(log, "wb") as errors:
+        run = subprocess.run(words, input=source, stdout=subprocess.PIPE, stderr=errors, check=True)
     # The program's own notes stand in the log too: the line of valgrind is the last of its kind.
     found = re.findall(rb"^==\d+== Collected : (\d+)", log.read_bytes(), re.MULTILINE)
-    return int(found[-1]), replies.read_bytes()
+    return int(found[-1]), run.stdout
+
+
+def count_call(words, folder):
+    """The instructions of one call of the runs with these words."""
+    progress.show(words)
+    few, many = (count([BENCH, *words.format(rounds).split()], b"", folder)[0] for rounds in ROUNDS)
+    progress.clear()
+    return (many - few) / ((ROUNDS[1] - ROUNDS[0]) * 1000)
+
+
+def main_of_calls():
+    with tempfile.TemporaryDirectory() as folder:
+        counts = {name: count_call(words, folder) for name, words in ENGINE.items()}
+        shared = {name: count_call(words, folder) for name, words in SHARED.items()}
+    counts |= {f"shared {name}": shared[name] - shared["the loop"] for name in ("get", "get_with")}
+    for name, counted in counts.items():
+        print(f"{name:18} {counted:6.0f} instructions")
+    figures.keep("instructions_of_calls", {name: {"instructions": round(counted)} for name, counted in counts.items()})
+    print(f"a shared get_with takes {counts['shared get_with'] / counts['shared get']:.2f} times what a get takes")
 
 
 def main():
@@ -57,9 +90,9 @@ def main():
     with tempfile.TemporaryDirectory() as folder:
         for name, program in PROGRAMS.items():
             progress.show(f"{name}: the first {FIRST:,} lines")
-            before, _ = count(program, lines[:FIRST], folder)
+            before, _ = count([program, "--script"], b"".join(lines[:FIRST]), folder)
             progress.show(f"{name}: all {LINES:,} lines")
-            after, replies[name] = count(program, lines, folder)
+            after, replies[name] = count([program, "--script"], b"".join(lines), folder)
             counts[name] = (after - before) / (LINES - FIRST)
             progress.clear()
             print(f"{name:12} {counts[name]:7.0f} instructions a line", flush=True)
@@ -70,4 +103,4 @@ def main():
 
 
 if __name__ == "__main__":
-    main()
+    main_of_calls() if sys.argv[1:] == ["calls"] else main()

@@ -1,4 +1,6 @@
 pub mod Finding
 pub mod Bounds
+pub mod Named
 pub mod Refusing
+pub mod Removing
 pub mod Sending

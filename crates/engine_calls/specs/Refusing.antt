@@ -1,5 +1,5 @@
--- Why a predicate is refused.
-use Rattle.std.specs.Prelude.{◌≡◌, ◌+◌, ◌≤◌, ◌^◌, false}
+-- Why a write, a removal or a predicate is refused.
+use Rattle.std.specs.Prelude.{◌≡◌, ℕ, ◌+◌, ◌≤◌, ◌^◌, false}
 use Rattle.rand_core.specs.Stream.{Stream}
 use Rattle.engine_reference.specs.declared.rules.refusal.Refusal.{Refusal}
 use Rattle.engine_reference.specs.declared.rules.refusal.Refusal.TheVariants as refusal
@@ -17,3 +17,9 @@ IsCauseToRegister s drawn left refusal.UsedUp =
 IsCauseToRegister s drawn left refusal.IdsInUse = AreInUse drawn left (is_registered s.predicates)
 IsCauseToRegister s drawn left refusal.UnknownTicket = ⊥
 IsCauseToRegister s drawn left refusal.QueueFull = ⊥
+
+-- why a call that needs room for this many writes and notices is refused: there was no memory, or the 64-bit tickets do not suffice
+abbrev pub LacksRoom : {K V P S R : Type 0} → (rooms : ℕ) → State K V P S R → Refusal → Type 0
+LacksRoom rooms s refusal.OutOfMemory = Unit {0}
+LacksRoom rooms s refusal.UsedUp = 2 ^ 64 ≤ s.next_ticket + s.reserved + rooms
+LacksRoom rooms s other = ⊥

@@ -13,4 +13,4 @@ pub use looks::{clone_found, clone_key, clone_value, find, find_unless, held, lo
 pub use predicates::{commit, draw_id, invalidate, prepare, reserve};
 pub use settings::policy_of;
 pub use uses::{use_found, use_in};
-pub use writes::{prepare_removal, remove_reserved, tell_removed, write};
+pub use writes::{prepare_removal, remove_in, remove_reserved, tell_removed, write, write_by_name};

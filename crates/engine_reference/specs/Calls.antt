@@ -215,6 +215,11 @@ module _ {K V P S R : Type 0} (answers : Answers K V P R) where
     reserved = if s.settings.tells then s.reserved - 1 else s.reserved;
   }
 
+  -- a record is no longer held, and its removal is sent and reported
+  abbrev pub taken_out : Record K V → ℕ → State K V P S R → State K V P S R
+  taken_out r now s =
+      removal_told r.entry now (sent s.next_ticket (with_removed (Some r) s))
+
 -- ---- creating
 
 -- a cache that was just created

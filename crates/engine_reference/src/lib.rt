@@ -12,7 +12,7 @@ pub use data::{Entry, Notice, Read, Record, Registered, Settings, Unsent, Upsert
 pub use housekeeper::{Housekeeper, InnerSync};
 pub use identifiers::{draw, is_registered};
 pub use rules::{
-    Bundle, EvictionPolicy, Expiration, ExpirationPolicy, Expiry, Hashes, Names, NoExpiry,
+    Bundle, EvictionPolicy, Expiration, ExpirationPolicy, Expiry, Hashes, IntoKey, Names, NoExpiry,
     NoPredicate, Policy, Predicate, PredicateError, Refusal, RemovalCause, Rules, WeighOne,
     Weigher,
 };

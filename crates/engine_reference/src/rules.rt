@@ -10,7 +10,7 @@ mod settings;
 pub use causes::{PredicateError, RemovalCause};
 pub use expiry::{Expiration, Expiry, NoExpiry};
 pub use hashing::Hashes;
-pub use names::Names;
+pub use names::{IntoKey, Names};
 pub use refusal::Refusal;
 pub use rules::{Bundle, NoPredicate, Predicate, Rules, WeighOne, Weigher};
 pub use settings::{EvictionPolicy, ExpirationPolicy, Policy};

@@ -23,9 +23,9 @@ module _ {K V P S R : Type 0} where
   abbrev pub IsWrittenOver : Entry K V → RemovalCause → Bool → ℕ → Kept K V P S R → Kept K V P S R → Type 0
   IsWrittenOver entry cause at_once place old new = (r : Record K V) × (kept_at old place ≡ Some r) × (new ≡ record old { state = with_put_for at_once (record r { entry = entry; writes = r.writes + 1 }) (record old.state { records = changed_at r.number (λ x. record x { entry = entry; writes = x.writes + 1 }) old.state.records; notices = told old.state.settings.tells cause r.entry old.state.notices }) })
 
-  -- it is no longer held, and its removal waits to be sent
-  abbrev pub IsMarkedRemoved : ℕ → Kept K V P S R → Kept K V P S R → Type 0
-  IsMarkedRemoved place old new = (r : Record K V) × (kept_at old place ≡ Some r) × (new ≡ record old { state = record old.state { records = changed_at r.number (λ x. record x { is_held = false; writes = x.writes + 1 }) old.state.records; unsent = old.state.unsent ++ (record { ticket = old.state.next_ticket; write = Removed r.number }) ∷ []; next_ticket = old.state.next_ticket + 1; reserved = old.state.reserved - 1 } })
+  -- it is no longer held, and its removal goes into the queue at once, or waits to be sent
+  abbrev pub IsMarkedRemoved : Bool → ℕ → Kept K V P S R → Kept K V P S R → Type 0
+  IsMarkedRemoved at_once place old new = (r : Record K V) × (kept_at old place ≡ Some r) × (new ≡ record old { state = record old.state { records = changed_at r.number (λ x. record x { is_held = false; writes = x.writes + 1 }) old.state.records; unsent = if at_once then old.state.unsent else old.state.unsent ++ (record { ticket = old.state.next_ticket; write = Removed r.number }) ∷ []; writes = if at_once then old.state.writes ++ Removed r.number ∷ [] else old.state.writes; next_ticket = old.state.next_ticket + 1; reserved = old.state.reserved - 1 } })
 
   -- it counts with a weight, at the back of both lists, and a write of it is applied
   abbrev pub CountsAt : ℕ → ℕ → ℕ → Kept K V P S R → Kept K V P S R → Type 0

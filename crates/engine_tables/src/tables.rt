@@ -382,13 +382,14 @@ impl<K: Eq + Hash, V, S: BuildHasher, R: Rules<K, V>> Tables<K, V, S, R> {
         self.reserved -= 1;
     }
 
-    /// Notes that the key of the record in a place was removed: the record is no longer held, and its removal, for which there is room,
-    /// waits to be sent.
-    pub fn mark_removed(&mut self, place: usize)
+    /// Notes that the key of the record in a place was removed: the record is no longer held. Its removal, for which there is room, goes
+    /// into the queue if `at_once` is true, and otherwise waits to be sent.
+    pub fn mark_removed(&mut self, place: usize, at_once: bool)
         requires there { is_some (kept_at self.old place) ≡ true }
         requires room { 0 < self.old.state.reserved }
+        requires queue { at_once ≡ true → length self.old.state.writes < 128 }
         requires fits { (r : Record K V) → kept_at self.old place ≡ Some r → r.writes < 2 ^ 64 - 1 }
-        ensures { IsMarkedRemoved place self.old self.new }
+        ensures { IsMarkedRemoved at_once place self.old self.new }
     {
         let cell = &mut self.cells[place];
         let number = cell.number();
@@ -400,7 +401,8 @@ impl<K: Eq + Hash, V, S: BuildHasher, R: Rules<K, V>> Tables<K, V, S, R> {
         take_if(&mut self.keys, was_held, hash, place);
         set_changed(&mut self.expirations, place, expires, None);
         let write = WaitingWrite::removed(number);
-        self.backlog.add_write(PlacedWrite { place, write }, false);
+        self.backlog
+            .add_write(PlacedWrite { place, write }, at_once);
         self.reserved -= 1;
     }
 

@@ -69,6 +69,18 @@ const CASES: &[Case<'static>] = &[
             Row::Shows(Look::Borrow, 1, Some(10)),
             Row::At(25 * SECOND),
             Row::Shows(Look::Borrow, 1, None),
+            // so is one that may pass over a value, if it does not
+            Row::At(24 * SECOND),
+            Row::Shows(Look::GetUnless(10), 1, None),
+            Row::At(25 * SECOND),
+            Row::Shows(Look::Borrow, 1, None),
+            Row::At(24 * SECOND),
+            Row::Shows(Look::GetUnless(11), 1, Some(10)),
+            Row::Shows(Look::GetUnless(11), 2, None),
+            Row::At(30 * SECOND),
+            Row::Shows(Look::Borrow, 1, Some(10)),
+            Row::At(31 * SECOND),
+            Row::Shows(Look::GetUnless(11), 1, None),
         ],
         ..CASE
     },

@@ -22,7 +22,10 @@ const CASES: &[Case<'static>] = &[
             Row::Refuses(Look::Scan, 1),
             Row::Refuses(Look::Get, 1),
             Row::Refuses(Look::GetPast(14), 1),
+            Row::Refuses(Look::GetUnless(14), 1),
             Row::Removes(1, Err(Refusal::OutOfMemory)),
+            Row::RemovesAtOnce(1, Err(Refusal::OutOfMemory)),
+            Row::Forgets(1, Err(Refusal::OutOfMemory)),
             Row::Shows(Look::Get, 2, Some(14)),
             // its idle time ends first
             Row::At(6),
@@ -33,6 +36,25 @@ const CASES: &[Case<'static>] = &[
             Row::TellsNone,
             Row::At(0),
             Row::HoldsBack(3, 15, 3, 2),
+        ],
+        ..CASE
+    },
+    // If removals are not reported, a removal that returns no value clones none.
+    Case {
+        settings: Settings {
+            tells: false,
+            ..SETTINGS
+        },
+        rows: &[
+            Row::Puts(1, NOT_CLONED, 1),
+            Row::Puts(2, 14, 2),
+            Row::RemovesAtOnce(1, Err(Refusal::OutOfMemory)),
+            Row::Forgets(1, Ok(true)),
+            Row::Forgets(1, Ok(false)),
+            Row::RemovesAtOnce(2, Ok(Some(14))),
+            Row::Runs,
+            Row::TellsNone,
+            Row::Number(0),
         ],
         ..CASE
     },

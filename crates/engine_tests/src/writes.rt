@@ -213,6 +213,51 @@ const CASES: &[Case<'static>] = &[
         ],
         ..CASE
     },
+    // The same where the removal is sent in the call.
+    Case {
+        settings: Settings {
+            live: Some(SECOND),
+            ..SETTINGS
+        },
+        rows: &[
+            Row::PutsByName(1, 10, 1, Ok(())),
+            Row::PutsByName(2, 20, 2, Ok(())),
+            Row::PutsByName(3, 30, 3, Ok(())),
+            Row::At(SECOND - 1),
+            Row::RemovesAtOnce(1, Ok(Some(10))),
+            Row::Tells(RemovalCause::Explicit, 1, 10),
+            Row::RemovesAtOnce(1, Ok(None)),
+            Row::Forgets(1, Ok(false)),
+            Row::Forgets(2, Ok(true)),
+            Row::Tells(RemovalCause::Explicit, 2, 20),
+            Row::At(SECOND),
+            Row::Forgets(3, Ok(true)),
+            Row::Tells(RemovalCause::Expired, 3, 30),
+            Row::Runs,
+            Row::TellsNone,
+            Row::Number(0),
+            // the next ticket is the seventh
+            Row::HoldsBack(1, 11, 4, 6),
+        ],
+        ..CASE
+    },
+    // A value that is written by a name replaces the one that is held.
+    Case {
+        rows: &[
+            Row::PutsByName(1, 10, 1, Ok(())),
+            Row::PutsByName(1, 20, 2, Ok(())),
+            Row::Tells(RemovalCause::Replaced, 1, 10),
+            Row::Shows(Look::Peek, 1, Some(20)),
+            Row::Clears(3),
+            Row::PutsByName(1, 30, 4, Ok(())),
+            Row::Tells(RemovalCause::Explicit, 1, 20),
+            Row::Runs,
+            Row::Number(1),
+            Row::Keys(&[1]),
+            Row::TellsNone,
+        ],
+        ..CASE
+    },
     // Maintenance is due 300 milliseconds after the last run.
     Case {
         settings: Settings {

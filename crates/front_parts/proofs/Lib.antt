@@ -1,3 +1,4 @@
 pub mod Looked
 pub mod HeldAfter
 pub mod Answered
+pub mod Options

@@ -2,10 +2,8 @@
 ghost use Rattle.std.specs.Prelude.{◌≡◌, ℕ, ◌<◌, ◌⊎◌, Some, None, [], length, IfOk, OnOk, OnErr, IfErr};
 ghost use Rattle.std.specs.Fn.{FnOnceReturnsAt};
 ghost use Rattle.std.specs.Result.{IsErrOf};
-ghost use Rattle.engine_reference.specs.Scanning.{past};
-ghost use Rattle.engine_reference.specs.Visible.{visible_value};
 ghost use Rattle.front_reference.specs.Parts.{IsCause, IsReady, Acts, op_of_made};
-ghost use Rattle.front_parts.specs.Looking.{AsksPart, CoalescesPart};
+ghost use Rattle.front_parts.specs.Looking.{CoalescesPart};
 ghost use Rattle.front_reference.specs.declared.data.Op.TheVariants as op;
 ghost use Rattle.front_reference.specs.declared.data.Made.TheVariants as made;
 
@@ -13,47 +11,8 @@ use crate::part::{insert_reserved, reserve_insert};
 use engine_reference::{Hashes, Names, Rules};
 use front_reference::{At, CacheError, IntoKey, Made};
 use moka_engine::BaseCache;
-use policy_base::Instant;
 use std::alloc::AllocError;
 use std::hash::{BuildHasher, Hash};
-
-/// Returns a clone of the visible value of a key, unless `replace_if` returns true for it; then it is passed over, which the first of the
-/// two results says. `replace_if` is called on no other value. The call does not count as a use. Returns an error if there is no memory for
-/// the clone.
-pub fn look<
-    K: Eq + Hash,
-    V: Clone,
-    S: BuildHasher,
-    R: Rules<K, V>,
-    Q: Names<K>,
-    P: FnOnce(&V) -> bool + Drop,
->(
-    part: &BaseCache<K, V, S, R>,
-    key: &Q,
-    hash: u64,
-    now: Instant,
-    replace_if: P,
-) -> Result<(bool, Option<V>), AllocError>
-    requires hashed { hash ≡ ⟦<S as Hashes<K>>⟧.hash part.now.hasher (Q.named_key key.now) }
-    requires exact { (x y : V) → V.is_clone x y → y ≡ x }
-    requires callable { P.IsAlwaysCallable replace_if }
-    ensures asked { IfOk result (λ looked. AsksPart R.answers K.eq (Q.named_key key.now) now
-        (FnOnceReturnsAt P.FnOnce replace_if) part.now looked.0) }
-    ensures found { IfOk result (λ looked. looked.1
-        ≡ past looked.0 (visible_value R.answers K.eq part.now now (Q.named_key key.now))) }
-{
-    match part.peek(key, hash, now) {
-        Some(value) => {
-            if replace_if(value) {
-                Ok((true, None))
-            } else {
-                let found = value.clone()?;
-                Ok((false, Some(found)))
-            }
-        }
-        None => Ok((false, None)),
-    }
-}
 
 /// Notes a look-up, and inserts a value after it. All room for both is made before.
 pub(crate) fn note_and_insert<K: Eq + Hash + Drop, V: Drop, S: BuildHasher, R: Rules<K, V>>(
@@ -167,12 +126,9 @@ pub fn coalesce<
     ensures err { OnErr result (part.new ≡ part.old) }
     ensures cause { IfErr result (IsCause 1 part.old) }
 {
-    let (ignored, found) = look(part, &name, hash, at.now, replace_if)?;
+    let (ignored, found) = part.get_with_hash_unless(&name, hash, at.now, replace_if)?;
     match found {
-        Some(value) => {
-            part.note_look_up(&name, hash, at.now, ignored);
-            Ok((Made::Value(value), false))
-        }
+        Some(value) => Ok((Made::Value(value), false)),
         None => {
             let made = make()?;
             let answer = settle(part, name, hash, made, at, ignored)?;

@@ -5,8 +5,9 @@ ghost use Rattle.engine_reference.specs.Calls.{LooksUp, sent, unsent_at, with_ro
 ghost use Rattle.engine_reference.specs.Visible.{visible_record, visible_value};
 ghost use Rattle.front_reference.specs.Parts.{IsCause, IsReady, Inserts, InsertsReserved, takes_nothing, with_put_room};
 ghost use Rattle.front_reference.specs.Wholes.{RunsPart};
+ghost use Rattle.moka_engine.specs.Named.{IsNamedAlone};
 
-use engine_reference::{Hashes, Names, Rules};
+use engine_reference::{Hashes, IntoKey, Names, Rules};
 use front_reference::{At, CacheError};
 use moka_engine::{BaseCache, Refusal};
 use policy_base::Instant;
@@ -98,6 +99,39 @@ pub fn insert<K: Eq + Hash + Drop, V: Drop, S: BuildHasher, R: Rules<K, V>>(
     reserve_insert(part)?;
     insert_reserved(part, key, hash, value, at);
     Ok(())
+}
+
+/// Inserts a value under the key that a name stands for, which equals no other. A key that is held and equal stays, so that none is made. A
+/// part of capacity 0 stores none. Returns `OutOfMemory` if there is not enough memory, and `UsedUp` if the 64-bit numbers of writes are
+/// used up; then nothing has changed.
+pub fn insert_by_name<
+    K: Eq + Hash + Clone + Drop,
+    V: Drop,
+    S: BuildHasher,
+    R: Rules<K, V>,
+    Q: IntoKey<K>,
+>(part: &mut BaseCache<K, V, S, R>, name: Q, hash: u64, value: V, at: At) -> Result<(), CacheError>
+    requires hashed { hash ≡ ⟦<S as Hashes<K>>⟧.hash part.old.hasher (Q.named_key name) }
+    requires name { Q.can_become name × IsNamedAlone K.eq (Q.named_key name) }
+    requires exact_key { (x y : K) → K.is_clone x y → y ≡ x }
+    requires ready { IsReady part.old }
+    ensures inserts { OnOk result
+        (Inserts R.answers K.eq (Q.named_key name) hash value at.now at.step part.old part.new) }
+    ensures err { OnErr result (part.new ≡ part.old) }
+    ensures cause { IfErr result (IsCause 1 part.old) }
+{
+    if part.is_map_disabled() {
+        return Ok(());
+    }
+    let At { now, step } = at;
+    match part.insert_by_name(name, hash, value, now, step) {
+        Ok(()) => {
+            part.apply_reads_writes_if_needed(now);
+            Ok(())
+        }
+        Err(Refusal::UsedUp) => Err(CacheError::UsedUp),
+        Err(_) => Err(CacheError::OutOfMemory),
+    }
 }
 
 /// Inserts a value. A part of capacity 0 stores none. Returns the value with `OutOfMemory` if there is not enough memory, and with `UsedUp`

@@ -151,10 +151,14 @@ pub fn remove<
     ensures err { OnErr result (part.new ≡ part.old) }
     ensures cause { IfErr result (IsCause (removal_rooms part.old.settings) part.old) }
 {
-    let shown = clone_shown(part, key, hash)?;
-    match prepare(part, key, hash)? {
-        Some(parts) => Ok(take_out(part, key, hash, parts, shown, now)),
-        None => Ok(None),
+    match part.remove_with_hash(key, hash, now) {
+        Ok(Some(value)) => {
+            part.apply_reads_writes_if_needed(now);
+            Ok(Some(value))
+        }
+        Ok(None) => Ok(None),
+        Err(Refusal::UsedUp) => Err(CacheError::UsedUp),
+        Err(_) => Err(CacheError::OutOfMemory),
     }
 }
 
@@ -176,14 +180,12 @@ pub fn invalidate<
     ensures err { OnErr result (part.new ≡ part.old) }
     ensures cause { IfErr result (IsCause (removal_rooms part.old.settings) part.old) }
 {
-    match part.remove_entry(key, hash, 0) {
-        Ok(Some((entry, ticket))) => {
-            send_now(part, ticket);
-            part.notify_invalidate(key, entry, now);
+    match part.invalidate_with_hash(key, hash, now) {
+        Ok(true) => {
             part.apply_reads_writes_if_needed(now);
             Ok(())
         }
-        Ok(None) => Ok(()),
+        Ok(false) => Ok(()),
         Err(Refusal::UsedUp) => Err(CacheError::UsedUp),
         Err(_) => Err(CacheError::OutOfMemory),
     }

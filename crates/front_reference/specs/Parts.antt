@@ -1,7 +1,8 @@
 -- What the front's calls do to one part: each ticket is sent in its own call, and then maintenance runs if it is due.
 use Rattle.std.specs.Prelude.{◌≡◌, ℕ, zero, suc, ◌+◌, ◌-◌, ◌^◌, ◌<◌, ◌≤◌, Bool, true, false, if◌then◌else◌, [], length, Option, Some, None, option_map, MatchOption, Result, Ok, Err}
 use Rattle.engine_reference.specs.declared.data.Record.{Record}
-use Rattle.engine_reference.specs.Calls.{written, sent, with_removed, removal_told, with_room, MaintainsIfDue}
+use Rattle.engine_reference.specs.Calls.{written, sent, with_room, MaintainsIfDue}
+pub use Rattle.engine_reference.specs.Calls.{taken_out}
 use Rattle.engine_reference.specs.Records.{held_at}
 use Rattle.engine_reference.specs.Scanning.{past, NotesLookUp}
 use Rattle.engine_reference.specs.State.{State, Answers}
@@ -100,17 +101,12 @@ module _ {K V P S R : Type 0} (answers : Answers K V P R) where
 
   -- ---- removing
 
-  -- a record is no longer held, and its removal is sent and reported
-  abbrev pub taken_out : Record K V → ℕ → State K V P S R → State K V P S R
-  taken_out r now s =
-      removal_told answers r.entry now (sent s.next_ticket (with_removed (Some r) s))
-
   -- the key's record is removed, whether its deadline has come or not, and then maintenance runs if it is due; if the key is not held,
   -- nothing happens
   abbrev pub TakesOut : (K → K → Bool) → K → ℕ → State K V P S R → State K V P S R → Type 0
   TakesOut eq key now old new =
       MatchOption (held_at eq old.records key) (new ≡ old)
-      (λ r. MaintainsIfDue answers now (taken_out r now old) new)
+      (λ r. MaintainsIfDue answers now (taken_out answers r now old) new)
 
   -- ---- a look-up with what is done after it
 

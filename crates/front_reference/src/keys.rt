@@ -4,6 +4,7 @@ mod lent;
 mod rules;
 mod shared;
 
-pub use into_key::{ClonedKey, IntoKey, OwnedKey};
+pub use engine_reference::IntoKey;
+pub use into_key::{ClonedKey, OwnedKey};
 pub use lent::LentKey;
 pub use shared::Shared;

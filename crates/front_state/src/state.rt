@@ -6,12 +6,13 @@ ghost use Rattle.engine_reference.specs.Calls.{cleared_by, removal_rooms};
 ghost use Rattle.front_reference.specs.Fronts.{CallsAll, ComesAfter};
 ghost use Rattle.front_reference.specs.Wholes.{RunsPart};
 ghost use Rattle.front_reference.specs.declared.errors.CacheError.TheVariants as errors;
+ghost use Rattle.front_parts.specs.Named.{IsNamedAlone};
 ghost use Rattle.front_parts.specs.Places.Calls.{CoalescesBy, ComputesIn, InsertsIn, IsCauseIn, LooksUpIn, TakesOutIn, hash_in, held_value_in, visible_in};
 
 use engine_reference::{Hashes, Names, Rules, Settings};
 use front_parts::{
-    BaseCache, HasWays, Turns, clear_all, coalesce_at, compute_at, insert_at, is_table_refused,
-    place_of, run_all,
+    BaseCache, HasWays, Turns, clear_all, coalesce_at, compute_at, insert_at, insert_by_name_at,
+    is_table_refused, place_of, run_all,
 };
 use front_reference::{At, CacheError, Computed, IntoKey, LentKey, Made, Op, OwnedKey, Shared};
 use policy_base::Instant;
@@ -209,6 +210,40 @@ impl<K: Eq + Hash, V, S: BuildHasher, R: Rules<K, V>, C> LentState<K, V, S, R, C
         let place = place_of(self.bits, hash);
         let key = name.into_key()?;
         insert_at(&mut self.parts, place, key, hash, value, At { now, step })?;
+        self.moment = now;
+        self.step = step;
+        Ok(())
+    }
+
+    /// Inserts like `insert_with_hash`, with its errors, under a key that is named and equals no other. A key that is held and equal stays,
+    /// and is shared by the notice of what the value replaces, so that no key is made.
+    /// ```
+    /// let hash = cache.hash(&name);
+    /// cache.insert_named(ClonedKey { key: &name, alloc }, hash, value, at)?;
+    /// ```
+    pub fn insert_named<Q: IntoKey<Shared<K>>>(
+        &mut self,
+        name: Q,
+        hash: u64,
+        value: V,
+        at: At,
+    ) -> Result<(), CacheError>
+    where
+        K: Drop,
+        V: Drop,
+        requires hashed { hash
+            ≡ hash_in ⟦<R as HasWays<K, V, S>>⟧.ways self.old (Q.named_key name) }
+        requires name { Q.can_become name × IsNamedAlone K.eq (Q.named_key name) }
+        requires follows { ComesAfter at.now at.step self.old }
+        ensures inserts { OnOk result (InsertsIn ⟦<R as HasWays<K, V, S>>⟧.ways
+            (Q.named_key name) value at self.old self.new) }
+        ensures err { OnErr result (self.new ≡ self.old) }
+        ensures cause { IfErr result
+            (IsCauseIn ⟦<R as HasWays<K, V, S>>⟧.ways (λ _. 1) self.old (Q.named_key name)) }
+    {
+        let At { now, step } = at;
+        let place = place_of(self.bits, hash);
+        insert_by_name_at(&mut self.parts, place, name, hash, value, At { now, step })?;
         self.moment = now;
         self.step = step;
         Ok(())

@@ -33,6 +33,25 @@ const TURNS: &[(u64, Call)] = &[
     (4, Call::Begin(TurnKind::Compute, 7, Start::Lead(3))),
 ];
 
+/// The same in two halves; a value of 0 counts as none. A value that is written by a name replaces
+/// the one that is held.
+const HALVES: &[(u64, Call)] = &[
+    (0, Call::BeginInHalves(TurnKind::Try, 7, Start::Lead(0))),
+    (0, Call::BeginInHalves(TurnKind::Try, 7, Start::Wait(0))),
+    (0, Call::BeginInHalves(TurnKind::Compute, 7, Start::Lead(1))),
+    (0, Call::BeginInHalves(TurnKind::Compute, 7, Start::Wait(1))),
+    (1, Call::InsertKept(7, 0)),
+    (1, Call::BeginInHalves(TurnKind::Try, 7, Start::Wait(0))),
+    (1, Call::BeginInHalves(TurnKind::With, 7, Start::Lead(2))),
+    (2, Call::InsertKept(7, 5)),
+    (2, Call::Told(7, RemovalCause::Replaced)),
+    (2, Call::Get(7, Some(5))),
+    (2, Call::BeginInHalves(TurnKind::With, 7, Start::Found(5))),
+    (3, Call::Finish(2, 6, Ok(()))),
+    (3, Call::Told(7, RemovalCause::Replaced)),
+    (3, Call::NoneTold),
+];
+
 /// Turns of several keys, each found, whatever began or ended before or after it.
 const CROWDED: &[(u64, Call)] = &[
     (0, Call::Begin(TurnKind::With, 1, Start::Lead(0))),
@@ -94,6 +113,14 @@ const CASES: &[Case<'static>] = &[
     Case {
         form: COLLIDING,
         calls: TURNS,
+    },
+    Case {
+        form: COLLIDING,
+        calls: HALVES,
+    },
+    Case {
+        form: FOUR,
+        calls: HALVES,
     },
     Case {
         form: COLLIDING,

@@ -8,7 +8,7 @@ use Rattle.engine_reference.specs.declared.data.Record.{Record}
 use Rattle.engine_reference.specs.declared.data.Registered.{Registered}
 use Rattle.engine_reference.specs.declared.data.Settings.{Settings}
 use Rattle.engine_reference.specs.declared.data.Write.{Write}
-use Rattle.engine_reference.specs.Calls.{IsNew, MaintainsIfDue, sent, with_sent, unsent_at, written, with_written, with_removed, with_removal_room, with_reserved_removal, removal_rooms, with_read, first_entry, next_entry, used_entry}
+use Rattle.engine_reference.specs.Calls.{IsNew, MaintainsIfDue, sent, with_sent, unsent_at, written, with_written, with_removed, with_removal_room, with_reserved_removal, removal_rooms, taken_out, with_read, first_entry, next_entry, used_entry}
 use Rattle.engine_reference.specs.Records.{held_at, record_at, changed_at}
 use Rattle.engine_reference.specs.Runs.{RunsToEnd, is_due}
 use Rattle.engine_reference.specs.Soundness.{IsSound, AreNumbered}
@@ -184,6 +184,17 @@ module _ {K V P S R : Type 0} (answers : Answers K V P R) where
     sound = ∥∥₁_map h.sound (λ k. (calls_stay_sound K V P S R).written eq answers s key hash value now step k);
     bounded = written-bounded (held_at eq s.records key) s key hash value now step moment h.bounded;
   }
+
+  -- ---- removals that are sent and told at once
+
+  well-removed : (eq : K → K → Bool) (key : K) (r : Record K V) (s : State K V P S R) → held_at eq s.records key ≡ Some r → IsWellKept s → IsWellKept (with_removed (Some r) s)
+  well-removed eq key r s there h = record {
+    sound = ∥∥₁_map h.sound (λ k. subst (λ o. IsSound (with_removed o s)) there ((calls_stay_sound K V P S R).removed eq key s k));
+    bounded = removed-bounded (Some r) s h.bounded;
+  }
+
+  pub well-taken_out : (eq : K → K → Bool) (key : K) (r : Record K V) (now : ℕ) (s : State K V P S R) → held_at eq s.records key ≡ Some r → IsWellKept s → IsWellKept (taken_out answers r now s)
+  well-taken_out eq key r now s there h = well-told (sent s.next_ticket (with_removed (Some r) s)) _ _ (well-sent s.next_ticket (with_removed (Some r) s) (well-removed eq key r s there h))
 
   -- ---- look-ups
 

@@ -1,2 +1,3 @@
 pub mod Keeping
+pub use Rattle.engine_calls.specs.Named
 pub mod Showing

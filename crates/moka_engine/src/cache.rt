@@ -1,16 +1,19 @@
 //! The cache.
-ghost use Rattle.std.specs.Prelude.{◌≡◌, ℕ, ◌+◌, ◌<◌, ◌≤◌, ◌^◌, true, false, [], ◌⊎◌, length, slice_get, is_some, None, IfOk, OnOk, OnErr, option_map};
+ghost use Rattle.std.specs.Prelude.{◌≡◌, ℕ, ◌+◌, ◌<◌, ◌≤◌, ◌^◌, true, false, [], ◌⊎◌, length, slice_get, is_some, None, IfOk, IfErr, OnOk, OnErr, option_map};
 ghost use Rattle.std.specs.Duration.{as_nanos};
 ghost use Rattle.std.specs.Result.{IsErrOf};
 ghost use Rattle.std.specs.String.{string_bytes};
+ghost use Rattle.engine_calls.specs.Named.{IsNamedAlone};
+ghost use Rattle.engine_calls.specs.Refusing.{LacksRoom};
+ghost use Rattle.engine_calls.specs.Sending.{SendsAll};
 ghost use Rattle.engine_reference.specs.RunLaws.Sweeping.{IsTimely, LeavesNoneDue};
 ghost use Rattle.engine_reference.specs.Calls.{IsNew, written, sent, unsent_at, is_full, removal_told, MaintainsIfDue, cleared_by, without_notice, with_room};
 ghost use Rattle.engine_reference.specs.Laws.{CountsExactly};
 ghost use Rattle.engine_reference.specs.Runs.{RunsToEnd};
 ghost use Rattle.engine_reference.specs.Visible.{visible_record, visible_value};
 
-use engine_calls::{clone_value, look_up, policy_of, tell_removed, write};
-use engine_reference::{Entry, Hashes, Names, Notice, Policy, Refusal, Rules, Settings};
+use engine_calls::{clone_value, look_up, policy_of, tell_removed, write, write_by_name};
+use engine_reference::{Entry, Hashes, IntoKey, Names, Notice, Policy, Refusal, Rules, Settings};
 use engine_runs::{run, run_if_due, try_run};
 use engine_tables::Tables;
 use policy_base::{HousekeeperConfig, Instant};
@@ -210,6 +213,33 @@ impl<K: Eq + Hash, V, S: BuildHasher, R: Rules<K, V>> BaseCache<K, V, S, R> {
     {
         let _moment = now.as_nanos();
         write(&mut self.tables, key, hash, value, now, step, true);
+    }
+
+    /// Writes a value under the key that a name stands for, which equals no other, and moves the write into the queue, which has room. All
+    /// earlier tickets were sent. What the value replaces is reported. A key that is held and equal stays, so that none is made. Returns an
+    /// error if there is not enough memory, or if the 64-bit numbers of writes are used up; then nothing has changed.
+    pub fn insert_by_name<Q: IntoKey<K>>(
+        &mut self,
+        name: Q,
+        hash: u64,
+        value: V,
+        now: Instant,
+        step: u64,
+    ) -> Result<(), Refusal>
+    where
+        K: Clone + Drop,
+        V: Drop,
+        requires hashed { hash ≡ ⟦<S as Hashes<K>>⟧.hash self.old.hasher (Q.named_key name) }
+        requires name { Q.can_become name × IsNamedAlone K.eq (Q.named_key name) }
+        requires exact_key { (x y : K) → K.is_clone x y → y ≡ x }
+        requires queue { SendsAll self.old }
+        ensures ok { OnOk result (self.new ≡ sent self.old.next_ticket
+            (written R.answers K.eq (with_room self.old) (Q.named_key name) hash value now step)) }
+        ensures err { OnErr result (self.new ≡ self.old) }
+        ensures cause { IfErr result (LacksRoom 1 self.old) }
+    {
+        let _moment = now.as_nanos();
+        write_by_name(&mut self.tables, name, hash, value, now, step)
     }
 
     /// Reports an entry that was removed by its key, in the room that the removal left. The key itself is not looked at.

@@ -9,8 +9,8 @@ mod showing;
 pub use cache::BaseCache;
 pub use engine_reference::{
     Bundle, Entry, EvictionPolicy, Expiration, ExpirationPolicy, Expiry, Housekeeper, InnerSync,
-    Names, NoExpiry, NoPredicate, Notice, Policy, Predicate, PredicateError, Read, Record, Refusal,
-    Registered, RemovalCause, Rules, Settings, Unsent, Upsert, WeighOne, Weigher, Write,
+    IntoKey, Names, NoExpiry, NoPredicate, Notice, Policy, Predicate, PredicateError, Read, Record,
+    Refusal, Registered, RemovalCause, Rules, Settings, Unsent, Upsert, WeighOne, Weigher, Write,
 };
 pub use policy_base::{HousekeeperConfig, Instant};
 

@@ -4,12 +4,12 @@ ghost use Rattle.std.specs.Fn.{FnOnceReturnsAt};
 ghost use Rattle.std.specs.Result.{IsErrOf};
 ghost use Rattle.engine_reference.specs.Calls.{removal_rooms};
 ghost use Rattle.front_parts.specs.Places.Turning.{IsFinishCause};
-ghost use Rattle.front_reference.specs.Fronts.{turn_at, turn_of};
+ghost use Rattle.front_reference.specs.Fronts.{ComesAfter, turn_at, turn_of};
 ghost use Rattle.front_reference.specs.declared.data.Made.TheVariants as makes;
 ghost use Rattle.front_reference.specs.declared.errors.CacheError.TheVariants as errors;
 ghost use Rattle.front_reference.specs.declared.data.TurnKind.TheVariants as kinds;
-ghost use Rattle.front_reference.specs.declared.data.TurnStart.TheVariants.{Found};
-ghost use Rattle.front_state.specs.Calls.{IsCauseIn, hash_in, visible_in};
+ghost use Rattle.front_state.specs.Beginning.{StartsBy};
+ghost use Rattle.front_state.specs.Calls.{IsCauseIn, hash_in};
 ghost use Rattle.sync_desk.specs.Coalescing.{IsMadeOrFound};
 ghost use Rattle.sync_desk.specs.Drawing.{BeginsAsDrawn, CoalescesAsDrawn, ComputesAsDrawn, EndsUnstarted, FinishesAsDrawn, GivesUp, HasStarted, LacksNumbers, LacksSteps, LooksUpAsDrawn, TakesOutAsDrawn, compute_start, state_start, told_by};
 ghost use Rattle.sync_desk.specs.Slots.Endings.{IsExact, fits, suits};
@@ -22,8 +22,7 @@ use crate::desk::Desk;
 use crate::slots::{Asked, Ending, SharedName, WaitingName, copy_made};
 use engine_reference::Rules;
 use front_parts::HasWays;
-use front_reference::{At, CacheError, IntoKey, LentKey, Made, Shared, TurnKind, TurnStart};
-use policy_base::Instant;
+use front_reference::{At, CacheError, IntoKey, Made, Shared, TurnKind, TurnStart};
 use rand_core::Rng;
 use std::alloc::AllocError;
 use std::hash::{BuildHasher, Hash};
@@ -82,79 +81,106 @@ impl<
         ensures writes { self.new.writes ≡ self.old.writes }
         ensures cause { IsShortOf (LacksNumbers self.old.state self.old.slots.slots) result }
     {
+        let Some(at) = self.draw() else {
+            return Err(CacheError::UsedUp);
+        };
+        let At { now, step } = at;
         let hash = self.state.hash(asked.key());
-        let name = LentKey { key: asked.key() };
-        match self.state.turn_number(kind, &name, hash) {
-            Some(number) => self.find_or_wait(kind, asked, hash, number, replace_if),
-            None => self.find_or_lead(kind, asked, hash, replace_if),
+        if kind.is_same(TurnKind::Compute) {
+            return self.wait_or_lead(kind, asked, hash, At { now, step }, false);
+        }
+        let at = At { now, step };
+        let Ok((ignored, found)) = self.state.get_unless(&asked, hash, at, replace_if) else {
+            return Err(CacheError::OutOfMemory);
+        };
+        match found {
+            Some(value) => Ok(Start::Found(value)),
+            None => self.wait_or_lead(kind, asked, hash, At { now, step }, ignored),
         }
     }
 
-    /// Begins if no turn is under way.
-    fn find_or_lead<A: Asked<K>, P: FnOnce(&V) -> bool + Drop>(
+    /// Begins where nothing is found: the caller waits for the turn that is under way, or leads a new one.
+    fn wait_or_lead<A: Asked<K>>(
         &mut self,
         kind: TurnKind,
         asked: A,
         hash: u64,
-        replace_if: P,
+        at: At,
+        ignored: bool,
     ) -> Result<Start<A, V>, CacheError>
-        requires free { (hash
-            ≡ hash_in ⟦<R as HasWays<K, V, S>>⟧.ways self.old.state (A.named_key asked))
-            × (turn_of K.eq self.old.state.turns kind (A.named_key asked) ≡ None) }
         requires becomes { (a : A) → A.can_become a }
-        requires callable { IsExact V.is_clone × P.IsAlwaysCallable replace_if }
-        ensures begins { IfOk result
-            (λ start. BeginsAsDrawn ⟦<R as HasWays<K, V, S>>⟧.ways kind (A.named_key asked)
-            (FnOnceReturnsAt P.FnOnce replace_if) self.old.state self.new.state
-            (state_start start)) }
-        ensures turns { IfOk result (λ start. HasStarted kind
-            (hash_in ⟦<R as HasWays<K, V, S>>⟧.ways self.old.state (A.named_key asked))
+        requires hashed { hash
+            ≡ hash_in ⟦<R as HasWays<K, V, S>>⟧.ways self.old.state (A.named_key asked) }
+        requires follows { ComesAfter at.now at.step self.old.state }
+        ensures starts { IfOk result (λ start. StartsBy ⟦<R as HasWays<K, V, S>>⟧.ways kind
+            (A.named_key asked) hash at ignored self.old.state self.new.state (state_start start)) }
+        ensures turns { IfOk result (λ start. HasStarted kind hash
             self.old.slots.slots self.new.slots.slots (state_start start)) }
         ensures err { OnErr result ((self.new.state ≡ self.old.state)
             × SlotsStay self.old.slots.slots self.new.slots.slots) }
         ensures writes { self.new.writes ≡ self.old.writes }
         ensures cause { IsShortOf (LacksNumbers self.old.state self.old.slots.slots) result }
     {
-        let Some(at) = self.draw() else {
-            return Err(CacheError::UsedUp);
-        };
-        let Ok(()) = self.slots.reserve() else {
-            return Err(CacheError::OutOfMemory);
-        };
-        match self
-            .state
-            .begin_with_hash(kind, asked, hash, at, replace_if)
-        {
-            Ok(TurnStart::Found(value)) => Ok(Start::Found(value)),
-            Ok(TurnStart::Lead(number)) => {
-                self.slots.open(kind, number, hash);
-                Ok(Start::Lead(number))
-            }
-            Ok(TurnStart::Wait(_)) => unreachable!(),
-            Err(refused) => Err(refused),
+        match self.state.turn_number(kind, &asked, hash) {
+            Some(number) => self.wait_for(kind, asked, hash, at, ignored, number),
+            None => self.lead(kind, asked, hash, at, ignored),
         }
     }
 
-    /// Begins if the turn of this number is under way.
-    fn find_or_wait<A: Asked<K>, P: FnOnce(&V) -> bool + Drop>(
+    /// Begins by leading a turn, since none is under way.
+    fn lead<A: Asked<K>>(
         &mut self,
         kind: TurnKind,
         asked: A,
         hash: u64,
+        at: At,
+        ignored: bool,
+    ) -> Result<Start<A, V>, CacheError>
+        requires free { (hash
+            ≡ hash_in ⟦<R as HasWays<K, V, S>>⟧.ways self.old.state (A.named_key asked))
+            × (turn_of K.eq self.old.state.turns kind (A.named_key asked) ≡ None) }
+        requires becomes { A.can_become asked }
+        requires follows { ComesAfter at.now at.step self.old.state }
+        ensures starts { IfOk result (λ start. StartsBy ⟦<R as HasWays<K, V, S>>⟧.ways kind
+            (A.named_key asked) hash at ignored self.old.state self.new.state (state_start start)) }
+        ensures turns { IfOk result (λ start. HasStarted kind hash
+            self.old.slots.slots self.new.slots.slots (state_start start)) }
+        ensures err { OnErr result ((self.new.state ≡ self.old.state)
+            × SlotsStay self.old.slots.slots self.new.slots.slots) }
+        ensures writes { self.new.writes ≡ self.old.writes }
+        ensures cause { IsShortOf (LacksNumbers self.old.state self.old.slots.slots) result }
+    {
+        let Ok(()) = self.slots.reserve() else {
+            return Err(CacheError::OutOfMemory);
+        };
+        match self.state.begin_missed(kind, asked, hash, at, ignored) {
+            Ok(TurnStart::Lead(number)) => {
+                self.slots.open(kind, number, hash);
+                Ok(Start::Lead(number))
+            }
+            Ok(_) => unreachable!(),
+            Err(refused) => Err(refused),
+        }
+    }
+
+    /// Begins by waiting for the turn of this number, which is under way.
+    fn wait_for<A: Asked<K>>(
+        &mut self,
+        kind: TurnKind,
+        asked: A,
+        hash: u64,
+        at: At,
+        ignored: bool,
         number: u64,
-        replace_if: P,
     ) -> Result<Start<A, V>, CacheError>
         requires busy { (hash
             ≡ hash_in ⟦<R as HasWays<K, V, S>>⟧.ways self.old.state (A.named_key asked))
             × (option_map (λ turn. turn.number)
             (turn_of K.eq self.old.state.turns kind (A.named_key asked)) ≡ Some number) }
-        requires callable { IsExact V.is_clone × P.IsAlwaysCallable replace_if }
-        ensures begins { IfOk result
-            (λ start. BeginsAsDrawn ⟦<R as HasWays<K, V, S>>⟧.ways kind (A.named_key asked)
-            (FnOnceReturnsAt P.FnOnce replace_if) self.old.state self.new.state
-            (state_start start)) }
-        ensures turns { IfOk result (λ start. HasStarted kind
-            (hash_in ⟦<R as HasWays<K, V, S>>⟧.ways self.old.state (A.named_key asked))
+        requires follows { ComesAfter at.now at.step self.old.state }
+        ensures starts { IfOk result (λ start. StartsBy ⟦<R as HasWays<K, V, S>>⟧.ways kind
+            (A.named_key asked) hash at ignored self.old.state self.new.state (state_start start)) }
+        ensures turns { IfOk result (λ start. HasStarted kind hash
             self.old.slots.slots self.new.slots.slots (state_start start)) }
         ensures err { OnErr result ((self.new.state ≡ self.old.state)
             × SlotsStay self.old.slots.slots self.new.slots.slots) }
@@ -162,68 +188,16 @@ impl<
         ensures cause { IsShortOf (LacksNumbers self.old.state self.old.slots.slots) result }
     {
         if !self.slots.can_join(number) {
-            return match self.find_or_refuse(kind, asked.key(), replace_if) {
-                Ok(value) => Ok(Start::Found(value)),
-                Err(refused) => Err(refused),
-            };
-        }
-        let Some(at) = self.draw() else {
             return Err(CacheError::UsedUp);
-        };
+        }
         let name = WaitingName { key: asked.key() };
-        match self.state.begin_with_hash(kind, name, hash, at, replace_if) {
-            Ok(TurnStart::Found(value)) => Ok(Start::Found(value)),
+        match self.state.begin_missed(kind, name, hash, at, ignored) {
             Ok(TurnStart::Wait(waited)) => {
                 self.slots.join(kind, waited);
                 Ok(Start::Wait(waited, asked))
             }
-            Ok(TurnStart::Lead(_)) => unreachable!(),
+            Ok(_) => unreachable!(),
             Err(refused) => Err(refused),
-        }
-    }
-
-    /// Begins if no more can wait for the turn that is under way.
-    fn find_or_refuse<P: FnOnce(&V) -> bool + Drop>(
-        &mut self,
-        kind: TurnKind,
-        key: &K,
-        replace_if: P,
-    ) -> Result<V, CacheError>
-        requires callable { IsExact V.is_clone × P.IsAlwaysCallable replace_if }
-        ensures begins { IfOk result
-            (λ value. BeginsAsDrawn ⟦<R as HasWays<K, V, S>>⟧.ways kind key.now
-            (FnOnceReturnsAt P.FnOnce replace_if) self.old.state self.new.state (Found value)) }
-        ensures err { OnErr result (self.new.state ≡ self.old.state) }
-        ensures slots { self.new.slots ≡ self.old.slots }
-        ensures writes { self.new.writes ≡ self.old.writes }
-        ensures cause { IfErr result IsShortage }
-    {
-        if kind.is_same(TurnKind::Compute) {
-            return Err(CacheError::UsedUp);
-        }
-        let Some(at) = self.draw() else {
-            return Err(CacheError::UsedUp);
-        };
-        if self.finds_none(key, at.now, replace_if) {
-            return Err(CacheError::UsedUp);
-        }
-        match self.state.get(key, at) {
-            Ok(Some(value)) => Ok(value),
-            Ok(None) => unreachable!(),
-            Err(_) => Err(CacheError::OutOfMemory),
-        }
-    }
-
-    /// Whether no value of a key is found: none is visible, or `replace_if` returns true for it.
-    fn finds_none<P: FnOnce(&V) -> bool + Drop>(&self, key: &K, now: Instant, replace_if: P) -> bool
-        requires { P.IsAlwaysCallable replace_if }
-        ensures { result ≡ false → (value : V)
-            × (visible_in ⟦<R as HasWays<K, V, S>>⟧.ways self.now.state now key.now ≡ Some value)
-            × FnOnceReturnsAt P.FnOnce replace_if value false }
-    {
-        match self.state.peek(key, now) {
-            Some(value) => replace_if(value),
-            None => true,
         }
     }
 

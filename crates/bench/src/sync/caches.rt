@@ -19,6 +19,10 @@ pub trait SharedNumbers {
 
     /// Writes a value under a key; false where that was refused.
     fn put<H: Wait>(&self, rt: &H, key: u64, value: u64) -> bool;
+
+    /// Whether a key has a value, which is used, or gets one that is made; false where that was
+    /// refused.
+    fn fetch<H: Wait>(&self, rt: &H, key: u64) -> bool;
 }
 
 /// A cache that threads share, of any form, with the machine's clock.
@@ -60,6 +64,10 @@ impl<C: Clock + Drop, F: Drop> SharedNumbers for Moka<C, F> {
     fn put<H: Wait>(&self, rt: &H, key: u64, value: u64) -> bool {
         self.cache.insert(rt, key, value).is_ok()
     }
+
+    fn fetch<H: Wait>(&self, rt: &H, key: u64) -> bool {
+        self.cache.get_with(rt, key, || key).is_ok()
+    }
 }
 
 /// The kit's cache, under one lock.
@@ -91,6 +99,10 @@ impl SharedNumbers for Lru {
         let mut guard = self.cache.lock(rt);
         let cache = &mut *guard;
         cache.put(key, value).is_ok()
+    }
+
+    fn fetch<H: Wait>(&self, rt: &H, key: u64) -> bool {
+        self.get(rt, key) || self.put(rt, key, key)
     }
 }
 
@@ -137,6 +149,13 @@ impl SharedNumbers for Pieces {
     fn put<H: Wait>(&self, rt: &H, key: u64, value: u64) -> bool {
         match self.of(key) {
             Some(piece) => piece.put(rt, key, value),
+            None => false,
+        }
+    }
+
+    fn fetch<H: Wait>(&self, rt: &H, key: u64) -> bool {
+        match self.of(key) {
+            Some(piece) => piece.fetch(rt, key),
             None => false,
         }
     }

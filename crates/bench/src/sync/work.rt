@@ -46,6 +46,10 @@ enum Work {
     Mix,
     /// Look-ups, and a write after each miss, of twice as many keys as are held.
     Load,
+    /// Look-ups of as many keys as are held.
+    Gets,
+    /// Look-ups that make what is not there, of as many keys as are held.
+    Fetches,
 }
 
 impl Work {
@@ -53,6 +57,8 @@ impl Work {
         match word {
             "mix" => Some(Work::Mix),
             "load" => Some(Work::Load),
+            "gets" => Some(Work::Gets),
+            "fetches" => Some(Work::Fetches),
             _ => None,
         }
     }
@@ -60,7 +66,7 @@ impl Work {
     /// How many keys there are, where so many values are held.
     fn keys(self, size: NonZeroUsize) -> NonZeroUsize {
         match self {
-            Work::Mix => size,
+            Work::Mix | Work::Gets | Work::Fetches => size,
             Work::Load => size.saturating_add(size.get()),
         }
     }
@@ -108,6 +114,10 @@ impl SharedNumbers for Nothing {
         let _rt = rt;
         key == value
     }
+
+    fn fetch<H: Wait>(&self, rt: &H, key: u64) -> bool {
+        self.get(rt, key)
+    }
 }
 
 /// One call: nine of ten are look-ups. Whether a value was found.
@@ -134,6 +144,8 @@ fn call<C: SharedNumbers, H: Wait>(rt: &H, cache: &C, work: Work, turn: usize, k
     match work {
         Work::Mix => mix(rt, cache, turn, key),
         Work::Load => load(rt, cache, key),
+        Work::Gets => cache.get(rt, key),
+        Work::Fetches => cache.fetch(rt, key),
     }
 }
 

@@ -13,7 +13,7 @@ use crate::data::{Front, Notes};
 use crate::entries::StoredValue;
 use audit_model::{Bytes, Key, Seq};
 use cache_store::StoreError;
-use front_reference::{At, CacheError, Shared};
+use front_reference::{At, CacheError, ClonedKey};
 use policy_base::Instant;
 use rand_core::Rng;
 use std::alloc::{AllocError, Global};
@@ -78,22 +78,6 @@ fn refusal_of(error: CacheError) -> StoreError
     }
 }
 
-/// The key that a value is kept under: the one that is held already, or a copy.
-fn kept_key<S: BuildHasher>(
-    alloc: Global,
-    front: &Front<S>,
-    key: &Key,
-    hash: u64,
-) -> Result<Shared<Key>, AllocError>
-    requires { hash ≡ hash_with S.BuildHasher S.Hasher.Hasher front.now.common.hasher key.now }
-    ensures { IfOk result (λ kept. kept ≡ key.now) }
-{
-    match front.held_key(key, hash)? {
-        Some(held) => Ok(held),
-        None => Shared::new(alloc, key.clone()?),
-    }
-}
-
 /// Returns the moment, at the step of the last call.
 pub fn at_last_step<S: BuildHasher>(front: &Front<S>, now: u64) -> At
     requires { now < 2 ^ 63 }
@@ -127,8 +111,7 @@ pub fn insert<S: BuildHasher>(
     let hash = front.hash(key);
     let part = front.part_with_hash(hash);
     let at = at_last_step(front, now);
-    let key = kept_key(alloc, front, key, hash)?;
-    match front.insert_with_hash(key, hash, value, at) {
+    match front.insert_named(ClonedKey { key, alloc }, hash, value, at) {
         Ok(()) => Ok(part),
         Err(error) => Err(refusal_of(error)),
     }

@@ -1,5 +1,7 @@
 //! What names a key.
-ghost use Rattle.std.specs.Prelude.{◌≡◌};
+ghost use Rattle.std.specs.Prelude.{◌≡◌, IfOk};
+
+use std::alloc::AllocError;
 
 /// A name of a key, for finding one. Each key names itself; another type may name one that is stored elsewhere, for example
 /// behind a pointer, so that a look-up makes no key and allocates nothing.
@@ -17,5 +19,24 @@ impl<K: PartialEq> Names<K> for K {
 
     fn is_name_of(&self, key: &K) -> bool {
         *self == *key
+    }
+}
+
+/// A name of a key, which becomes the key if it is to be stored. So a look-up that finds its value makes no key.
+pub trait IntoKey<K: PartialEq>: Names<K> + Drop {
+    /// What is required before it becomes the key.
+    ghost can_become: { Self → Type 0 };
+
+    /// Converts the name to the key that it names. Returns an error if there is no memory for the key.
+    fn into_key(self) -> Result<K, AllocError>
+        requires { can_become self }
+        ensures { IfOk result (λ key. key ≡ Self.named_key self) };
+}
+
+impl<K: PartialEq + Drop> IntoKey<K> for K {
+    ghost can_become = { λ _. Unit {0} };
+
+    fn into_key(self) -> Result<K, AllocError> {
+        Ok(self)
     }
 }

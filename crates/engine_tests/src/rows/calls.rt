@@ -89,6 +89,73 @@ pub fn remove_in_halves(cache: &mut Numbers, key: u32, now: Instant) -> Removed 
     }
 }
 
+fn remove_at_once_once(
+    cache: &mut Numbers,
+    key: u32,
+    now: Instant,
+) -> Result<Option<u32>, Refusal> {
+    let hash = cache.hash(&key);
+    if !cache.can_send() {
+        return Err(Refusal::UsedUp);
+    }
+    match cache.remove_with_hash(&key, hash, now)? {
+        Some(value) => Ok(Some(value.number)),
+        None => Ok(None),
+    }
+}
+
+/// Removes a key and sends its removal, where all tickets were sent and there is room; elsewhere the answer is `UsedUp`.
+pub fn remove_at_once(cache: &mut Numbers, key: u32, now: Instant) -> Result<Option<u32>, Refusal> {
+    match remove_at_once_once(cache, key, now) {
+        Err(Refusal::OutOfMemory) => remove_at_once_once(cache, key, now),
+        answer => answer,
+    }
+}
+
+fn forget_once(cache: &mut Numbers, key: u32, now: Instant) -> Result<bool, Refusal> {
+    let hash = cache.hash(&key);
+    if !cache.can_send() {
+        return Err(Refusal::UsedUp);
+    }
+    cache.invalidate_with_hash(&key, hash, now)
+}
+
+/// The same without its value.
+pub fn forget(cache: &mut Numbers, key: u32, now: Instant) -> Result<bool, Refusal> {
+    match forget_once(cache, key, now) {
+        Err(Refusal::OutOfMemory) => forget_once(cache, key, now),
+        answer => answer,
+    }
+}
+
+fn put_by_name_once(
+    cache: &mut Numbers,
+    key: u32,
+    value: u32,
+    now: Instant,
+    step: u64,
+) -> Result<(), Refusal> {
+    let hash = cache.hash(&key);
+    if !cache.can_send() {
+        return Err(Refusal::UsedUp);
+    }
+    cache.insert_by_name(key, hash, Brittle { number: value }, now, step)
+}
+
+/// Writes a value by a name of its key, where all tickets were sent and there is room; elsewhere the answer is `UsedUp`.
+pub fn put_by_name(
+    cache: &mut Numbers,
+    key: u32,
+    value: u32,
+    now: Instant,
+    step: u64,
+) -> Result<(), Refusal> {
+    match put_by_name_once(cache, key, value, now, step) {
+        Err(Refusal::OutOfMemory) => put_by_name_once(cache, key, value, now, step),
+        answer => answer,
+    }
+}
+
 /// Registers a predicate of a value, with identifiers of a generator of that word.
 pub fn invalidate(cache: &mut Numbers, value: u32, step: u64, word: u32) -> Result<u128, Refusal> {
     let mut generator = Repeating(word);
@@ -195,6 +262,26 @@ fn get_past(
     number_of(cache.get_with_hash_and_ignore_if(&key, hash, now, is_past))
 }
 
+fn get_unless(
+    cache: &mut Numbers,
+    key: u32,
+    now: Instant,
+    past: u32,
+) -> Result<Option<u32>, AllocError> {
+    let is_past = |value: &Brittle| value.number == past;
+    let hash = cache.hash(&key);
+    match cache.get_with_hash_unless(&key, hash, now, is_past) {
+        Ok((is_passed_over, found)) => {
+            if is_passed_over {
+                Ok(None)
+            } else {
+                number_of(Ok(found))
+            }
+        }
+        Err(refused) => Err(refused),
+    }
+}
+
 fn look(cache: &Numbers, key: u32, now: Instant) -> Result<Option<u32>, AllocError> {
     let hash = cache.hash(&key);
     number_of(cache.get_with_hash_without_recording(&key, hash, now))
@@ -234,6 +321,7 @@ pub fn shown(
     match by {
         Look::Get => get(cache, key, now),
         Look::GetPast(past) => get_past(cache, key, now, past),
+        Look::GetUnless(past) => get_unless(cache, key, now, past),
         Look::Peek => look(cache, key, now),
         Look::Scan => scan(cache, key, now),
         Look::Borrow => Ok(peek(cache, key, now)),

@@ -7,8 +7,8 @@ use crate::hashes::hashes_so;
 use crate::housekeeping::keeps_house;
 use crate::names::finds_by_names;
 use crate::rows::calls::{
-    contains, give_up, invalidate, invalidate_apart, invalidate_in_halves, put, puts, remove,
-    remove_in_halves, shown, stored_key,
+    contains, forget, give_up, invalidate, invalidate_apart, invalidate_in_halves, put,
+    put_by_name, puts, remove, remove_at_once, remove_in_halves, shown, stored_key,
 };
 use crate::rows::rules::{Folding, Lives, Numbers, ONE, Weighs};
 use engine_reference::{Bundle, EvictionPolicy, RemovalCause, Settings};
@@ -28,6 +28,8 @@ pub enum Look {
     Get,
     /// By `get_with_hash_and_ignore_if`, which passes over this value.
     GetPast(u32),
+    /// By `get_with_hash_unless`, which passes over this value and then notes nothing.
+    GetUnless(u32),
     /// By `get_with_hash_without_recording`.
     Peek,
     /// By `scanning_get`.
@@ -58,6 +60,12 @@ pub enum Row<'a> {
     Removes(u32, Result<Option<(u32, u64)>, Refusal>),
     /// The same in two halves.
     RemovesInHalves(u32, Result<Option<(u32, u64)>, Refusal>),
+    /// The same, and the removal is sent: its value.
+    RemovesAtOnce(u32, Result<Option<u32>, Refusal>),
+    /// The same without its value: whether it was held.
+    Forgets(u32, Result<bool, Refusal>),
+    /// A value of a key is written at a step by a name of that key, and its write is sent.
+    PutsByName(u32, u32, u64, Result<(), Refusal>),
     /// All is cleared at a step.
     Clears(u64),
     /// A predicate of a value is registered at a step under that identifier, by a generator of that
@@ -262,6 +270,18 @@ fn writes_so(cache: &mut Numbers, now: Instant, row: Row<'_>) -> bool {
         Row::Clears(step) => {
             cache.invalidate_all(step);
             true
+        }
+        row => sends_so(cache, now, row),
+    }
+}
+
+/// Makes a call that sends its own write, and returns whether the result was the expected one.
+fn sends_so(cache: &mut Numbers, now: Instant, row: Row<'_>) -> bool {
+    match row {
+        Row::RemovesAtOnce(key, wanted) => remove_at_once(cache, key, now) == wanted,
+        Row::Forgets(key, wanted) => forget(cache, key, now) == wanted,
+        Row::PutsByName(key, value, step, wanted) => {
+            put_by_name(cache, key, value, now, step) == wanted
         }
         row => runs_so(cache, now, row),
     }

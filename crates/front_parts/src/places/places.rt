@@ -1,5 +1,5 @@
 //! Calls on the part at a place.
-ghost use Rattle.std.specs.Prelude.{◌≡◌, false, Ok, Some, IfOk, IfErr, OnOk, OnErr, is_some, slice_get};
+ghost use Rattle.std.specs.Prelude.{◌≡◌, false, Ok, Some, IfOk, IfErr, OnOk, OnErr, MatchOption, is_some, slice_get};
 ghost use Rattle.std.specs.Fn.{FnOnceReturnsAt};
 ghost use Rattle.engine_reference.specs.Calls.{removal_rooms};
 ghost use Rattle.engine_reference.specs.Scanning.{NotesLookUp};
@@ -7,12 +7,13 @@ ghost use Rattle.front_reference.specs.Parts.{Inserts, TakesOut};
 ghost use Rattle.front_reference.specs.Fronts.{CallsAt};
 ghost use Rattle.front_parts.specs.Places.Calls.{CoalescesAt, ComputesAt, IsAskedFirst, IsCauseOf, IsOpenAt, seen_of, visible_of, held_of};
 ghost use Rattle.front_parts.specs.Places.Told.{told_at, without_told_at};
+ghost use Rattle.moka_engine.specs.Named.{IsNamedAlone};
 ghost use Rattle.moka_engine.specs.Showing.{IsShown};
 
 use crate::places::HasWays;
 use crate::{
-    BaseCache, Notice, coalesce, compute, contains_key, get, insert, insert_or_back, invalidate,
-    look, remove,
+    BaseCache, Notice, coalesce, compute, contains_key, get, insert, insert_by_name,
+    insert_or_back, invalidate, remove,
 };
 use engine_reference::{Names, Rules};
 use front_reference::{At, CacheError, Computed, IntoKey, Made, Op};
@@ -76,6 +77,38 @@ pub fn insert_at<K: Eq + Hash + Drop, V: Drop, S: BuildHasher, R: Rules<K, V>>(
 {
     let part = &mut parts[place];
     match insert(part, key, hash, value, at) {
+        Ok(()) => Ok(()),
+        Err(refused) => Err(refused),
+    }
+}
+
+/// Calls `insert_by_name` of the part at a place, with its errors.
+pub fn insert_by_name_at<
+    K: Eq + Hash + Clone + Drop,
+    V: Drop,
+    S: BuildHasher,
+    R: Rules<K, V>,
+    Q: IntoKey<K>,
+>(
+    parts: &mut Vec<BaseCache<K, V, S, R>>,
+    place: usize,
+    name: Q,
+    hash: u64,
+    value: V,
+    at: At,
+) -> Result<(), CacheError>
+    requires there { IsOpenAt ⟦<R as HasWays<K, V, S>>⟧.ways place
+        (Q.named_key name) hash parts.old.items }
+    requires name { Q.can_become name × IsNamedAlone K.eq (Q.named_key name) }
+    requires exact_key { (x y : K) → K.is_clone x y → y ≡ x }
+    ensures inserts { OnOk result (CallsAt place (Inserts R.answers K.eq
+        (Q.named_key name) hash value at.now at.step) parts.old.items parts.new.items) }
+    ensures err { OnErr result (parts.new.items ≡ parts.old.items) }
+    ensures cause { IfErr result
+        (IsCauseOf ⟦<R as HasWays<K, V, S>>⟧.ways (λ _. 1) (slice_get parts.old.items place)) }
+{
+    let part = &mut parts[place];
+    match insert_by_name(part, name, hash, value, at) {
         Ok(()) => Ok(()),
         Err(refused) => Err(refused),
     }
@@ -219,17 +252,17 @@ pub fn compute_at<
     }
 }
 
-/// Calls `look` of the part at a place: returns whether the visible value is passed over, and a clone of one that is not. Returns an error
-/// if there is no memory for the clone.
-pub fn look_at<
-    K: Eq + Hash,
-    V: Clone,
+/// Calls `get_with_hash_unless` of the part at a place: returns whether the visible value is passed over, and a clone of one that is not,
+/// which counts as a use of it. Returns an error if there is not enough memory; then nothing has changed.
+pub fn get_unless_at<
+    K: Eq + Hash + Drop,
+    V: Clone + Drop,
     S: BuildHasher,
     R: Rules<K, V>,
     Q: Names<K>,
     P: FnOnce(&V) -> bool + Drop,
 >(
-    parts: &[BaseCache<K, V, S, R>],
+    parts: &mut Vec<BaseCache<K, V, S, R>>,
     place: usize,
     key: &Q,
     hash: u64,
@@ -237,17 +270,22 @@ pub fn look_at<
     replace_if: P,
 ) -> Result<(bool, Option<V>), AllocError>
     requires there { IsOpenAt ⟦<R as HasWays<K, V, S>>⟧.ways place
-        (Q.named_key key.now) hash parts.now }
+        (Q.named_key key.now) hash parts.old.items }
     requires exact { (x y : V) → V.is_clone x y → y ≡ x }
     requires callable { P.IsAlwaysCallable replace_if }
     ensures asked { IfOk result
-        (IsAskedFirst ⟦<R as HasWays<K, V, S>>⟧.ways (slice_get parts.now place) now
+        (IsAskedFirst ⟦<R as HasWays<K, V, S>>⟧.ways (slice_get parts.old.items place) now
         (Q.named_key key.now) (FnOnceReturnsAt P.FnOnce replace_if)) }
     ensures found { IfOk result (λ a. a.1 ≡ seen_of ⟦<R as HasWays<K, V, S>>⟧.ways
-        (slice_get parts.now place) now (Q.named_key key.now) a.0) }
+        (slice_get parts.old.items place) now (Q.named_key key.now) a.0) }
+    ensures used { IfOk result (λ a. MatchOption a.1 (parts.new.items ≡ parts.old.items) (λ value.
+        CallsAt place (NotesLookUp R.answers K.eq (Q.named_key key.now) hash now a.0)
+        parts.old.items parts.new.items)) }
+    ensures err { OnErr result (parts.new.items ≡ parts.old.items) }
 {
-    let looked = look(&parts[place], key, hash, now, replace_if)?;
-    Ok(looked)
+    let part = &mut parts[place];
+    let got = part.get_with_hash_unless(key, hash, now, replace_if)?;
+    Ok(got)
 }
 
 /// Notes a look-up in the part at a place.

@@ -1,28 +1,9 @@
 //! Keys that are made only if they are to be stored.
-ghost use Rattle.std.specs.Prelude.{◌≡◌, IfOk};
+ghost use Rattle.std.specs.Prelude.{◌≡◌};
 
 use crate::keys::shared::Shared;
-use engine_reference::Names;
+use engine_reference::{IntoKey, Names};
 use std::alloc::{AllocError, Global};
-
-/// A name of a key, which becomes the key only if the key is to be stored. So a look-up that finds its value makes no key.
-pub trait IntoKey<K: PartialEq>: Names<K> + Drop {
-    /// What is required before it becomes the key.
-    ghost can_become: { Self → Type 0 };
-
-    /// Converts the name to the key that it names. Returns an error if there is no memory for the key.
-    fn into_key(self) -> Result<K, AllocError>
-        requires { can_become self }
-        ensures { IfOk result (λ key. key ≡ Self.named_key self) };
-}
-
-impl<K: PartialEq + Drop> IntoKey<K> for K {
-    ghost can_become = { λ _. Unit {0} };
-
-    fn into_key(self) -> Result<K, AllocError> {
-        Ok(self)
-    }
-}
 
 /// An owned key, which is moved behind an `Arc` only if it is to be stored.
 #[derive(Drop)]

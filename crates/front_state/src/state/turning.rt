@@ -1,5 +1,5 @@
 //! Turns: calls that make a value, one at a time for a kind and a key.
-ghost use Rattle.std.specs.Prelude.{◌≡◌, true, false, None, IfOk, IfErr, OnOk, OnErr, is_none, is_some, option_map};
+ghost use Rattle.std.specs.Prelude.{◌≡◌, true, false, None, IfOk, IfErr, OnOk, OnErr, MatchOption, is_none, is_some, option_map};
 ghost use Rattle.std.specs.Fn.{FnOnceReturnsAt};
 ghost use Rattle.engine_reference.specs.Scanning.{NotesLookUp};
 ghost use Rattle.front_reference.specs.Fronts.{CallsPart, ComesAfter, part_by_hash, passed, turn_at, turn_of};
@@ -10,15 +10,14 @@ ghost use Rattle.front_reference.specs.declared.errors.CacheError.TheVariants.{U
 ghost use Rattle.front_parts.specs.Access.Answering.{passes_none};
 ghost use Rattle.front_parts.specs.Places.Calls.{IsAskedFirst, hash_in, seen_of};
 ghost use Rattle.front_parts.specs.Places.Turning.{BeginsIn, EndsTurnOf, FinishesBy, IsFinishCause, IsTurnCause, Leads, WaitsOrLeads};
-ghost use Rattle.front_state.specs.Beginning.{BeginsBy};
+ghost use Rattle.front_state.specs.Beginning.{BeginsBy, StartsBy};
 
 use crate::state::LentState;
 use engine_reference::{Hashes, Names, Rules};
-use front_parts::{HasWays, insert_or_back_at, look_at, make_turn, note_at, place_of};
+use front_parts::{HasWays, get_unless_at, insert_or_back_at, make_turn, note_at, place_of};
 use front_reference::{
     At, CacheError, IntoKey, LentKey, Made, OwnedKey, Shared, TurnKind, TurnStart,
 };
-use policy_base::Instant;
 use std::alloc::AllocError;
 use std::hash::{BuildHasher, Hash};
 
@@ -52,29 +51,47 @@ impl<K: Eq + Hash, V, S: BuildHasher, R: Rules<K, V>, C> LentState<K, V, S, R, C
     }
 
     /// Returns whether `replace_if` returned true for the visible value of a key, which is then passed over, and otherwise a clone of that
-    /// value. The call does not count as a use of the value.
-    fn look<Q: Names<Shared<K>>, P: FnOnce(&V) -> bool + Drop>(
-        &self,
+    /// value, which counts as a use of it. If no clone is returned, nothing has changed, and `begin_missed` begins a call that makes a
+    /// value. Returns an error if there is not enough memory; then nothing has changed.
+    /// ```
+    /// let (is_passed_over, found) = cache.get_unless(&LentKey { key: &7 }, cache.hash(&7), at, |v| v.is_old())?;
+    /// ```
+    pub fn get_unless<Q: Names<Shared<K>>, P: FnOnce(&V) -> bool + Drop>(
+        &mut self,
         key: &Q,
         hash: u64,
-        now: Instant,
+        at: At,
         replace_if: P,
     ) -> Result<(bool, Option<V>), AllocError>
     where
-        V: Clone,
+        K: Drop,
+        V: Clone + Drop,
         requires hashed { hash
-            ≡ hash_in ⟦<R as HasWays<K, V, S>>⟧.ways self.now (Q.named_key key.now) }
+            ≡ hash_in ⟦<R as HasWays<K, V, S>>⟧.ways self.old (Q.named_key key.now) }
         requires exact { (x y : V) → V.is_clone x y → y ≡ x }
         requires callable { P.IsAlwaysCallable replace_if }
+        requires follows { ComesAfter at.now at.step self.old }
         ensures asked { IfOk result
-            (IsAskedFirst ⟦<R as HasWays<K, V, S>>⟧.ways (part_by_hash self.now hash) now
+            (IsAskedFirst ⟦<R as HasWays<K, V, S>>⟧.ways (part_by_hash self.old hash) at.now
             (Q.named_key key.now) (FnOnceReturnsAt P.FnOnce replace_if)) }
         ensures found { IfOk result (λ a. a.1 ≡ seen_of ⟦<R as HasWays<K, V, S>>⟧.ways
-            (part_by_hash self.now hash) now (Q.named_key key.now) a.0) }
+            (part_by_hash self.old hash) at.now (Q.named_key key.now) a.0) }
+        ensures used { IfOk result (λ a. MatchOption a.1 (self.new ≡ self.old) (λ value. CallsPart
+            hash at.now at.step (NotesLookUp R.answers K.eq (Q.named_key key.now) hash at.now a.0)
+            self.old self.new)) }
+        ensures err { OnErr result (self.new ≡ self.old) }
     {
+        let At { now, step } = at;
         let place = place_of(self.bits, hash);
-        let looked = look_at(self.parts.as_slice(), place, key, hash, now, replace_if)?;
-        Ok(looked)
+        let (ignored, found) = get_unless_at(&mut self.parts, place, key, hash, now, replace_if)?;
+        match found {
+            Some(value) => {
+                self.moment = now;
+                self.step = step;
+                Ok((ignored, Some(value)))
+            }
+            None => Ok((ignored, None)),
+        }
     }
 
     /// Notes a look-up of a key.
@@ -186,13 +203,11 @@ impl<K: Eq + Hash, V, S: BuildHasher, R: Rules<K, V>, C> LentState<K, V, S, R, C
         ensures err { OnErr result (self.new ≡ self.old) }
         ensures cause { IfErr result (IsTurnCause self.old.next_turn) }
     {
-        let (ignored, found) = self.look(&name, hash, at.now, replace_if)?;
+        let At { now, step } = at;
+        let (ignored, found) = self.get_unless(&name, hash, At { now, step }, replace_if)?;
         match found {
-            Some(value) => {
-                self.note(&name, hash, at, ignored);
-                Ok(TurnStart::Found(value))
-            }
-            None => self.wait_or_lead(kind, name, hash, at, ignored),
+            Some(value) => Ok(TurnStart::Found(value)),
+            None => self.wait_or_lead(kind, name, hash, At { now, step }, ignored),
         }
     }
 
@@ -333,8 +348,40 @@ impl<K: Eq + Hash, V, S: BuildHasher, R: Rules<K, V>, C> LentState<K, V, S, R, C
         ensures cause { IfErr result (IsTurnCause self.old.next_turn) }
     {
         match kind {
-            TurnKind::Compute => self.begin_compute(name, hash, at),
+            TurnKind::Compute => self.begin_missed(kind, name, hash, at, false),
             _ => self.begin_making(kind, name, hash, at, replace_if),
+        }
+    }
+
+    /// Does the second half of `begin_with_hash`, for a call that makes a value and found none, which `get_unless` shows, or for a compute
+    /// call, which looks nothing up. Returns the turn of its kind and key that is under way, or a new one, which the caller leads. Returns
+    /// `OutOfMemory` if there is not enough memory, and `UsedUp` if the 64-bit numbers of turns are used up; then nothing has changed.
+    /// ```
+    /// cache.begin_missed(TurnKind::With, OwnedKey { key: 7, alloc }, hash, at, is_passed_over)?;
+    /// ```
+    pub fn begin_missed<Q: IntoKey<Shared<K>>>(
+        &mut self,
+        kind: TurnKind,
+        name: Q,
+        hash: u64,
+        at: At,
+        ignored: bool,
+    ) -> Result<TurnStart<V>, CacheError>
+    where
+        K: Drop,
+        V: Drop,
+        requires hashed { hash
+            ≡ hash_in ⟦<R as HasWays<K, V, S>>⟧.ways self.old (Q.named_key name) }
+        requires becomes { Q.can_become name }
+        requires follows { ComesAfter at.now at.step self.old }
+        ensures starts { IfOk result (StartsBy ⟦<R as HasWays<K, V, S>>⟧.ways kind
+            (Q.named_key name) hash at ignored self.old self.new) }
+        ensures err { OnErr result (self.new ≡ self.old) }
+        ensures cause { IfErr result (IsTurnCause self.old.next_turn) }
+    {
+        match kind {
+            TurnKind::Compute => self.begin_compute(name, hash, at),
+            _ => self.wait_or_lead(kind, name, hash, at, ignored),
         }
     }
 

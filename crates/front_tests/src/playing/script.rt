@@ -8,7 +8,7 @@ use crate::playing::rules::IsEither;
 use crate::playing::selecting::Select;
 use crate::playing::turning::Turning;
 use engine_reference::{Bundle, EvictionPolicy, NoExpiry, RemovalCause, WeighOne};
-use front_reference::{At, CacheError, ClonedKey, Made, OwnedKey, TurnKind, TurnStart};
+use front_reference::{At, CacheError, ClonedKey, LentKey, Made, OwnedKey, TurnKind, TurnStart};
 use moka::{BuildError, CacheBuilder, LentState, Segmented, Single};
 use policy_base::Instant;
 use std::alloc::{AllocError, Global};
@@ -86,6 +86,8 @@ pub enum Call {
     Insert(u64, u64),
     /// `insert_with_hash` of what names a key.
     InsertNamed(u64, u64),
+    /// `insert_named`, which keeps the key that is held.
+    InsertKept(u64, u64),
     /// A key is removed, whose value is this.
     Remove(u64, Option<u64>),
     /// A key is removed.
@@ -100,6 +102,8 @@ pub enum Call {
     OrInsert(u64, u64, (u64, bool)),
     /// A call of a kind begins, for a key.
     Begin(TurnKind, u64, Start),
+    /// The same in two halves, where a value of 0 is passed over.
+    BeginInHalves(TurnKind, u64, Start),
     /// The turn of this number ends with a value.
     Finish(u64, u64, Result<(), CacheError>),
     /// The turn of this number is given up.
@@ -300,8 +304,12 @@ fn perform_turn<C>(
 {
     match call {
         Call::InsertNamed(key, value) => insert_named(alloc, state, at, key, value),
+        Call::InsertKept(key, value) => insert_kept(alloc, state, at, key, value),
         Call::OrInsert(key, value, answer) => or_insert(alloc, state, at, key, value, answer),
         Call::Begin(kind, key, start) => begin(state, at, kind, key, start),
+        Call::BeginInHalves(kind, key, start) => {
+            begin_in_halves(alloc, state, at, kind, key, start)
+        }
         Call::Finish(number, value, answer) => {
             let made: Made<u64, ()> = Made::Value(value);
             match state.finish(number, made, at) {
@@ -351,6 +359,43 @@ fn insert_named<C>(
     let name = ClonedKey { key: &key, alloc };
     state.insert_with_hash(name, hash, value, at)?;
     Ok(true)
+}
+
+fn insert_kept<C>(
+    alloc: Global,
+    state: &mut Numbers<C>,
+    at: At,
+    key: u64,
+    value: u64,
+) -> Result<bool, CacheError>
+    requires { ComesAfter at.now at.step state.old }
+{
+    let hash = state.hash(&key);
+    state.insert_named(ClonedKey { key: &key, alloc }, hash, value, at)?;
+    Ok(true)
+}
+
+fn begin_in_halves<C>(
+    alloc: Global,
+    state: &mut Numbers<C>,
+    at: At,
+    kind: TurnKind,
+    key: u64,
+    start: Start,
+) -> Result<bool, CacheError>
+    requires { ComesAfter at.now at.step state.old }
+{
+    let At { now, step } = at;
+    let hash = state.hash(&key);
+    let name = LentKey { key: &key };
+    match state.get_unless(&name, hash, At { now, step }, |value: &u64| *value == 0)? {
+        (_, Some(value)) => Ok(start == Start::Found(value)),
+        (ignored, None) => {
+            let name = OwnedKey { key, alloc };
+            let answer = state.begin_missed(kind, name, hash, At { now, step }, ignored)?;
+            Ok(start_of(answer) == start)
+        }
+    }
 }
 
 fn begin<C>(

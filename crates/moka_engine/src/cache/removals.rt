@@ -1,13 +1,16 @@
-//! Removal by key, in one call or in two halves.
-ghost use Rattle.std.specs.Prelude.{◌≡◌, ◌+◌, ◌<◌, ◌≤◌, ◌^◌, ◌⊎◌, length, slice_get, Some, IfOk, OnOk, OnErr, option_map};
+//! Removal by key: at once, or waiting to be sent, in one call or in two halves.
+ghost use Rattle.std.specs.Prelude.{◌≡◌, ◌+◌, ◌<◌, ◌≤◌, ◌^◌, ◌⊎◌, length, slice_get, Some, IfOk, IfErr, OnOk, OnErr, MatchOption, is_some, option_map};
 ghost use Rattle.std.specs.Result.{IsErrOf};
-ghost use Rattle.engine_reference.specs.Calls.{removal_rooms, removed_by, with_removal_room, with_reserved_removal};
+ghost use Rattle.engine_calls.specs.Refusing.{LacksRoom};
+ghost use Rattle.engine_calls.specs.Sending.{SendsAll};
+ghost use Rattle.engine_reference.specs.Calls.{removal_rooms, removed_by, taken_out, with_removal_room, with_reserved_removal};
 ghost use Rattle.engine_reference.specs.Records.{held_at};
 ghost use Rattle.engine_reference.specs.declared.data.Record.{Record};
 
 use crate::cache::BaseCache;
-use engine_calls::{prepare_removal, remove_reserved};
+use engine_calls::{prepare_removal, remove_in, remove_reserved};
 use engine_reference::{Entry, Hashes, Names, Refusal, Rules};
+use policy_base::Instant;
 use std::hash::{BuildHasher, Hash};
 
 impl<K: Eq + Hash, V, S: BuildHasher, R: Rules<K, V>> BaseCache<K, V, S, R> {
@@ -38,6 +41,71 @@ impl<K: Eq + Hash, V, S: BuildHasher, R: Rules<K, V>> BaseCache<K, V, S, R> {
     {
         match self.prepare_removal(key, hash)? {
             Some(parts) => Ok(self.remove_reserved(key, hash, parts)),
+            None => Ok(None),
+        }
+    }
+
+    /// Removes a key, whether its deadline has come or not, moves the removal into the queue, which has room, and returns whether the key was
+    /// held. All earlier tickets were sent. If removals are reported, so is this one, with a clone of the value. If they are not, nothing is
+    /// cloned. Returns an error if there is not enough memory, or if the 64-bit numbers of writes are used up; then nothing has changed.
+    pub fn invalidate_with_hash<Q: Names<K>>(
+        &mut self,
+        key: &Q,
+        hash: u64,
+        now: Instant,
+    ) -> Result<bool, Refusal>
+    where
+        K: Clone + Drop,
+        V: Clone + Drop,
+        requires hashed { hash ≡ ⟦<S as Hashes<K>>⟧.hash self.old.hasher (Q.named_key key.now) }
+        requires exact_key { (x y : K) → K.is_clone x y → y ≡ x }
+        requires exact { (x y : V) → V.is_clone x y → y ≡ x }
+        requires queue { SendsAll self.old }
+        ensures removed { OnOk result
+            (MatchOption (held_at K.eq self.old.records (Q.named_key key.now)) (self.new ≡ self.old)
+            (λ r. self.new ≡ taken_out R.answers r now self.old)) }
+        ensures held { IfOk result (λ was_held. was_held
+            ≡ is_some (held_at K.eq self.old.records (Q.named_key key.now))) }
+        ensures err { OnErr result (self.new ≡ self.old) }
+        ensures cause { IfErr result (LacksRoom (removal_rooms self.old.settings) self.old) }
+    {
+        match self.tables.place_of(key, hash) {
+            Some(place) => {
+                remove_in(&mut self.tables, place, now)?;
+                Ok(true)
+            }
+            None => Ok(false),
+        }
+    }
+
+    /// Removes a key like `invalidate_with_hash`, with its errors, and returns a clone of its value, or `None` if the key was not held.
+    pub fn remove_with_hash<Q: Names<K>>(
+        &mut self,
+        key: &Q,
+        hash: u64,
+        now: Instant,
+    ) -> Result<Option<V>, Refusal>
+    where
+        K: Clone + Drop,
+        V: Clone + Drop,
+        requires hashed { hash ≡ ⟦<S as Hashes<K>>⟧.hash self.old.hasher (Q.named_key key.now) }
+        requires exact_key { (x y : K) → K.is_clone x y → y ≡ x }
+        requires exact { (x y : V) → V.is_clone x y → y ≡ x }
+        requires queue { SendsAll self.old }
+        ensures removed { OnOk result
+            (MatchOption (held_at K.eq self.old.records (Q.named_key key.now)) (self.new ≡ self.old)
+            (λ r. self.new ≡ taken_out R.answers r now self.old)) }
+        ensures value { IfOk result (λ value. value ≡ option_map (λ r. r.entry.value)
+            (held_at K.eq self.old.records (Q.named_key key.now))) }
+        ensures err { OnErr result (self.new ≡ self.old) }
+        ensures cause { IfErr result (LacksRoom (removal_rooms self.old.settings) self.old) }
+    {
+        match self.tables.place_of(key, hash) {
+            Some(place) => {
+                let value = self.tables.record_in(place).value().clone()?;
+                remove_in(&mut self.tables, place, now)?;
+                Ok(Some(value))
+            }
             None => Ok(None),
         }
     }

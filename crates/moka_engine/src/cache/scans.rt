@@ -3,7 +3,7 @@ ghost use Rattle.std.specs.Prelude.{◌≡◌, ◌<◌, ℕ, length, Some, None,
 ghost use Rattle.std.specs.Fn.{FnOnceReturnsAt};
 ghost use Rattle.engine_reference.specs.Records.{held_at};
 ghost use Rattle.engine_reference.specs.Visible.{visible_value};
-ghost use Rattle.engine_reference.specs.Scanning.{held_keys, visible_keys, LooksUpPast};
+ghost use Rattle.engine_reference.specs.Scanning.{held_keys, past, visible_keys, LooksUpPast, NotesLookUp};
 
 use crate::cache::BaseCache;
 use crate::noting::note_read;
@@ -127,5 +127,41 @@ impl<K: Eq + Hash, V, S: BuildHasher, R: Rules<K, V>> BaseCache<K, V, S, R> {
         let value = clone_found(&self.tables, found)?;
         note_read(&mut self.tables, found, hash, now);
         Ok(value)
+    }
+
+    /// Returns whether `ignore_if` returned true for the visible value of a key, which then counts as not found, and otherwise a clone of that
+    /// value, which counts as a use of it. If no clone is returned, nothing has changed, and `note_look_up` is the second half of the
+    /// look-up. Returns an error if there is not enough memory; then nothing has changed.
+    pub fn get_with_hash_unless<Q: Names<K>, F: FnOnce(&V) -> bool + Drop>(
+        &mut self,
+        key: &Q,
+        hash: u64,
+        now: Instant,
+        ignore_if: F,
+    ) -> Result<(bool, Option<V>), AllocError>
+    where
+        K: Drop,
+        V: Clone + Drop,
+        requires hashed { hash ≡ ⟦<S as Hashes<K>>⟧.hash self.old.hasher (Q.named_key key.now) }
+        requires exact { (x y : V) → V.is_clone x y → y ≡ x }
+        requires callable { F.IsAlwaysCallable ignore_if }
+        ensures asked { IfOk result (λ got. (value : V)
+            → visible_value R.answers K.eq self.old now (Q.named_key key.now) ≡ Some value
+            → FnOnceReturnsAt F.FnOnce ignore_if value got.0) }
+        ensures found { IfOk result (λ got. got.1
+            ≡ past got.0 (visible_value R.answers K.eq self.old now (Q.named_key key.now))) }
+        ensures used { IfOk result (λ got. MatchOption got.1 (self.new ≡ self.old) (λ value.
+            NotesLookUp R.answers K.eq (Q.named_key key.now) hash now got.0 self.old self.new)) }
+        ensures err { OnErr result (self.new ≡ self.old) }
+    {
+        let seen = find(&self.tables, key, hash, now.as_nanos());
+        match pass_over(&self.tables, seen, ignore_if) {
+            Some(place) => {
+                let value = self.tables.record_in(place).value().clone()?;
+                note_read(&mut self.tables, Some(place), hash, now);
+                Ok((false, Some(value)))
+            }
+            None => Ok((seen.is_some(), None)),
+        }
     }
 }

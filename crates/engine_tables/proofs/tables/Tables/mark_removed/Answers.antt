@@ -1,15 +1,17 @@
-use Rattle.std.proofs.Common.{refl, ap, sym, ◌∙◌, length-set, ◌-◌, ◌+◌, ◌<◌, is_some, Some, false, true≢false, arith}
+use Rattle.std.proofs.Common.{refl, ap, sym, ◌∙◌, length-set, ◌-◌, ◌+◌, ◌<◌, is_some, Some, false, true≢false, arith, length}
 use Rattle.std.specs.Prelude.{slice_set}
 use Rattle.engine_reference.specs.declared.data.Record.{Record}
 use Rattle.engine_cells.specs.Kept.{kept_at}
 use Rattle.engine_cells.proofs.Views.{kept-in, numbers-alike, numbered-alike, listed-alike, alike-set, numbers_of-set, count-set}
 use Rattle.engine_cells.proofs.Listed.{records-set}
-use Rattle.engine_cells.proofs.Pointing.{pointed-alike, aims-made, aims-there, made-unsent}
+use Rattle.engine_cells.proofs.Pointing.{pointed-alike, aims-made, aims-there, made-unsent, made-writes}
 use Rattle.engine_cells.proofs.Counting.{gets-set}
 use Rattle.engine_reference.specs.declared.data.Write.TheVariants as Write
 use Rattle.engine_cells.proofs.Spotting.{unholds-changed, spotted-unholds, hashed-unholds, space-unholds}
 use Rattle.engine_cells.proofs.Totals.{tally-has, tally-unheld, places-alike}
 use Rattle.engine_cells.specs.Tallying.{admitted_part}
+use Rattle.engine_cells.specs.Noting.{write_of}
+use Rattle.std.proofs.lemmas.List.{length-map}
 use Rattle.std.proofs.Math.Logic.{∥∥₁_map}
 use Rattle.engine_cells.proofs.Awaits.{awaited-gets}
 use Rattle.engine_tables.proofs.tables.Tables.mark_removed.Goals as goal
@@ -51,7 +53,7 @@ invariant_of-self g c =
       notices = rw made (λ tells. let had = c.self.invariant.notices tells in omega arith);
       tallied = tally-unheld cells c.args.place x (x.writes + 1) c.self.inside.tally c.unheld-self-inside.result there c.self.invariant.tallied c.unheld-self-inside.ensures;
       aimed = rw (made, c.removed-write.ensures, c.number-number.ensures)
-          (aims-made false (slice_set cells c.args.place (Some d)) c.self.inside.next_number c.self.inside.backlog.next_ticket (record { place = c.args.place; write = Write.Removed x.number })
+          (aims-made c.args.at_once (slice_set cells c.args.place (Some d)) c.self.inside.next_number c.self.inside.backlog.next_ticket (record { place = c.args.place; write = Write.Removed x.number })
           (aims-there (slice_set cells c.args.place (Some d)) c.self.inside.next_number c.args.place d kept (gets-set cells c.args.place x d there).there)
           (pointed-alike cells (slice_set cells c.args.place (Some d)) c.self.inside.next_number h c.self.invariant.aimed));
       reserved = rw made (omega (arith, c.self.invariant.reserved));
@@ -83,7 +85,8 @@ returns g c =
         c.add_write.ensures,
         c.removed-write.ensures,
         c.number-number.ensures,
-        made-unsent false c.self.inside.backlog.unsent c.self.inside.backlog.next_ticket (record { place = c.args.place; write = Write.Removed x.number }),
+        made-unsent c.args.at_once c.self.inside.backlog.unsent c.self.inside.backlog.next_ticket (record { place = c.args.place; write = Write.Removed x.number }),
+        made-writes c.args.at_once c.self.inside.backlog.writes (record { place = c.args.place; write = Write.Removed x.number }),
       ) refl,
     )
 
@@ -92,3 +95,9 @@ unheld-self-inside-requires g c = (tally-has c.self.inside.cells.slots c.args.pl
 
 pub take_if-requires : goal.take_if-requires
 take_if-requires g c = rw (c.is_held-was_held.ensures, c.hash-hash.ensures) (c.self.invariant.spotted.spotted c.args.place c.index_mut-cell.result.now c.index_mut-cell.ensures.value)
+
+pub add_write-requires-clause-queue : goal.add_write-requires-clause-queue
+add_write-requires-clause-queue g c at_once =
+    let short = c.requires.queue at_once in
+    let long = ap (λ t. length t.state.writes) c.self.view_is in
+    omega (arith, short, long, length-map c.self.inside.backlog.writes write_of)
