@@ -8,6 +8,7 @@ mod input;
 mod key;
 mod note_key;
 mod seq;
+mod short;
 mod transcript;
 
 pub use command::{Closing, Command, LineError};

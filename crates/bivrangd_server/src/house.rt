@@ -35,6 +35,9 @@ const SEATS: u64 = 1 << 32;
 /// A loop that accepts alone accepts so many connections in one wake-up.
 const ACCEPTS: usize = 64;
 
+/// A millisecond has so many nanoseconds.
+const NANOS: u64 = 1_000_000;
+
 /// Where nothing else is said, a namespace has at most so many loops.
 const LOOPS: usize = 2;
 
@@ -198,6 +201,7 @@ impl<R: Machine> House<R> {
             source,
             protocol: hosting.protocol,
             notices: hosting.notices,
+            limit: hosting.load_ms.map(|millis| millis.saturating_mul(NANOS)),
             rules: Rules {
                 accepts: if loops == 1 { ACCEPTS } else { 1 },
                 connections: hosting.connections,
@@ -234,6 +238,7 @@ impl<R: Machine> House<R> {
             shared,
             site: plan.site,
             notices: plan.notices,
+            limit: plan.limit,
             departures: Arc::try_clone(&plan.source.departures)?,
             ending: Sender::clone(&self.ending)?,
         };
@@ -275,6 +280,8 @@ struct Plan<R: time::Clock + Wait + Copy> {
     site: Site<R>,
     protocol: Protocol,
     notices: Notices,
+    // after so many nanoseconds a load is given up
+    limit: Option<u64>,
     rules: Rules,
     loops: usize,
     source: Source,

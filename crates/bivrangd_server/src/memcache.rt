@@ -80,6 +80,8 @@ impl<T: Shelf, R: Clock + Drop> Steward for MemcacheSteward<T, R> {
 
     ghost rests_on = { Unit {0} };
 
+    ghost is_settled = { λ steward. Unit {0} };
+
     fn refusal(&self) -> &'static [u8] {
         b"ERROR Too many open connections\r\n"
     }

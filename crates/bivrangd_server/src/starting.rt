@@ -168,6 +168,8 @@ pub struct Start<L: Seating, C: Shareable, R: Machine> {
     pub site: Site<R>,
     /// How much of each note is reported.
     pub notices: Notices,
+    /// After how many nanoseconds a load is given up, or `None` without a limit.
+    pub limit: Option<u64>,
     /// How many values have left, by cause.
     pub departures: Arc<Mutex<Departures>>,
     /// Where a loop reports that it has ended.
@@ -230,24 +232,25 @@ where
         gear: Gear,
         number: usize,
     ) -> Result<JoinHandle<()>, AllocError> {
-        let rt = self.rt;
+        let (rt, limit) = (self.rt, self.limit);
         let shared = SharedService::clone(&self.shared)?;
         let ending = Sender::clone(&self.ending)?;
         let looping = move || {
-            let served = serve_seat(&rt, &shared, seat, devices, gear);
+            let served = serve_seat(&rt, &shared, seat, devices, gear, limit);
             let _ = ending.send(&rt, told_by(&served, number));
         };
         Ok(thread::spawn(&rt, looping)?)
     }
 }
 
-/// Serves connections with a seat, until the loop ends.
+/// Serves connections with a seat, until the loop ends. After `limit` nanoseconds a load is given up.
 fn serve_seat<L: Seating, C: Shareable, R: Machine>(
     rt: &R,
     shared: &SharedService<L, C>,
     seat: Seat<L>,
     devices: (StartClock<R>, ListLoader, Herald<R>),
     gear: Gear,
+    limit: Option<u64>,
 ) -> io::Result<()> {
     let (clock, loader, mut herald) = devices;
     let Gear {
@@ -259,7 +262,7 @@ fn serve_seat<L: Seating, C: Shareable, R: Machine>(
     let (alloc, asker) = (crew.alloc, Here { loader });
     let mut sitting = Sitting::new(rt, alloc, shared, &mut herald, false)?;
     let (namespace, place) = (crew.namespace, &mut seat);
-    let steward = LineSteward::new(alloc, namespace, &mut sitting, place, clock, asker, None);
+    let steward = LineSteward::new(alloc, namespace, &mut sitting, place, clock, asker, limit);
     let Ok(mut steward) = steward else {
         return Err(io::Error::from(ErrorKind::OutOfMemory));
     };

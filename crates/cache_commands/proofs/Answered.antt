@@ -348,18 +348,10 @@ pub stored-off : (now : ℕ) (key : List ℕ) (outcome : Outcome) (v : Values) �
 stored-off now key outcome v sound in_time off = same-stored now key outcome v sound in_time (λ s. stores-off v.frame.config s key outcome off)
 
 pub stored-none : (now : ℕ) (key : List ℕ) (v : Values) → IsSoundStore v → v.frame.latest ≤ now → IsStored now key came.None None v v
-stored-none now key v sound in_time = same-stored now key came.None v sound in_time (λ s. go (accepts_values v.frame.config.capacity))
-  where
-    go : (b : Bool) → taken_where b None ≡ None
-    go true = refl
-    go false = refl
+stored-none now key v sound in_time = same-stored now key came.None v sound in_time (λ s. grind arith)
 
 pub stored-fault : (now : ℕ) (key text : List ℕ) (v : Values) → IsSoundStore v → v.frame.latest ≤ now → IsStored now key (came.Fault text) None v v
-stored-fault now key text v sound in_time = same-stored now key (came.Fault text) v sound in_time (λ s. go (accepts_values v.frame.config.capacity))
-  where
-    go : (b : Bool) → taken_where b None ≡ None
-    go true = refl
-    go false = refl
+stored-fault now key text v sound in_time = same-stored now key (came.Fault text) v sound in_time (λ s. grind arith)
 
 pub stored-value : (now : ℕ) (key bytes : List ℕ) (ms : Option ℕ) (part : ℕ) (was is : Values) → IsSoundStore was → accepts_values was.frame.config.capacity ≡ true
     → AcceptsValue now key bytes ms false part was is → IsStored now key (came.Value bytes ms) (Some (record { part = part })) was is

@@ -1,11 +1,11 @@
 -- What a store's clauses say, in the words of the definition of steps.
-use Rattle.std.proofs.Common.{refl, sym, ap, ◌∙◌, subst, append_assoc, ◌<◌, ◌≡◌, ℕ, Bool, true, false, not, ◌&&◌, ◌||◌, List, [], ◌∷◌, ◌++◌, map, Option, Some, None, if◌then◌else◌, codes, nat_lt, length, decimal, IsTrue, ◌+◌, is_some, cond, nat_eq}
+use Rattle.std.proofs.Common.{arith, refl, sym, ap, ◌∙◌, subst, append_assoc, ◌<◌, ◌≡◌, ℕ, Bool, true, false, not, ◌&&◌, ◌||◌, List, [], ◌∷◌, ◌++◌, map, Option, Some, None, if◌then◌else◌, codes, nat_lt, length, decimal, IsTrue, ◌+◌, is_some, nat_eq}
 use Rattle.std.proofs.lemmas.Bool.{eq-eqb, lt-ltb}
 use Rattle.std.proofs.lemmas.List.{length-map, append-nil}
 use Rattle.std.specs.List.{sum_by, list_all, concat, fold, find}
 use Rattle.std.specs.Option.{option_map, option_eq}
 use Rattle.audit_model.specs.Bytewise.{same, text_line, is_empty}
-use Rattle.audit_model.specs.Changes.{all_held_after, held_after, left_held, is_evictable_after}
+use Rattle.audit_model.specs.Changes.{all_held_after, held_after, left_held}
 use Rattle.audit_model.specs.Commands.{Deed}
 use Rattle.audit_model.specs.History.{Running, Value, accepts_values, part_count, Delivering, Abandoning, Storing}
 use Rattle.audit_model.specs.Notes.{is_within, is_succeeded, are_true_notes, candidates_of}
@@ -245,15 +245,9 @@ unused-after : (config : Config) (now : ℕ) (held : List HeldValue) (key : List
     → find (λ h. same key h.value.key && is_live_at config now h) hs ≡ None
     → map (held_after config now held (using key) [] values) hs ≡ map (held_after config now held no_deed [] values) hs
 unused-after config now held key values [] none = refl
-unused-after config now held key values (h ∷ hs) none = go (λ rest. unused-after config now held key values hs rest) (same key h.value.key && is_live_at config now h) refl none
-  where
-    go : (find (λ (x : HeldValue). same key x.value.key && is_live_at config now x) hs ≡ None → map (held_after config now held (using key) [] values) hs ≡ map (held_after config now held no_deed [] values) hs)
-        → (b : Bool) → (same key h.value.key && is_live_at config now h) ≡ b → cond b (Some h) (find (λ (x : HeldValue). same key x.value.key && is_live_at config now x) hs) ≡ None
-        → map (held_after config now held (using key) [] values) (h ∷ hs) ≡ map (held_after config now held no_deed [] values) (h ∷ hs)
-    go next true is e = let no : Some h ≡ None = e in cc
-    go next false is e =
-        ap (λ b. record { value = h.value; last_use = if b then now else h.last_use; covered = h.covered || false; evictable = is_evictable_after config now held no_deed [] values h } ∷ map (held_after config now held (using key) [] values) hs) is
-        ∙ ap (λ rest. held_after config now held no_deed [] values h ∷ rest) (next e)
+unused-after config now held key values (h ∷ hs) none =
+    let next = unused-after config now held key values hs in
+    grind (arith, next)
 
 live-none : (o : Option HeldValue) → option_map (λ (h : HeldValue). h.value) o ≡ None → o ≡ None
 live-none None e = refl

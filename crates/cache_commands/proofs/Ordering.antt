@@ -1,5 +1,5 @@
 -- How commands change the order of use.
-use Rattle.std.proofs.Common.{zero, cond, refl, sym, ap, ◌∙◌, subst, arith, Err, ◌≡◌, ℕ, suc, ◌≤◌, Bool, true, false, not, ◌||◌, List, [], ◌∷◌, length, take, Option, Ok, if◌then◌else◌}
+use Rattle.std.proofs.Common.{zero, refl, sym, ap, ◌∙◌, subst, arith, Err, ◌≡◌, ℕ, suc, ◌≤◌, Bool, true, false, List, [], ◌∷◌, length, take, Option, Ok}
 use Rattle.std.proofs.lemmas.List.{take_all}
 use Rattle.std.specs.List.{list_any}
 use Rattle.audit_model.specs.Bytewise.{same}
@@ -20,29 +20,17 @@ Recency = Bool → List (List ℕ) → Type 0
 
 pub without-shorter : (key : List ℕ) (keys : List (List ℕ)) → length (keys_without key keys) ≤ length keys
 without-shorter key [] = omega arith
-without-shorter key (k ∷ keys) = go (same k key) (without-shorter key keys)
-  where
-    go : (b : Bool) → length (keys_without key keys) ≤ length keys → length (cond (not b) (k ∷ keys_without key keys) (keys_without key keys)) ≤ suc (length keys)
-    go true h = omega arith
-    go false h = omega arith
+without-shorter key (k ∷ keys) = let next = without-shorter key keys in grind (arith, next)
 
 pub without-one : (key : List ℕ) (keys : List (List ℕ)) → list_any (λ k. same k key) keys ≡ true → suc (length (keys_without key keys)) ≤ length keys
 without-one key [] h = let e : false ≡ true = h in cc
-without-one key (k ∷ keys) h = go (same k key) refl (without-shorter key keys) (without-one key keys) h
-  where
-    go : (b : Bool) → same k key ≡ b → length (keys_without key keys) ≤ length keys → (list_any (λ x. same x key) keys ≡ true → suc (length (keys_without key keys)) ≤ length keys)
-        → list_any (λ x. same x key) (k ∷ keys) ≡ true → suc (length (keys_without key (k ∷ keys))) ≤ suc (length keys)
-    go true e shorter next any = subst (λ b. suc (length (cond (not b) (k ∷ keys_without key keys) (keys_without key keys))) ≤ suc (length keys)) (sym e) (omega arith)
-    go false e shorter next any =
-        let h = next (subst (λ b. (b || list_any (λ x. same x key) keys) ≡ true) e any) in
-        subst (λ b. suc (length (cond (not b) (k ∷ keys_without key keys) (keys_without key keys))) ≤ suc (length keys)) (sym e) (omega arith)
+without-one key (k ∷ keys) h =
+    let shorter = without-shorter key keys in
+    let next = without-one key keys in
+    grind (arith, shorter, next)
 
 pub used-shorter : (key : List ℕ) (keys : List (List ℕ)) → length (used_first key keys) ≤ length keys
-used-shorter key keys = go (list_any (λ k. same k key) keys) refl
-  where
-    go : (b : Bool) → list_any (λ k. same k key) keys ≡ b → length (if b then put_first key keys else keys) ≤ length keys
-    go true e = without-one key keys e
-    go false e = omega arith
+used-shorter key keys = let one = without-one key keys in grind (arith, one)
 
 take-short : (n : ℕ) (keys : List (List ℕ)) → length (take n keys) ≤ n
 take-short zero keys = omega arith

@@ -19,7 +19,7 @@ use Rattle.cache_store.specs.Promises.{Frame}
 use Rattle.cache_store.specs.Values.{GivesNote, Values}
 use Rattle.cache_commands.specs.Loads.Pending.{load_numbered, loads_pending, sent_of}
 use Rattle.cache_commands.specs.declared.loads.loads.Loads.{Loads}
-use Rattle.cache_lines.specs.Tape.Taped.{Taped, started, IsAtRest, forgets}
+use Rattle.cache_lines.specs.Tape.Taped.{Taped, started, IsAtRest, between_records}
 use Rattle.cache_lines.specs.Waiting.{UnderWay, under_way}
 use Rattle.cache_lines.specs.declared.base.Base.{Base}
 use Rattle.cache_core.proofs.Amid.{room-least}
@@ -28,7 +28,7 @@ use Rattle.cache_core.proofs.Touched.{all-texts, same-wait, told-wait}
 use Rattle.cache_core.specs.Connections.Presence.{Presence}
 use Rattle.cache_core.specs.Settled.{IsAmid}
 use Rattle.cache_core.specs.Settling.{BeginsAnswer, StoresNoted, but_for, waiting_on, AllLookAsBefore, AreWaiting, CanSettle, answering, giving_up, known_of_loads}
-use Rattle.cache_core.specs.State.{IsInOrder, at_number, situation_with, state_of}
+use Rattle.cache_core.specs.State.{IsBetweenEvents, at_number, situation_with, state_of}
 use Rattle.audit_model.specs.declared.event.Outcome.TheVariants as came
 use Rattle.audit_model.specs.declared.input.ServiceError.TheVariants as error
 
@@ -125,7 +125,7 @@ started-room n None b e = subst (λ o. MatchOption o (Unit {0}) (λ (t : Taped).
 started-room n (Some t) b e = let le : n ≤ n = omega arith in subst (λ o. MatchOption o (Unit {0}) (λ (x : Taped). n ≤ x.spare)) (sym e) le
 
 -- one that was begun and forgotten
-pub forgot-started : (n : ℕ) (t : Option Taped) → IsAtRest t → t ≡ option_map forgets (option_map (started n) t)
+pub forgot-started : (n : ℕ) (t : Option Taped) → IsAtRest t → t ≡ option_map between_records (option_map (started n) t)
 forgot-started n None rests = refl
 forgot-started n (Some t) rests =
     ap (λ b. Some (record { journal = t.journal; begun = b; steps = t.steps; spare = t.spare; drafted = t.drafted })) rests.closed
@@ -133,7 +133,7 @@ forgot-started n (Some t) rests =
     ∙ ap (λ k. Some (record { journal = t.journal; begun = false; steps = []; spare = k; drafted = t.drafted })) rests.spare
     ∙ ap (λ d. Some (record { journal = t.journal; begun = false; steps = []; spare = 0; drafted = d })) rests.undrafted
 
-module _ {S T : Type 0} (view : S → Values) (tape : T → Option Taped) (base : Base S T) (latest : ℕ) (cs : List Presence) (order : IsInOrder view tape (state_of base latest cs)) where
+module _ {S T : Type 0} (view : S → Values) (tape : T → Option Taped) (base : Base S T) (latest : ℕ) (cs : List Presence) (order : IsBetweenEvents view tape (state_of base latest cs)) where
   -- the record is begun
   pub amid-begun : (begun : T) (now moment room : ℕ) → now ≡ max moment latest → moment < 2 ^ 63 → tape begun ≡ option_map (started room) (tape base.tape) → IsAmid view tape now (record base { tape = begun }) cs room
   amid-begun begun now moment room at_now low starts =

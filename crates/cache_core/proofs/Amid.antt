@@ -19,7 +19,7 @@ use Rattle.cache_commands.specs.Right.{KeepsFrame}
 use Rattle.cache_commands.specs.declared.loads.loads.Loads.{Loads}
 use Rattle.cache_lines.specs.Bases.{CanRun, Seen}
 use Rattle.cache_lines.specs.Ended.{spare_of}
-use Rattle.cache_lines.specs.Gathered.{IsFresh, adds, gathered, stage, written}
+use Rattle.cache_lines.specs.Gathered.{HasNothingOutside, adds, gathered, stage, written_in}
 use Rattle.cache_lines.specs.Leads.Leads.{BeginsUnknown}
 use Rattle.cache_lines.specs.Making.{Making, making_of}
 use Rattle.cache_lines.specs.Tape.Taped.{HasSpare, IsBegun, Taped, spends, started}
@@ -29,7 +29,7 @@ use Rattle.cache_core.proofs.Spots.{seen-was, replaced-is, same-here, text-is}
 use Rattle.cache_core.proofs.Steps.{piece-on, piece-on-steps, still-kept, none-begins, piece-none, flat-both, piece-step}
 use Rattle.cache_core.proofs.Touched.{front-more, once-first, rest-next, leaves-others}
 use Rattle.cache_core.proofs.connections.Getting.{found-at}
-use Rattle.cache_core.specs.Connection.Fed.{AwaitsLoad, StepRan, seen_of}
+use Rattle.cache_core.specs.Connection.Fed.{AwaitsLoad, StepRan, seen_by}
 use Rattle.cache_core.specs.Connections.Presence.{Presence, reply_text_of, text_at, Here, is_here}
 use Rattle.cache_core.specs.Fed.{seen_at, ReplacedAt}
 use Rattle.cache_core.specs.Settled.{HasSpareFor, IsAmid, Parts, Piece}
@@ -59,10 +59,10 @@ room-least a b None le room = tt
 room-least a b (Some x) le room = let h : a ≤ x.spare = room in let is : b ≤ x.spare = omega (arith, h, le) in is
 
 -- a record that is under way stays so
-pub written-begun : (steps : List Step) (a b : Option Taped) → option_map written b ≡ option_map (adds steps) (option_map written a) → IsBegun a → IsBegun b
+pub written-begun : (steps : List Step) (a b : Option Taped) → option_map written_in b ≡ option_map (adds steps) (option_map written_in a) → IsBegun a → IsBegun b
 written-begun steps a None e begun = tt
-written-begun steps None (Some u) e begun = let no : Some (written u) ≡ None = e in cc
-written-begun steps (Some t) (Some u) e begun = let is : written u ≡ adds steps (written t) = same_Some _ _ e in ap (λ (x : Taped). x.begun) is ∙ begun
+written-begun steps None (Some u) e begun = let no : Some (written_in u) ≡ None = e in cc
+written-begun steps (Some t) (Some u) e begun = let is : written_in u ≡ adds steps (written_in t) = same_Some _ _ e in ap (λ (x : Taped). x.begun) is ∙ begun
 
 pub started-begun : (n : ℕ) (a b : Option Taped) → b ≡ option_map (started n) a → IsBegun b
 started-begun n None b e = subst IsBegun (sym e) tt
@@ -77,7 +77,7 @@ module _ {S T : Type 0} (view : S → Values) (tape : T → Option Taped) (now :
     spare = room-some (tape base.tape) (room-least (suc lines) 1 (tape base.tape) (omega arith) amid.room);
   }
     where
-      clear : (t : Option Taped) → tape base.tape ≡ t → IsFresh (gathered (stage (view base.store) (text_at cs i) t))
+      clear : (t : Option Taped) → tape base.tape ≡ t → HasNothingOutside (gathered (stage (view base.store) (text_at cs i) t))
       clear None e = tt
       clear (Some t) e =
           let h : is_some (tape base.tape) ≡ true = ap is_some e in
@@ -230,7 +230,7 @@ waits-here config cs i w =
     ap is_here (ap (slice_get cs) (sym here) ∙ w.at)
 
 -- it may run lines
-pub can-run-of : {S T : Type 0} (view : S → Values) (tape : T → Option Taped) (now : ℕ) (base : Base S T) (cs : List Presence) (i : ℕ) (c : Connection) → slice_get cs i ≡ Some (Here c) → i < length cs → IsAmid view tape now base cs 1 → CanRun now (seen_of view tape base c)
+pub can-run-of : {S T : Type 0} (view : S → Values) (tape : T → Option Taped) (now : ℕ) (base : Base S T) (cs : List Presence) (i : ℕ) (c : Connection) → slice_get cs i ≡ Some (Here c) → i < length cs → IsAmid view tape now base cs 1 → CanRun now (seen_by view tape base c)
 can-run-of view tape now base cs i c at lt amid =
     subst (λ (t : List ℕ). CanRun now (record { stage = stage (view base.store) t (tape base.tape); loads = under_way base.loads })) (text-is cs i c at) (can-run view tape now base cs i 0 lt amid)
 
@@ -245,18 +245,18 @@ pub record Stepped {S T : Type 0} (view : S → Values) (tape : T → Option Tap
   pub others : LeavesOthers cs ds i
 
 -- what a connection's lines run over is what those of its place do
-seen-here : {S T : Type 0} (view : S → Values) (tape : T → Option Taped) (base : Base S T) (cs : List Presence) (i : ℕ) (c : Connection) → slice_get cs i ≡ Some (Here c) → seen_of view tape base c ≡ seen_at view tape base cs i
+seen-here : {S T : Type 0} (view : S → Values) (tape : T → Option Taped) (base : Base S T) (cs : List Presence) (i : ℕ) (c : Connection) → slice_get cs i ≡ Some (Here c) → seen_by view tape base c ≡ seen_at view tape base cs i
 seen-here view tape base cs i c at = ap (λ (t : List ℕ). record { stage = stage (view base.store) t (tape base.tape); loads = under_way base.loads }) (sym (text-is cs i c at))
 
-pub moved-there : {S T : Type 0} (view : S → Values) (tape : T → Option Taped) (R : ℕ → Seen → Seen → Type 0) (base new_base : Base S T) (cs ds : List Presence) (m i : ℕ) (p : ReplacedAt cs ds i) → m ≡ i + 1 → R m (seen_of view tape base p.was) (seen_of view tape new_base p.is)
+pub moved-there : {S T : Type 0} (view : S → Values) (tape : T → Option Taped) (R : ℕ → Seen → Seen → Type 0) (base new_base : Base S T) (cs ds : List Presence) (m i : ℕ) (p : ReplacedAt cs ds i) → m ≡ i + 1 → R m (seen_by view tape base p.was) (seen_by view tape new_base p.is)
     → R (i + 1) (seen_at view tape base cs i) (seen_at view tape new_base ds i)
 moved-there view tape R base new_base cs ds m i p number r =
     subst (λ (k : ℕ). R k (seen_at view tape base cs i) (seen_at view tape new_base ds i)) number
     (subst (λ (x : Seen). R m x (seen_at view tape new_base ds i)) (seen-here view tape base cs i p.was p.at)
-    (subst (λ (x : Seen). R m (seen_of view tape base p.was) x) (seen-here view tape new_base ds i p.is (replaced-is cs ds i p)) r))
+    (subst (λ (x : Seen). R m (seen_by view tape base p.was) x) (seen-here view tape new_base ds i p.is (replaced-is cs ds i p)) r))
 
 pub stepped : {S T : Type 0} (view : S → Values) (tape : T → Option Taped) (now : ℕ) (base new_base : Base S T) (cs ds : List Presence) (m i : ℕ) (p : ReplacedAt cs ds i) (task : ℕ → Task) (config : Config) → m ≡ i + 1 → AwaitsLoad config p.was → IsSoundStore (view base.store)
-    → StepRan now m (task m) p.was p.is (seen_of view tape base p.was) (seen_of view tape new_base p.is) → spare_of (tape base.tape) ≤ spare_of (tape new_base.tape) + 1
+    → StepRan now m (task m) p.was p.is (seen_by view tape base p.was) (seen_by view tape new_base p.is) → spare_of (tape base.tape) ≤ spare_of (tape new_base.tape) + 1
     → Stepped view tape now base new_base cs ds i (task (i + 1))
 stepped view tape now base new_base cs ds m i p task config number w sound r spare =
     let ran = moved-there view tape (λ k x y. StepRan now k (task k) p.was p.is x y) base new_base cs ds m i p number r in

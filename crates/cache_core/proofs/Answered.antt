@@ -1,15 +1,13 @@
 -- An answer's record, from its own step and its parts.
-use Rattle.std.proofs.Common.{max, refl, sym, ap, ◌∙◌, subst, append_assoc, ◌≡◌, ℕ, ◌<◌, ◌^◌, Bool, true, false, List, [], ◌++◌, length, map, Option, Some, None, if◌then◌else◌, IfSome, IsTrue, is_some}
+use Rattle.std.proofs.Common.{arith, max, refl, sym, ap, ◌∙◌, subst, append_assoc, ◌≡◌, ℕ, ◌<◌, ◌^◌, Bool, true, false, List, [], ◌++◌, length, map, Option, Some, None, if◌then◌else◌, IfSome, IsTrue, is_some}
 use Rattle.std.proofs.lemmas.Bool.{eq-eqb}
 use Rattle.std.proofs.lemmas.List.{append-nil}
 use Rattle.std.specs.List.{flat_map}
-use Rattle.std.specs.Option.{option_map, option_map_or}
-use Rattle.audit_laws.specs.Leading.{is_parted}
+use Rattle.std.specs.Option.{option_map}
 use Rattle.audit_model.specs.Belongs.{refusal_of}
 use Rattle.audit_model.specs.Follows.{after_event, tasks_in, without_load}
-use Rattle.audit_model.specs.History.{Storing, accepts_values}
+use Rattle.audit_model.specs.History.{Storing}
 use Rattle.audit_model.specs.Places.{steps_of}
-use Rattle.audit_model.specs.Replies.{value_with}
 use Rattle.audit_model.specs.Situation.{HeldValue, PendingLoad, Situation, view_in}
 use Rattle.audit_model.specs.Steps.{Deliver, RunLines, Task, effect_in}
 use Rattle.audit_model.specs.declared.config.Config.{Config}
@@ -22,11 +20,11 @@ use Rattle.audit_model.specs.declared.transcript.Step.{Step}
 use Rattle.cache_commands.specs.Loading.{step_silent}
 use Rattle.cache_commands.specs.Loads.Pending.{SameTaken, loads_pending}
 use Rattle.cache_commands.specs.Right.{held_when_run}
-use Rattle.cache_core.specs.Connections.Presence.{Presence, closing_of, open_from, reply_text_of}
+use Rattle.cache_core.specs.Connections.Presence.{Presence, closing_of_presence, open_from, reply_text_of}
 use Rattle.cache_core.specs.Fed.{BaseStays}
-use Rattle.cache_core.specs.Settled.{Absent, Moves, Piece, course_at, middle_of}
+use Rattle.cache_core.specs.Settled.{Absent, MovesCourse, Piece, course_at, middle_of}
 use Rattle.cache_core.specs.Settling.{AllLookAsBefore, BeginsAnswer, Happens, HandsOut, answering, but_for, known_of_loads, waiting_on}
-use Rattle.cache_core.specs.State.{IsInOrder, State, at_number, situation_with, state_of}
+use Rattle.cache_core.specs.State.{IsBetweenEvents, NamespaceState, at_number, situation_with, state_of}
 use Rattle.cache_core.specs.Turned.{Turned, own_steps, replies_to, with_record}
 use Rattle.cache_lines.proofs.Drawn.{keeps-more}
 use Rattle.cache_lines.proofs.leads.Leading.{draws-on}
@@ -66,11 +64,7 @@ kept-first config making s t tasks left steps a b c kept l = record {
 stored-parted : (config : Config) (part_of : List ℕ → ℕ) (s : Situation) (key : List ℕ) (outcome : Outcome) (accepted : Option Accepted) (told : List Note) → IfSome accepted (λ a. a.part ≡ part_of key)
     → has_its_part part_of (effect_in config (view_in config s) (Storing (Some key) outcome) (step_silent 0 [] None accepted told)) ≡ true
 stored-parted config part_of s key outcome None told at = refl
-stored-parted config part_of s key (came.Value bytes ms) (Some a) told at = go (accepts_values config.capacity)
-  where
-    go : (b : Bool) → option_map_or (is_parted part_of) (option_map (value_with config s.latest a.part) (if b then Some (record { key = key; bytes = bytes; ms = ms }) else None)) true ≡ true
-    go true = eq-eqb a.part (part_of key) at
-    go false = refl
+stored-parted config part_of s key (came.Value bytes ms) (Some a) told at = let own = eq-eqb a.part (part_of key) at in grind (arith, own)
 stored-parted config part_of s key came.None (Some a) told at = refl
 stored-parted config part_of s key (came.Fault text) (Some a) told at = refl
 
@@ -92,7 +86,7 @@ module _ {S T : Type 0} (view : S → Values) (tape : T → Option Taped) (base 
   abbrev config : Config
   config = (view base.store).frame.config
 
-  abbrev last : State S T
+  abbrev last : NamespaceState S T
   last = state_of (record { store = new_base.store; loads = new_base.loads; tape = final }) now ds
 
   abbrev l : UnderWay
@@ -133,15 +127,15 @@ module _ {S T : Type 0} (view : S → Values) (tape : T → Option Taped) (base 
       let a = identifiers_in (view base.store) in
       let b = identifiers_in (view begun.store) in
       let c = identifiers_in (view new_base.store) in
-      let count : length (map closing_of cs) ≡ length (map closing_of old) = ap length (all-closings old cs looks) in
+      let count : length (map closing_of_presence cs) ≡ length (map closing_of_presence old) = ap length (all-closings old cs looks) in
       let dropped_is : (view begun.store).frame.dropped ≡ (view base.store).frame.dropped = ap (λ (f : Frame). f.dropped) begun-frame ∙ starts.stored.dropped in
       let at : ℕ → ℕ → UnderWay → List model.Connection → Bool → Situation = λ latest_is opened_is loads_is ks dropping. record { latest = latest_is; opened = opened_is; sent = loads_is.sent; connections = ks; pending = loads_is.pending; held = w; dropped = dropping } in
       let begins : start ≡ when_stored config u key outcome accepted told =
-      ap (λ n. at n (length (map closing_of cs)) (under_way out.left) (open_from 1 cs) (view begun.store).frame.dropped) at_now
+      ap (λ n. at n (length (map closing_of_presence cs)) (under_way out.left) (open_from 1 cs) (view begun.store).frame.dropped) at_now
       ∙ ap (λ n. at (max moment latest) n (under_way out.left) (open_from 1 cs) (view begun.store).frame.dropped) count
-      ∙ ap (λ k. at (max moment latest) (length (map closing_of old)) k (open_from 1 cs) (view begun.store).frame.dropped) (out.left_is ∙ ap (but_for load) same_loads)
-      ∙ ap (λ ks. at (max moment latest) (length (map closing_of old)) (but_for load l) ks (view begun.store).frame.dropped) (all-listed 1 old cs looks)
-      ∙ ap (at (max moment latest) (length (map closing_of old)) (but_for load l) (open_from 1 old)) dropped_is in
+      ∙ ap (λ k. at (max moment latest) (length (map closing_of_presence old)) k (open_from 1 cs) (view begun.store).frame.dropped) (out.left_is ∙ ap (but_for load) same_loads)
+      ∙ ap (λ ks. at (max moment latest) (length (map closing_of_presence old)) (but_for load l) ks (view begun.store).frame.dropped) (all-listed 1 old cs looks)
+      ∙ ap (at (max moment latest) (length (map closing_of_presence old)) (but_for load l) (open_from 1 old)) dropped_is in
       let leads : TasksLead config making (when_stored config u key outcome accepted told) tasks steps t [] b c =
       subst (λ v. TasksLead config making v tasks steps t [] b c) begins (subst (λ ts. TasksLead config making start ts steps t [] b c) (append-nil tasks) (p.leads [])) in
       let kept = keeps-more (view base.store).stream (view starts.middle).stream (view begun.store).stream (view base.store).registered (view starts.middle).registered (view begun.store).registered starts.stored.identifiers starts.drains.identifiers in
@@ -164,7 +158,7 @@ module _ {S T : Type 0} (view : S → Values) (tape : T → Option Taped) (base 
               (p.outputs n ∙ ap (λ xs. at_number [] xs n ++ (if is_some (tape begun.tape) then [] else replies_to n steps)) same_texts);
           notes = notes-all (is_some (tape base.tape)) (view base.store).untaken (view starts.middle).untaken (view begun.store).untaken (view new_base.store).untaken told (flat_map (λ (step : Step). step.notices) steps) untaken x.handed.added starts.untaken_is
               (subst (λ b. (view new_base.store).untaken ≡ (view begun.store).untaken ++ (if b then [] else flat_map (λ (step : Step). step.notices) steps)) kept_same p.notes);
-          closings = closings-moved config s t entry old ds refl refl (λ n. refl) (λ n. subst (λ ks. Moves config (own_steps n steps) (at_number Absent ks n) (course_at ds n)) same_courses (p.moves n));
+          closings = closings-moved config s t entry old ds refl refl (λ n. refl) (λ n. subst (λ ks. MovesCourse config (own_steps n steps) (at_number Absent ks n) (course_at ds n)) same_courses (p.moves n));
           parted = settles.parted;
           timely = settles.timely;
           bounded = subst (λ (k : Config). IsTrue (is_bounded k p.left)) config-stays (sound.bounded p.left p.stands);
@@ -173,8 +167,8 @@ module _ {S T : Type 0} (view : S → Values) (tape : T → Option Taped) (base 
         },
       )
 
-  pub happens-answered : IsInOrder view tape (state_of base latest old) → IsSoundStore (view base.store) → IsSoundStore (view new_base.store) → refusal_of config (known_of_loads (loads_pending base.loads)) (answering load outcome moment) ≡ None → now < 2 ^ 63 → SameTaken begun.loads new_base.loads
-      → Happens view tape (state_of base latest old) last (answering load outcome moment) × IsInOrder view tape last
+  pub happens-answered : IsBetweenEvents view tape (state_of base latest old) → IsSoundStore (view base.store) → IsSoundStore (view new_base.store) → refusal_of config (known_of_loads (loads_pending base.loads)) (answering load outcome moment) ≡ None → now < 2 ^ 63 → SameTaken begun.loads new_base.loads
+      → Happens view tape (state_of base latest old) last (answering load outcome moment) × IsBetweenEvents view tape last
   happens-answered order sound sound_behind admitted low goes =
       let x = turned-answered order.rests order.untaken sound_behind admitted sound.some sound.stands in
       let goes_on = subst (λ k. SameTaken k new_base.loads) starts.loads_are goes in (

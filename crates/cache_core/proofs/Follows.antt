@@ -24,9 +24,9 @@ use Rattle.cache_commands.proofs.Taking.{taken-on}
 use Rattle.cache_commands.specs.Loads.Pending.{SameTaken}
 use Rattle.cache_commands.specs.Loads.Standings.{holds_line, waits_for_load}
 use Rattle.cache_commands.specs.declared.loads.loads.Loads.{Loads}
-use Rattle.cache_lines.specs.Bases.{Seen, seen}
+use Rattle.cache_lines.specs.Bases.{Seen, seen_on}
 use Rattle.cache_lines.specs.Ended.{RanTasks, ends_silent}
-use Rattle.cache_lines.specs.Gathered.{Gathered, adds, gather, reply_in, stage, written}
+use Rattle.cache_lines.specs.Gathered.{Gathered, adds, gather, reply_in, stage, written_in}
 use Rattle.cache_lines.specs.Lines.{IsThere, ready, are_timely, ends_quit, set_in}
 use Rattle.cache_lines.specs.Making.{making_of}
 use Rattle.cache_lines.specs.Ordered.{HaveKeys}
@@ -41,11 +41,11 @@ use Rattle.cache_core.proofs.connection.Pieces.{fed-from}
 use Rattle.cache_core.proofs.connections.Getting.{at-replaced}
 use Rattle.cache_core.specs.Connection.Fed.{FedRan, LooksAsBefore, closing_by}
 use Rattle.cache_core.specs.Connection.Fits.{ClosesFor}
-use Rattle.cache_core.specs.Connection.Shown.{put_in, shown, with_piece}
+use Rattle.cache_core.specs.Connection.Shown.{put_in, shown_connection, with_piece}
 use Rattle.cache_core.specs.Connections.Presence.{Here, Presence, closing_at, text_at}
 use Rattle.cache_core.specs.Fed.{with_tape, FedTurn, ReplacedAt, seen_at}
-use Rattle.cache_core.specs.State.{IsInOrder, State, situation_with, state_of}
-use Rattle.cache_core.specs.Turned.{with_record, IsRecordOf, Turned, Turns, feeding, own_steps, reason_of}
+use Rattle.cache_core.specs.State.{IsBetweenEvents, NamespaceState, situation_with, state_of}
+use Rattle.cache_core.specs.Turned.{with_record, IsRecordOf, Turned, ContinuesBy, feeding, own_steps, reason_of}
 use Rattle.cache_core.specs.declared.connection.connection.Connection.{Connection}
 use Rattle.audit_model.specs.Situation as model
 use Rattle.audit_model.specs.declared.input.ServiceError.TheVariants as error
@@ -54,13 +54,13 @@ use Rattle.audit_model.specs.declared.input.ServiceError.TheVariants as error
 
 -- what was gathered is in the record under way, where there is one
 pub gathers-begun : (tape middle : Option Taped) (text new_text : List ℕ) (untaken new_untaken : List Note) (steps : List Step)
-    → record { text = new_text; kept = option_map written middle; waiting = new_untaken } ≡ gather (record { text = text; kept = option_map written (option_map (started 1) tape); waiting = untaken }) steps
+    → record { text = new_text; kept = option_map written_in middle; waiting = new_untaken } ≡ gather (record { text = text; kept = option_map written_in (option_map (started 1) tape); waiting = untaken }) steps
     → IsBegun middle × (is_some middle ≡ is_some tape)
 gathers-begun None None text new_text untaken new_untaken steps e = (tt, refl)
-gathers-begun None (Some m) text new_text untaken new_untaken steps e = let no : Some (written m) ≡ None = ap (λ (g : Gathered). g.kept) e in cc
-gathers-begun (Some t) None text new_text untaken new_untaken steps e = let no : None ≡ Some (adds steps (written (started 1 t))) = ap (λ (g : Gathered). g.kept) e in cc
+gathers-begun None (Some m) text new_text untaken new_untaken steps e = let no : Some (written_in m) ≡ None = ap (λ (g : Gathered). g.kept) e in cc
+gathers-begun (Some t) None text new_text untaken new_untaken steps e = let no : None ≡ Some (adds steps (written_in (started 1 t))) = ap (λ (g : Gathered). g.kept) e in cc
 gathers-begun (Some t) (Some m) text new_text untaken new_untaken steps e =
-    let is : written m ≡ adds steps (written (started 1 t)) = same_Some _ _ (ap (λ (g : Gathered). g.kept) e) in (ap (λ (x : Taped). x.begun) is, refl)
+    let is : written_in m ≡ adds steps (written_in (started 1 t)) = same_Some _ _ (ap (λ (g : Gathered). g.kept) e) in (ap (λ (x : Taped). x.begun) is, refl)
 
 -- a situation in which the connection of that number is open
 abbrev some_situation : ℕ → ℕ → Seen → List HeldValue → Situation
@@ -91,14 +91,14 @@ pub record KeptBy (happened : Event) (steps : List Step) (tape final : Option Ta
   pub untaken_is : new_untaken ≡ untaken ++ (if is_some tape then [] else flat_map (λ step. step.notices) steps)
 
 pub kept-by : (happened : Event) (steps : List Step) (tape middle final : Option Taped) (text new_text : List ℕ) (untaken new_untaken : List Note) → IsAtRest tape
-    → record { text = new_text; kept = option_map written middle; waiting = new_untaken } ≡ gather (record { text = text; kept = option_map written (option_map (started 1) tape); waiting = untaken }) steps
+    → record { text = new_text; kept = option_map written_in middle; waiting = new_untaken } ≡ gather (record { text = text; kept = option_map written_in (option_map (started 1) tape); waiting = untaken }) steps
     → final ≡ option_map (finishes happened None []) middle
     → KeptBy happened steps tape final text new_text untaken new_untaken
 kept-by happened steps None None final text new_text untaken new_untaken rests e ended = record { kept = ended; text_is = ap (λ (g : Gathered). g.text) e; untaken_is = ap (λ (g : Gathered). g.waiting) e }
-kept-by happened steps None (Some m) final text new_text untaken new_untaken rests e ended = let no : Some (written m) ≡ None = ap (λ (g : Gathered). g.kept) e in cc
-kept-by happened steps (Some t) None final text new_text untaken new_untaken rests e ended = let no : None ≡ Some (adds steps (written (started 1 t))) = ap (λ (g : Gathered). g.kept) e in cc
+kept-by happened steps None (Some m) final text new_text untaken new_untaken rests e ended = let no : Some (written_in m) ≡ None = ap (λ (g : Gathered). g.kept) e in cc
+kept-by happened steps (Some t) None final text new_text untaken new_untaken rests e ended = let no : None ≡ Some (adds steps (written_in (started 1 t))) = ap (λ (g : Gathered). g.kept) e in cc
 kept-by happened steps (Some t) (Some m) final text new_text untaken new_untaken rests e ended =
-    let is : written m ≡ adds steps (written (started 1 t)) = same_Some _ _ (ap (λ (g : Gathered). g.kept) e) in
+    let is : written_in m ≡ adds steps (written_in (started 1 t)) = same_Some _ _ (ap (λ (g : Gathered). g.kept) e) in
     let entry : List Step → Record = λ ss. record { event = happened; own = None; notices = []; steps = ss } in
     record {
       kept =
@@ -116,14 +116,14 @@ kept-by happened steps (Some t) (Some m) final text new_text untaken new_untaken
 -- a connection was fed when a record was begun, and room was made
 pub fed-started : {S T : Type 0} (view : S → Values) (tape : T → Option Taped) (now_is number : ℕ) (base mid : Base S T) (old ready_as new : Connection) (piece : List ℕ) (is_held : Bool) (is : Seen)
     → mid ≡ record base { tape = mid.tape } → tape mid.tape ≡ option_map (started 1) (tape base.tape) → LooksAsBefore old ready_as
-    → FedRan now_is number ready_as piece new is_held (seen view tape mid ready_as.output) is
-    → FedRan now_is number old piece new is_held (with_tape (option_map (started 1) (tape base.tape)) (seen view tape base old.output)) is
+    → FedRan now_is number ready_as piece new is_held (seen_on view tape mid ready_as.output) is
+    → FedRan now_is number old piece new is_held (with_tape (option_map (started 1) (tape base.tape)) (seen_on view tape base old.output)) is
 fed-started {S} {T} view tape now_is number base mid old ready_as new piece is_held is rest begun same f =
-    let shows : seen view tape mid ready_as.output ≡ with_tape (option_map (started 1) (tape base.tape)) (seen view tape base old.output) =
+    let shows : seen_on view tape mid ready_as.output ≡ with_tape (option_map (started 1) (tape base.tape)) (seen_on view tape base old.output) =
     ap (λ (b : Base S T). record { stage = stage (view b.store) ready_as.output.text.items (tape mid.tape); loads = under_way b.loads }) rest
     ∙ ap (λ t. record { stage = stage (view base.store) ready_as.output.text.items t; loads = under_way base.loads }) begun
     ∙ ap (λ x. record { stage = stage (view base.store) x (option_map (started 1) (tape base.tape)); loads = under_way base.loads }) same.text in
-    subst (λ x. FedRan now_is number old piece new is_held x is) shows (fed-from now_is number old ready_as new piece is_held (seen view tape mid ready_as.output) is same f)
+    subst (λ x. FedRan now_is number old piece new is_held x is) shows (fed-from now_is number old ready_as new piece is_held (seen_on view tape mid ready_as.output) is same f)
 
 -- A feed of a namespace is one record that follows.
 
@@ -143,7 +143,7 @@ module _ {S T : Type 0} (view : S → Values) (tape : T → Option Taped) (base 
 
   -- the connection with the piece, in the situation at that moment
   abbrev start : List HeldValue → Situation
-  start held = set_in (sit (max moment latest) (under_way base.loads) cs before.frame.dropped held) held (with_piece piece (shown m old))
+  start held = set_in (sit (max moment latest) (under_way base.loads) cs before.frame.dropped held) held (with_piece piece (shown_connection m old))
 
   pub ran-fed : (held : List HeldValue) → before.Stands held
       → RanTasks (making_of before.frame) (start held) (tasks_to_feed m (holds_line old.standing)) turn.ran.quit is_held turn.ran.silent
@@ -219,7 +219,7 @@ module _ {S T : Type 0} (view : S → Values) (tape : T → Option Taped) (base 
       )
 
   pub turns-fed : IsSoundStore before → IsSoundStore behind → under_way left ≡ when_left (is_none new.closing) m (under_way new_base.loads) → SameTaken base.loads new_base.loads → SameTaken new_base.loads left
-      → Turns view tape (state_of base latest cs) (state_of (record new_base { loads = left }) (max moment latest) (slice_set cs i (Here new))) (feeding m piece moment) is_held
+      → ContinuesBy view tape (state_of base latest cs) (state_of (record new_base { loads = left }) (max moment latest) (slice_set cs i (Here new))) (feeding m piece moment) is_held
   turns-fed sound_before sound leaves goes leaves_goes = record {
     turned = λ s st. subst (λ x. (entry : Record) × IsRecordOf (feeding m piece moment) is_held entry × Turned view tape (state_of base latest cs) (state_of (record new_base { loads = left }) (max moment latest) (slice_set cs i (Here new))) x entry) (sym st.is)
         (turned-fed sound leaves st.held st.stands);
@@ -238,10 +238,10 @@ module _ {S T : Type 0} (view : S → Values) (tape : T → Option Taped) (base 
 
 -- the same, by the places before and behind
 pub fed-turns : {S T : Type 0} (view : S → Values) (tape : T → Option Taped) (base new_base : Base S T) (left : Loads) (latest now m i moment : ℕ) (cs ds : List Presence) (piece : List ℕ) (is_held : Bool) (p : ReplacedAt cs ds i)
-    → m ≡ i + 1 → now ≡ max moment latest → closing_at cs i ≡ None → moment < 2 ^ 63 → IsInOrder view tape (state_of base latest cs) → IsSoundStore (view base.store) → IsSoundStore (view new_base.store)
+    → m ≡ i + 1 → now ≡ max moment latest → closing_at cs i ≡ None → moment < 2 ^ 63 → IsBetweenEvents view tape (state_of base latest cs) → IsSoundStore (view base.store) → IsSoundStore (view new_base.store)
     → under_way left ≡ when_left (is_none (closing_at ds i)) m (under_way new_base.loads) → SameTaken base.loads new_base.loads → SameTaken new_base.loads left
     → FedTurn now (i + 1) moment p.was piece p.is is_held (seen_at view tape base cs i) (seen_at view tape new_base ds i)
-    → Turns view tape (state_of base latest cs) (state_of (record new_base { loads = left }) now ds) (feeding m piece moment) is_held × IsInOrder view tape (state_of (record new_base { loads = left }) now ds)
+    → ContinuesBy view tape (state_of base latest cs) (state_of (record new_base { loads = left }) now ds) (feeding m piece moment) is_held × IsBetweenEvents view tape (state_of (record new_base { loads = left }) now ds)
 fed-turns {S} {T} view tape base new_base left latest now m i moment cs ds piece is_held p number_is at_now open_at low order sound sound_behind leaves goes leaves_goes turn =
     subst Goal_m (sym next_is) (subst Goal_now (sym at_now) (subst Goal_ds (sym p.set) core)) (subst (λ k. FedTurn now k moment p.was piece p.is is_held (seen_at view tape base cs i) (seen_at view tape new_base ds i)) (sym number_is) turn)
     (leaves ∙ ap (λ o. when_left (is_none o) m (under_way new_base.loads)) (closing-is ds i p.is (replaced-is cs ds i p)))
@@ -249,13 +249,13 @@ fed-turns {S} {T} view tape base new_base left latest now m i moment cs ds piece
     next_is : m ≡ suc i
     next_is = omega (arith, number_is)
 
-    behind_at : ℕ → List Presence → State S T
+    behind_at : ℕ → List Presence → NamespaceState S T
     behind_at n xs = state_of (record new_base { loads = left }) n xs
 
     Goal : ℕ → ℕ → List Presence → Type 0
     Goal k n xs =
         FedTurn n k moment p.was piece p.is is_held (seen_at view tape base cs i) (seen_at view tape new_base xs i) → under_way left ≡ when_left (is_none p.is.closing) k (under_way new_base.loads)
-        → Turns view tape (state_of base latest cs) (behind_at n xs) (feeding k piece moment) is_held × IsInOrder view tape (behind_at n xs)
+        → ContinuesBy view tape (state_of base latest cs) (behind_at n xs) (feeding k piece moment) is_held × IsBetweenEvents view tape (behind_at n xs)
 
     Goal_m : ℕ → Type 0
     Goal_m k = Goal k now ds

@@ -22,15 +22,14 @@ use Rattle.cache_commands.specs.Loads.Pending.{SameTaken, loads_pending}
 use Rattle.cache_commands.specs.Order.{AgreesWith}
 use Rattle.cache_commands.specs.declared.loads.loads.Loads.{Loads}
 use Rattle.cache_commands.specs.declared.loads.standing.Standing.{Standing}
-use Rattle.cache_core.specs.Connection.Shown.{shown}
-use Rattle.cache_core.specs.Connections.Presence.{Gone, Here, Out, Presence, closing_of, open_from, reply_text_of}
+use Rattle.cache_core.specs.Connections.Presence.{Gone, Here, Out, Presence, closing_of_presence, open_from, reply_text_of}
 use Rattle.cache_core.specs.Fed.{WantsMemory}
 use Rattle.cache_core.specs.Settling.{Happens, PartsUnknown, but_for, giving_up, known_of_loads, waiting_on}
-use Rattle.cache_core.specs.State.{IsInOrder, State, at_number, known_of, situation_with, state_of}
+use Rattle.cache_core.specs.State.{IsBetweenEvents, NamespaceState, at_number, known_of_state, situation_with, state_of}
 use Rattle.cache_core.specs.Turned.{RefusesBy, Turned, closing_behind, own_steps, reason_of, replies_to, with_record}
 use Rattle.cache_lines.proofs.leads.Settling.{give-up}
 use Rattle.cache_lines.specs.Drawing.{identifiers_in}
-use Rattle.cache_lines.specs.Gathered.{adds, written}
+use Rattle.cache_lines.specs.Gathered.{adds, written_in}
 use Rattle.cache_lines.specs.Leads.Laws.{record_given_up}
 use Rattle.cache_lines.specs.Leads.Leads.{LeavesUnknown, TasksLead}
 use Rattle.cache_lines.specs.Making.{making_of}
@@ -44,10 +43,10 @@ use Rattle.cache_store.specs.Values.{IsSoundStore, Values}
 use Rattle.audit_model.specs.Situation as model
 use Rattle.audit_model.specs.declared.input.ServiceError.TheVariants as error
 use Rattle.cache_commands.specs.declared.loads.standing.Standing.TheVariants as now_is
-use Rattle.cache_core.specs.Settled.{Running, Absent, Closed, Course, Moves, Resting, course_at, course_in, course_of, closing_of_steps, middle_of}
+use Rattle.cache_core.specs.Settled.{Running, Absent, Closed, Course, MovesCourse, Resting, course_at, course_in, course_of, closing_of_steps, middle_of}
 use Rattle.cache_core.proofs.Sending.{sends-behind}
 use Rattle.cache_core.proofs.Orders.{order-turned}
-use Rattle.cache_core.proofs.Table.{found-first, listed_as, listed_of, none-below, passed-over}
+use Rattle.cache_core.proofs.Table.{found-first, listed_of, none-below, passed-over}
 use Rattle.cache_core.proofs.Turning.{other-number, sit}
 
 -- ---- why a connection is closed, by what it is at
@@ -76,21 +75,17 @@ open-course None now_is.Ready = refl
 open-course None now_is.Held = refl
 open-course None now_is.Waiting = refl
 
-closing-in : (p : Presence) → closing_of p ≡ closing_at_course (course_in p)
+closing-in : (p : Presence) → closing_of_presence p ≡ closing_at_course (course_in p)
 closing-in (Here c) = closing-course c.closing c.standing
 closing-in Out = refl
 closing-in (Gone why) = refl
 
 open-in : (n : ℕ) (p : Presence) → is_some (listed_of n p) ≡ is_open_course (course_in p)
-open-in n (Here c) = go (is_none c.closing) ∙ open-course c.closing c.standing
-  where
-    go : (b : Bool) → is_some (listed_as b (shown n c)) ≡ b
-    go true = refl
-    go false = refl
+open-in n (Here c) = (grind arith) ∙ open-course c.closing c.standing
 open-in n Out = refl
 open-in n (Gone why) = refl
 
-closing-seen : (cs : List Presence) (n : ℕ) → at_number None (map closing_of cs) n ≡ closing_at_course (course_at cs n)
+closing-seen : (cs : List Presence) (n : ℕ) → at_number None (map closing_of_presence cs) n ≡ closing_at_course (course_at cs n)
 closing-seen cs zero = refl
 closing-seen [] (suc n) = refl
 closing-seen (c ∷ cs) (suc zero) = closing-in c
@@ -120,7 +115,7 @@ closing_go config own (Some why) is_open was_open = Some why
 closing_go config own None is_open was_open = if is_open || not was_open then None else Some (closing_of_steps config own)
 
 -- why it is closed behind its steps
-closed-by : (config : Config) (own : List Step) (k l : Course) → Moves config own k l
+closed-by : (config : Config) (own : List Step) (k l : Course) → MovesCourse config own k l
     → closing_at_course l ≡ (closing_go config own (closing_at_course k) (is_open_course l) (is_open_course k))
 closed-by config own Absent l m = subst (λ x. closing_at_course x ≡ closing_go config own None (is_open_course x) false) (sym m) refl
 closed-by config own (Closed why) l m = subst (λ x. closing_at_course x ≡ closing_go config own (Some why) (is_open_course x) false) (sym m.0) refl
@@ -134,15 +129,15 @@ closed-by config own Resting Running m = refl
 closed-by config own Resting Resting m = refl
 
 pub closings-moved : (config : Config) (s next : Situation) (entry : Record) (cs ds : List Presence) → s.connections ≡ open_from 1 cs → next.connections ≡ open_from 1 ds
-    → ((n : ℕ) → reason_of config s n entry.event entry.steps ≡ closing_of_steps config (own_steps n entry.steps)) → ((n : ℕ) → Moves config (own_steps n entry.steps) (course_at cs n) (course_at ds n))
-    → (n : ℕ) → at_number None (map closing_of ds) n ≡ closing_behind config s entry next (at_number None (map closing_of cs) n) n
+    → ((n : ℕ) → reason_of config s n entry.event entry.steps ≡ closing_of_steps config (own_steps n entry.steps)) → ((n : ℕ) → MovesCourse config (own_steps n entry.steps) (course_at cs n) (course_at ds n))
+    → (n : ℕ) → at_number None (map closing_of_presence ds) n ≡ closing_behind config s entry next (at_number None (map closing_of_presence cs) n) n
 closings-moved config s next entry cs ds listed relisted reasons moves n =
     closing-seen ds n
     ∙ closed-by config (own_steps n entry.steps) (course_at cs n) (course_at ds n) (moves n)
     ∙ ap (λ b. closing_go config (own_steps n entry.steps) (closing_at_course (course_at cs n)) b (is_open_course (course_at cs n))) (sym (ap (λ ks. is_some (find (λ (x : model.Connection). x.number == n) ks)) relisted ∙ open-seen ds n))
     ∙ ap (λ b. closing_go config (own_steps n entry.steps) (closing_at_course (course_at cs n)) (is_some (connection_in n next)) b) (sym (ap (λ ks. is_some (find (λ (x : model.Connection). x.number == n) ks)) listed ∙ open-seen cs n))
     ∙ ap (λ o. closing_go config (own_steps n entry.steps) o (is_some (connection_in n next)) (is_some (connection_in n s))) (sym (closing-seen cs n))
-    ∙ behind (at_number None (map closing_of cs) n)
+    ∙ behind (at_number None (map closing_of_presence cs) n)
   where
     behind : (o : Option Closing) → closing_go config (own_steps n entry.steps) o (is_some (connection_in n next)) (is_some (connection_in n s)) ≡ closing_behind config s entry next o n
     behind (Some why) = refl
@@ -151,19 +146,19 @@ closings-moved config s next entry cs ds listed relisted reasons moves n =
 -- ---- the record that was begun, gone through, and ended
 
 pub settled-kept : (happened : Event) (own : Option Accepted) (notices : List Note) (steps : List Step) (n : ℕ) (tape begun middle final : Option Taped) → IsAtRest tape → begun ≡ option_map (started n) tape
-    → option_map written middle ≡ option_map (adds steps) (option_map written begun) → final ≡ option_map (finishes happened own notices) middle
+    → option_map written_in middle ≡ option_map (adds steps) (option_map written_in begun) → final ≡ option_map (finishes happened own notices) middle
     → final ≡ option_map (with_record (record { event = happened; own = own; notices = notices; steps = steps })) tape
-settled-kept happened own notices steps n tape begun middle final rests starts adds_to ended = go tape middle rests (adds_to ∙ ap (λ b. option_map (adds steps) (option_map written b)) starts) ended
+settled-kept happened own notices steps n tape begun middle final rests starts adds_to ended = go tape middle rests (adds_to ∙ ap (λ b. option_map (adds steps) (option_map written_in b)) starts) ended
   where
     entry : List Step → Record
     entry ss = record { event = happened; own = own; notices = notices; steps = ss }
 
-    go : (t m : Option Taped) → IsAtRest t → option_map written m ≡ option_map (adds steps) (option_map written (option_map (started n) t)) → final ≡ option_map (finishes happened own notices) m → final ≡ option_map (with_record (entry steps)) t
+    go : (t m : Option Taped) → IsAtRest t → option_map written_in m ≡ option_map (adds steps) (option_map written_in (option_map (started n) t)) → final ≡ option_map (finishes happened own notices) m → final ≡ option_map (with_record (entry steps)) t
     go None None r e f = f
-    go None (Some m) r e f = let no : Some (written m) ≡ None = e in cc
-    go (Some t) None r e f = let no : None ≡ Some (adds steps (written (started n t))) = e in cc
+    go None (Some m) r e f = let no : Some (written_in m) ≡ None = e in cc
+    go (Some t) None r e f = let no : None ≡ Some (adds steps (written_in (started n t))) = e in cc
     go (Some t) (Some m) r e f =
-        let is : written m ≡ adds steps (written (started n t)) = same_Some _ _ e in
+        let is : written_in m ≡ adds steps (written_in (started n t)) = same_Some _ _ e in
         f
         ∙ ap (λ rs. Some (record { journal = with_entry (entry m.steps) rs; begun = false; steps = []; spare = 0; drafted = None })) (ap (λ (x : Taped). x.journal) is)
         ∙ ap (λ ss. Some (record { journal = with_entry (entry ss) t.journal; begun = false; steps = []; spare = 0; drafted = None })) (ap (λ (x : Taped). x.steps) is)
@@ -196,7 +191,7 @@ module _ {S T : Type 0} (view : S → Values) (tape : T → Option Taped) (base 
   abbrev config : Config
   config = (view base.store).frame.config
 
-  abbrev last : State S T
+  abbrev last : NamespaceState S T
   last = state_of (record { store = new_base.store; loads = new_base.loads; tape = final }) now ds
 
   config-stays : (view new_base.store).frame.config ≡ config
@@ -240,8 +235,8 @@ module _ {S T : Type 0} (view : S → Values) (tape : T → Option Taped) (base 
         },
       )
 
-  pub happens-given : IsInOrder view tape (state_of base latest cs) → IsSoundStore (view base.store) → IsSoundStore (view new_base.store) → refusal_of config (known_of_loads (loads_pending base.loads)) (giving_up load moment) ≡ None → now < 2 ^ 63 → SameTaken base.loads new_base.loads
-      → Happens view tape (state_of base latest cs) last (giving_up load moment) × IsInOrder view tape last
+  pub happens-given : IsBetweenEvents view tape (state_of base latest cs) → IsSoundStore (view base.store) → IsSoundStore (view new_base.store) → refusal_of config (known_of_loads (loads_pending base.loads)) (giving_up load moment) ≡ None → now < 2 ^ 63 → SameTaken base.loads new_base.loads
+      → Happens view tape (state_of base latest cs) last (giving_up load moment) × IsBetweenEvents view tape last
   happens-given order sound sound_behind admitted low goes =
       let x = turned-given order.rests sound_behind admitted sound.some sound.stands in (
         record {
@@ -261,9 +256,9 @@ module _ {S T : Type 0} (view : S → Values) (tape : T → Option Taped) (base 
 -- ---- refusals
 
 -- the definition's own cause
-pub refuses-known : {S T : Type 0} (view : S → Values) (n : State S T) (happened : Event) (e : ServiceError) → refusal_of (view n.store).frame.config (known_of view n) happened ≡ Some e → RefusesBy view n happened false e
+pub refuses-known : {S T : Type 0} (view : S → Values) (n : NamespaceState S T) (happened : Event) (e : ServiceError) → refusal_of (view n.store).frame.config (known_of_state view n) happened ≡ Some e → RefusesBy view n happened false e
 refuses-known view n happened e is = subst (λ r. MatchOption r (WantsMemory false e) (λ refused. e ≡ refused)) (sym is) refl
 
 -- want of memory
-pub refuses-wanting : {S T : Type 0} (view : S → Values) (n : State S T) (happened : Event) → refusal_of (view n.store).frame.config (known_of view n) happened ≡ None → RefusesBy view n happened false error.OutOfMemory
+pub refuses-wanting : {S T : Type 0} (view : S → Values) (n : NamespaceState S T) (happened : Event) → refusal_of (view n.store).frame.config (known_of_state view n) happened ≡ None → RefusesBy view n happened false error.OutOfMemory
 refuses-wanting view n happened is = subst (λ r. MatchOption r (WantsMemory false error.OutOfMemory) (λ refused. error.OutOfMemory ≡ refused)) (sym is) (inl refl)

@@ -1,19 +1,20 @@
 -- The steps of one connection's lines are its own.
-use Rattle.std.proofs.Common.{cond, refl, sym, ap, ◌∙◌, ◌≡◌, ◌≢◌, ℕ, Bool, true, false, ◌&&◌, ◌==◌, List, [], ◌∷◌, Option, Some, None, if◌then◌else◌, subst, inl, inr, arith, suc, ◌+◌, ◌-◌, ◌<◌, ◌≤◌, not, ◌||◌, ◌++◌, length, map, is_some, ◌⊎◌}
+use Rattle.std.proofs.Common.{cond, refl, sym, ap, ◌∙◌, ◌≡◌, ◌≢◌, ℕ, Bool, true, false, ◌&&◌, ◌==◌, List, [], ◌∷◌, Option, Some, None, subst, inl, inr, arith, suc, ◌+◌, ◌-◌, ◌<◌, ◌≤◌, ◌++◌, length, map, is_some, ◌⊎◌}
+use Rattle.std.proofs.lemmas.Bool.Decides.{nat_tests}
 use Rattle.std.proofs.lemmas.Bool.{and_from, and_parts, eq-eqb, eqb-true, cases_eq, ne_eqb}
 use Rattle.std.proofs.lemmas.List.{length-append}
 use Rattle.std.proofs.lemmas.List.Folds.{list_all-append}
 use Rattle.std.proofs.lemmas.Option.{same_Some}
 use Rattle.std.specs.List.{list_all}
 use Rattle.std.specs.Option.{option_map_or}
-use Rattle.audit_model.specs.Bytewise.{is_empty, same}
+use Rattle.audit_model.specs.Bytewise.{is_empty}
 use Rattle.audit_model.specs.Changes.{after_step, connection_after, join_by, join_load}
 use Rattle.audit_model.specs.Commands.{quits}
 use Rattle.audit_model.specs.Follows.{after_steps, placed_step_in, Follows, after_event, tasks_in}
 use Rattle.audit_model.specs.History.{Effect}
 use Rattle.audit_model.specs.Loads.{key_loaded}
 use Rattle.audit_model.specs.Places.{due, first_due, left_after, tasks_to_feed, steps_of}
-use Rattle.audit_model.specs.Situation.{Situation, may_run_in, Connection, PendingLoad, connection_in, is_overlong, with_connection, with_waiting, without_waiting}
+use Rattle.audit_model.specs.Situation.{Situation, may_run_in, Connection, PendingLoad, connection_in, with_connection, with_waiting, without_waiting}
 use Rattle.audit_model.specs.Steps.{Deliver, PlacedStep, RunAgain, RunHeld, RunLines, Store, Task, has_right_acceptance, has_right_line, has_right_load, has_right_notes, has_right_reply, is_held_rightly, is_in_turn, is_quiet_where_silent, is_right, is_task_of, keeps_shares}
 use Rattle.audit_model.specs.Stream.{is_waiting}
 use Rattle.audit_model.specs.declared.config.Config.{Config}
@@ -29,7 +30,7 @@ use Rattle.cache_commands.specs.Loads.Pending.{SameTaken, load_numbered, outgoin
 use Rattle.cache_lines.specs.Tape.Taped.{Taped}
 use Rattle.cache_lines.specs.declared.base.Base.{Base}
 use Rattle.cache_core.specs.Connections.Presence.{Presence}
-use Rattle.cache_core.specs.State.{State, StandsFor, state_of}
+use Rattle.cache_core.specs.State.{NamespaceState, StateStandsFor, state_of}
 use Rattle.cache_core.specs.Turned.{own_steps, SendsBehind, Turned, is_sent}
 use Rattle.audit_model.specs.declared.event.Event.TheVariants as event
 
@@ -55,11 +56,7 @@ due-of n may (Store key outcome ∷ tasks) of = of
 due-of n may (Deliver conn outcome ∷ tasks) of = of
 due-of n may (RunAgain conn ∷ tasks) of = of
 due-of n may (RunHeld conn ∷ tasks) of = of
-due-of n may (RunLines conn ∷ tasks) of = go (may conn) (due-of n may tasks (and_parts (conn == n) (list_all (is_line_of n) tasks) of).1)
-  where
-    go : (b : Bool) → list_all (is_line_of n) (due may tasks) ≡ true → list_all (is_line_of n) (if b then RunLines conn ∷ tasks else due may tasks) ≡ true
-    go true next = of
-    go false next = next
+due-of n may (RunLines conn ∷ tasks) of = let next = due-of n may tasks (and_parts (conn == n) (list_all (is_line_of n) tasks) of).1 in grind (arith, next)
 
 left-of : (n : ℕ) (tasks : List Task) → list_all (is_line_of n) tasks ≡ true → list_all (is_line_of n) (left_after tasks) ≡ true
 left-of n [] of = refl
@@ -85,10 +82,6 @@ in-turn config placed right =
     (and_parts _ (is_quiet_where_silent placed)
     (and_parts _ (keeps_shares config placed) right).0).0).0).0).0).0).0).0
 
-split : {A : Type 0} (b : Bool) (rest : Option A) (t : A) → (if b then rest else None) ≡ Some t → (b ≡ true) × (rest ≡ Some t)
-split true rest t e = (refl, e)
-split false rest t e = let no : None ≡ Some t = e in cc
-
 pub all-own : (config : Config) (n : ℕ) (s : Situation) (tasks : List Task) (steps : List Step) (t : Situation) → list_all (is_line_of n) tasks ≡ true → after_steps config s tasks steps ≡ Some t
     → list_all (λ step. step.conn == n) steps ≡ true
 all-own config n s tasks [] t of after = refl
@@ -96,9 +89,9 @@ all-own config n s tasks (step ∷ steps) t of after =
     let now_due = due (may_run_in s) tasks in
     let placed = placed_step_in config s (first_due now_due) step in
     let next = after_step config s placed.task step placed.effect in
-    let both = split (is_right config placed) (after_steps config next (left_after now_due) steps) t after in
+    let both = passed (is_right config placed) (after_steps config next (left_after now_due) steps) t after in
     let of_due = due-of n (may_run_in s) tasks of in
-    and_from (step.conn == n) (list_all (λ (x : Step). x.conn == n) steps) (first-own n step.conn now_due of_due (in-turn config placed both.0)) (all-own config n next (left_after now_due) steps t (left-of n now_due of_due) both.1)
+    and_from (step.conn == n) (list_all (λ (x : Step). x.conn == n) steps) (first-own n step.conn now_due of_due (in-turn config placed both.test)) (all-own config n next (left_after now_due) steps t (left-of n now_due of_due) both.rest)
 
 -- to feed a connection is to run its lines
 pub feed-own : (n : ℕ) (holds : Bool) → list_all (is_line_of n) (tasks_to_feed n holds) ≡ true
@@ -117,11 +110,10 @@ pub own-none : (n k : ℕ) (steps : List Step) → list_all (λ step. step.conn 
 own-none n k [] e ne = refl
 own-none n k (step ∷ steps) e ne =
     let both = and_parts (step.conn == n) (list_all (λ (x : Step). x.conn == n) steps) e in
-    ap (λ b. cond b (step ∷ own_steps k steps) (own_steps k steps)) (other (step.conn == k) refl (eqb-true step.conn n both.0)) ∙ own-none n k steps both.1 ne
+    ap (λ b. cond b (step ∷ own_steps k steps) (own_steps k steps)) (other (eqb-true step.conn n both.0)) ∙ own-none n k steps both.1 ne
   where
-    other : (b : Bool) → (step.conn == k) ≡ b → step.conn ≡ n → b ≡ false
-    other true h is = absurd (ne (sym (eqb-true step.conn k h) ∙ is))
-    other false h is = refl
+    other : step.conn ≡ n → (step.conn == k) ≡ false
+    other is = grind (arith, nat_tests)
 
 -- The loads that an event sends.
 
@@ -131,18 +123,10 @@ found-mapped : (f : PendingLoad → PendingLoad) → ((load : PendingLoad) → (
     → is_some (load_numbered n (map f loads)) ≡ is_some (load_numbered n loads)
 found-mapped f numbers n [] = refl
 found-mapped f numbers n (load ∷ loads) =
-    ap (λ m. is_some (cond (m == n) (Some (f load)) (load_numbered n (map f loads)))) (numbers load) ∙ go (load.number == n) (found-mapped f numbers n loads)
-  where
-    go : (b : Bool) → is_some (load_numbered n (map f loads)) ≡ is_some (load_numbered n loads) → is_some (cond b (Some (f load)) (load_numbered n (map f loads))) ≡ is_some (cond b (Some load) (load_numbered n loads))
-    go true rest = refl
-    go false rest = rest
+    ap (λ m. is_some (cond (m == n) (Some (f load)) (load_numbered n (map f loads)))) (numbers load) ∙ (let next = found-mapped f numbers n loads in grind (arith, next))
 
 waiting-number : (conn : ℕ) (key : List ℕ) (load : PendingLoad) → (with_waiting conn key load).number ≡ load.number
-waiting-number conn key load = go (same load.key key)
-  where
-    go : (b : Bool) → (if b then record load { waiting = load.waiting ++ conn ∷ [] } else load).number ≡ load.number
-    go true = refl
-    go false = refl
+waiting-number conn key load = grind arith
 
 -- ---- those that were sent since are under way
 
@@ -169,11 +153,10 @@ out-join before conn true (Some key) None s sends out = out-mapped before (with_
 out-join before conn false (Some key) None s sends out = out
 
 out-put : (before : ℕ) (quits : Bool) (k : Connection) (s : Situation) → AreOut before s → AreOut before (with_connection quits k s)
-out-put before quits k s out = go (quits || is_overlong k)
-  where
-    go : (b : Bool) (n : ℕ) → before < n → n ≤ s.sent → is_some (load_numbered n (if b then map (without_waiting k.number) s.pending else s.pending)) ≡ true
-    go true n lt le = found-mapped (without_waiting k.number) (λ load. refl) n s.pending ∙ out n lt le
-    go false n lt le = out n lt le
+out-put before quits k s out n lt le =
+    let found = found-mapped (without_waiting k.number) (λ load. refl) n s.pending in
+    let there = out n lt le in
+    grind (arith, found, there)
 
 out-own : (before : ℕ) (task : Option Task) (step : Step) (effect : Effect) (s : Situation) → Sends (key_loaded effect.action) effect.load s.sent → AreOut before s → (o : Option Connection)
     → AreOut before (option_map_or (λ c. with_connection (quits effect) (connection_after task step effect c) (join_load step.conn effect s)) o s)
@@ -228,12 +211,8 @@ found-key : (out : LoadId × List ℕ) (pending : List PendingLoad) → is_some 
 found-key out [] found keyed = found
 found-key out (load ∷ pending) found keyed =
     let parts = and_parts (agrees_on out load) (has_its_key pending out) keyed in
-    go (load.number == out.0.number) (λ h. found-key out pending h parts.1) found parts.0
-  where
-    go : (b : Bool) → (is_some (load_numbered out.0.number pending) ≡ true → is_sent pending out ≡ true) → is_some (cond b (Some load) (load_numbered out.0.number pending)) ≡ true → (not b || same load.key out.1) ≡ true
-        → option_map_or (λ (l : PendingLoad). same l.key out.1) (cond b (Some load) (load_numbered out.0.number pending)) false ≡ true
-    go true rest h agrees = agrees
-    go false rest h agrees = rest h
+    let next = λ (h : is_some (load_numbered out.0.number pending) ≡ true). found-key out pending h parts.1 in
+    grind (arith, next, parts)
 
 all-sent : (ns before top : ℕ) (pending : List PendingLoad) (outs : List (LoadId × List ℕ)) → ((n : ℕ) → before < n → n ≤ top → is_some (load_numbered n pending) ≡ true)
     → are_in_turn ns before outs ≡ true → before + length outs ≤ top → have_their_keys pending outs ≡ true → list_all (is_sent pending) outs ≡ true
@@ -249,13 +228,13 @@ all-sent ns before top pending (out ∷ outs) found turn few keyed =
 -- ---- an event
 
 module _ {S T : Type 0} (view : S → Values) (tape : T → Option Taped) (base new_base : Base S T) (latest next : ℕ) (cs ds : List Presence) where
-  abbrev was : State S T
+  abbrev was : NamespaceState S T
   was = state_of base latest cs
 
-  abbrev is : State S T
+  abbrev is : NamespaceState S T
   is = state_of new_base next ds
 
-  pub sends-behind : (s : Situation) (entry : Record) → StandsFor view was s → Turned view tape was is s entry → SameTaken base.loads new_base.loads → SendsBehind was is
+  pub sends-behind : (s : Situation) (entry : Record) → StateStandsFor view was s → Turned view tape was is s entry → SameTaken base.loads new_base.loads → SendsBehind was is
   sends-behind s entry st turned goes =
       let new = new_base.loads in
       let outs = outgoing_loads base.loads in

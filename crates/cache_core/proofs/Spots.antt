@@ -3,7 +3,7 @@ use Rattle.std.proofs.Common.{refl, sym, ap, ◌∙◌, arith, ◌≡◌, ◌≢
 use Rattle.std.proofs.lemmas.Option.{slice_get_within, same_Some}
 use Rattle.std.specs.List.{slice_get}
 use Rattle.std.specs.Option.{option_map_or}
-use Rattle.cache_core.specs.Connections.Presence.{Gone, Here, Out, Presence, closing_at, closing_of, is_here, reply_text_of, text_at}
+use Rattle.cache_core.specs.Connections.Presence.{Gone, Here, Out, Presence, closing_at, closing_of_presence, is_here, reply_text_of, text_at}
 use Rattle.cache_core.specs.Fed.{ReplacedAt}
 use Rattle.cache_core.specs.State.{at_number}
 use Rattle.audit_model.specs.declared.command.Closing.TheVariants as by
@@ -15,7 +15,7 @@ pub text-is : (cs : List Presence) (i : ℕ) (c : Connection) → slice_get cs i
 text-is cs i c at = ap (λ o. option_map_or reply_text_of o []) at
 
 pub closing-is : (cs : List Presence) (i : ℕ) (c : Connection) → slice_get cs i ≡ Some (Here c) → closing_at cs i ≡ c.closing
-closing-is cs i c at = ap (λ o. option_map_or closing_of o None) at
+closing-is cs i c at = ap (λ o. option_map_or closing_of_presence o None) at
 
 -- the connection that was put at a place stands there
 pub replaced-is : (old new : List Presence) (i : ℕ) → (p : ReplacedAt old new i) → slice_get new i ≡ Some (Here p.is)

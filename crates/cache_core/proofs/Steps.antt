@@ -21,7 +21,7 @@ use Rattle.cache_commands.specs.declared.loads.standing.Standing.{Standing}
 use Rattle.cache_lines.proofs.leads.Leading.{on, lines, no-lines, nothing}
 use Rattle.cache_lines.specs.Drawing.{identifiers_in}
 use Rattle.cache_lines.specs.Ended.{ends_silent, RanTasks}
-use Rattle.cache_lines.specs.Gathered.{Gathered, adds, gather, gathered, reply_in, stage, written}
+use Rattle.cache_lines.specs.Gathered.{Gathered, adds, gather, gathered, reply_in, stage, written_in}
 use Rattle.cache_lines.specs.Leads.Leads.{TasksLead, BeginsUnknown}
 use Rattle.cache_lines.specs.Lines.{ends_quit, set_in, with_drops}
 use Rattle.cache_lines.specs.Making.{Making, making_of}
@@ -36,10 +36,10 @@ use Rattle.cache_core.proofs.Turning.{found-is, found-open, outputs-by, put-situ
 use Rattle.cache_core.specs.Connection.Fed.{EndsCalm, StepRan, closing_by, FedRan}
 use Rattle.cache_core.specs.Connection.Fits.{ClosesFor, RunsOn}
 use Rattle.cache_core.specs.Connection.Parts.{standing_as}
-use Rattle.cache_core.specs.Connection.Shown.{put_in, shown, with_piece}
+use Rattle.cache_core.specs.Connection.Shown.{put_in, shown_connection, with_piece}
 use Rattle.cache_core.specs.Connections.Presence.{Here, Presence, reply_text_of, Gone, Out, closing_at, is_here, text_at}
 use Rattle.cache_core.specs.Fed.{ReplacedAt, seen_at}
-use Rattle.cache_core.specs.Settled.{Running, Absent, Closed, Course, Moves, Resting, closing_of_steps, Piece, course_at, course_in, course_of, middle_of}
+use Rattle.cache_core.specs.Settled.{Running, Absent, Closed, Course, MovesCourse, Resting, closing_of_steps, Piece, course_at, course_in, course_of, middle_of}
 use Rattle.cache_core.specs.Settling.{runs_at, runs_with}
 use Rattle.cache_core.specs.State.{at_number}
 use Rattle.cache_core.specs.Turned.{own_steps, replies_to}
@@ -92,10 +92,10 @@ why-behind config xs ys why some e = e ∙ sym (ap (λ b. closing_by false b (en
 why-none : (config : Config) (xs ys : List Step) (why : Closing) → why ≡ closing_of_steps config xs → ys ≡ [] → why ≡ closing_of_steps config (xs ++ ys)
 why-none config xs ys why e none = e ∙ sym (ap (closing_of_steps config) (ap (λ zs. xs ++ zs) none ∙ append-nil xs))
 
-pub moves-on : (config : Config) (xs ys : List Step) (k l m : Course) → Moves config xs k l → Moves config ys l m → Moves config (xs ++ ys) k m
-moves-on config xs ys Absent l m a b = subst (λ c. Moves config ys c m → m ≡ Absent) (sym a) (λ h. h) b
+pub moves-on : (config : Config) (xs ys : List Step) (k l m : Course) → MovesCourse config xs k l → MovesCourse config ys l m → MovesCourse config (xs ++ ys) k m
+moves-on config xs ys Absent l m a b = subst (λ c. MovesCourse config ys c m → m ≡ Absent) (sym a) (λ h. h) b
 moves-on config xs ys (Closed why) l m a b =
-    let c = subst (λ k. Moves config ys k m) a.0 b in (c.0, ap (λ zs. zs ++ ys) a.1 ∙ c.1)
+    let c = subst (λ k. MovesCourse config ys k m) a.0 b in (c.0, ap (λ zs. zs ++ ys) a.1 ∙ c.1)
 moves-on config xs ys Running Absent m a b = absurd a
 moves-on config xs ys Running (Closed why) Absent a b = let no : Absent ≡ Closed why = b.0 in cc
 moves-on config xs ys Running (Closed why) (Closed w) a b = why-none config xs ys w (closed-is b.0 ∙ a) b.1
@@ -138,7 +138,7 @@ moves-on config xs ys Resting Resting Running a b = (calm-behind config xs ys b.
 moves-on config xs ys Resting Resting Resting a b = tt
 
 -- one that had no step
-pub moves-none : (config : Config) (k : Course) → Moves config [] k k
+pub moves-none : (config : Config) (k : Course) → MovesCourse config [] k k
 moves-none config Absent = refl
 moves-none config (Closed why) = (refl, refl)
 moves-none config Running = record { quits = refl; silent = refl }
@@ -174,7 +174,7 @@ some-map f (Some t) = refl
 
 module _ {S T : Type 0} (view : S → Values) (tape : T → Option Taped) (making : Making) (now : ℕ) (was mid is : Base S T) (old between new : List Presence) (tasks more : List Task) (held : List HeldValue) where
   pub still-kept : Piece view tape making now was mid old between tasks held → is_some (tape mid.tape) ≡ is_some (tape was.tape)
-  still-kept p = sym (some-map written (tape mid.tape)) ∙ ap is_some p.kept ∙ some-map (adds p.steps) (option_map written (tape was.tape)) ∙ some-map written (tape was.tape)
+  still-kept p = sym (some-map written_in (tape mid.tape)) ∙ ap is_some p.kept ∙ some-map (adds p.steps) (option_map written_in (tape was.tape)) ∙ some-map written_in (tape was.tape)
 
   pub piece-on : (p : Piece view tape making now was mid old between tasks held) → Piece view tape making now mid is between new more p.left → Piece view tape making now was is old new (tasks ++ more) held
   piece-on p q =
@@ -195,11 +195,11 @@ module _ {S T : Type 0} (view : S → Values) (tape : T → Option Taped) (makin
             added-both b _ _ _ (replies_to n p.steps) (replies_to n q.steps) (replies_to n steps) (p.outputs n)
             (subst (λ k. at_number [] (map reply_text_of new) n ≡ at_number [] (map reply_text_of between) n ++ (if k then [] else replies_to n q.steps)) some (q.outputs n))
             (ap (flat_map reply_in) (own-both n p.steps q.steps) ∙ flat-both reply_in (own_steps n p.steps) (own_steps n q.steps));
-        kept = q.kept ∙ ap (option_map (adds q.steps)) p.kept ∙ adds-both p.steps q.steps (option_map written (tape was.tape));
+        kept = q.kept ∙ ap (option_map (adds q.steps)) p.kept ∙ adds-both p.steps q.steps (option_map written_in (tape was.tape));
         notes =
             added-both b _ _ _ (flat_map (λ (step : Step). step.notices) p.steps) (flat_map (λ (step : Step). step.notices) q.steps) (flat_map (λ (step : Step). step.notices) steps) p.notes
             (subst (λ k. (view is.store).untaken ≡ (view mid.store).untaken ++ (if k then [] else flat_map (λ (step : Step). step.notices) q.steps)) some q.notes) (flat-both (λ (step : Step). step.notices) p.steps q.steps);
-        moves = λ n. subst (λ ss. Moves making.config ss (course_at old n) (course_at new n)) (sym (own-both n p.steps q.steps)) (moves-on making.config (own_steps n p.steps) (own_steps n q.steps) (course_at old n) (course_at between n) (course_at new n) (p.moves n) (q.moves n));
+        moves = λ n. subst (λ ss. MovesCourse making.config ss (course_at old n) (course_at new n)) (sym (own-both n p.steps q.steps)) (moves-on making.config (own_steps n p.steps) (own_steps n q.steps) (course_at old n) (course_at between n) (course_at new n) (p.moves n) (q.moves n));
       }
 
   -- its steps are those of both
@@ -212,7 +212,7 @@ module _ {S T : Type 0} (view : S → Values) (tape : T → Option Taped) (makin
 -- what was gathered, apart
 pub record GatheredApart (steps : List Step) (t new_t : Option Taped) (text new_text : List ℕ) (untaken new_untaken : List Note) : Type 0 where
   pub text_is : new_text ≡ text ++ (if is_some t then [] else flat_map reply_in steps)
-  pub kept : option_map written new_t ≡ option_map (adds steps) (option_map written t)
+  pub kept : option_map written_in new_t ≡ option_map (adds steps) (option_map written_in t)
   pub untaken_is : new_untaken ≡ untaken ++ (if is_some t then [] else flat_map (λ step. step.notices) steps)
 
 pub gathered-apart : (v w : Values) (steps : List Step) (t new_t : Option Taped) (text new_text : List ℕ) → gathered (stage w new_text new_t) ≡ gather (gathered (stage v text t)) steps
@@ -226,27 +226,27 @@ gathered-apart v w steps (Some t) new_t text new_text e = record {
 
 -- how the connections went on
 pub moves-by : (config : Config) (cs : List Presence) (i : ℕ) (old new : Connection) (steps : List Step) → slice_get cs i ≡ Some (Here old) → list_all (λ step. step.conn == suc i) steps ≡ true
-    → Moves config steps (course_of old.closing old.standing) (course_of new.closing new.standing)
-    → (n : ℕ) → Moves config (own_steps n steps) (course_at cs n) (course_at (slice_set cs i (Here new)) n)
+    → MovesCourse config steps (course_of old.closing old.standing) (course_of new.closing new.standing)
+    → (n : ℕ) → MovesCourse config (own_steps n steps) (course_at cs n) (course_at (slice_set cs i (Here new)) n)
 moves-by config cs i old new steps at own moves n = go (n == suc i) refl
   where
-    go : (b : Bool) → (n == suc i) ≡ b → Moves config (own_steps n steps) (at_number Absent (map course_in cs) n) (at_number Absent (map course_in (slice_set cs i (Here new))) n)
+    go : (b : Bool) → (n == suc i) ≡ b → MovesCourse config (own_steps n steps) (at_number Absent (map course_in cs) n) (at_number Absent (map course_in (slice_set cs i (Here new))) n)
     go true e =
         let is : n ≡ suc i = eqb-true n (suc i) e in
-        subst (λ k. Moves config (own_steps k steps) (at_number Absent (map course_in cs) k) (at_number Absent (map course_in (slice_set cs i (Here new))) k)) (sym is)
-        (subst (λ k. Moves config (own_steps (suc i) steps) k (at_number Absent (map course_in (slice_set cs i (Here new))) (suc i))) (sym (seen-was course_in Absent cs i (Here old) at))
-        (subst (λ k. Moves config (own_steps (suc i) steps) (course_of old.closing old.standing) k) (sym (seen-at course_in Absent cs i (Here new) (slice_get_within cs i (Here old) at)))
-        (subst (λ ss. Moves config ss (course_of old.closing old.standing) (course_of new.closing new.standing)) (sym (own-all (suc i) steps own)) moves)))
+        subst (λ k. MovesCourse config (own_steps k steps) (at_number Absent (map course_in cs) k) (at_number Absent (map course_in (slice_set cs i (Here new))) k)) (sym is)
+        (subst (λ k. MovesCourse config (own_steps (suc i) steps) k (at_number Absent (map course_in (slice_set cs i (Here new))) (suc i))) (sym (seen-was course_in Absent cs i (Here old) at))
+        (subst (λ k. MovesCourse config (own_steps (suc i) steps) (course_of old.closing old.standing) k) (sym (seen-at course_in Absent cs i (Here new) (slice_get_within cs i (Here old) at)))
+        (subst (λ ss. MovesCourse config ss (course_of old.closing old.standing) (course_of new.closing new.standing)) (sym (own-all (suc i) steps own)) moves)))
     go false e =
         let ne : n ≢ suc i = λ h. let no : false ≡ true = sym e ∙ eq-eqb n (suc i) h in cc in
-        subst (λ ss. Moves config ss (at_number Absent (map course_in cs) n) (at_number Absent (map course_in (slice_set cs i (Here new))) n)) (sym (own-none (suc i) n steps own ne))
-        (subst (λ k. Moves config [] (at_number Absent (map course_in cs) n) k) (sym (seen-other course_in Absent cs i n (Here new) ne)) (moves-none config (at_number Absent (map course_in cs) n)))
+        subst (λ ss. MovesCourse config ss (at_number Absent (map course_in cs) n) (at_number Absent (map course_in (slice_set cs i (Here new))) n)) (sym (own-none (suc i) n steps own ne))
+        (subst (λ k. MovesCourse config [] (at_number Absent (map course_in cs) n) k) (sym (seen-other course_in Absent cs i n (Here new) ne)) (moves-none config (at_number Absent (map course_in cs) n)))
 
 -- Parts of a record in which one connection has its steps.
 
 -- ---- no step
 
-adds-none : (t : Option Taped) → option_map written t ≡ option_map (adds []) (option_map written t)
+adds-none : (t : Option Taped) → option_map written_in t ≡ option_map (adds []) (option_map written_in t)
 adds-none None = refl
 adds-none (Some t) = ap (λ ss. Some (record { journal = t.journal; begun = t.begun; steps = ss; spare = 0; drafted = None })) (sym (append-nil t.steps))
 
@@ -254,26 +254,26 @@ adds-none (Some t) = ap (λ ss. Some (record { journal = t.journal; begun = t.be
 
 -- a `LOAD` that waited has its step
 moves-step : (config : Config) (steps : List Step) (was is : Option Closing) (standing standing' : Standing) → was ≡ None → standing ≡ now_is.Waiting → is ≡ None → (standing' ≡ now_is.Ready → EndsCalm config steps) → is_empty steps ≡ false
-    → Moves config steps (course_of was standing) (course_of is standing')
+    → MovesCourse config steps (course_of was standing) (course_of is standing')
 moves-step config steps was is standing standing' was_open waited is_open calm some =
-    subst (λ o. Moves config steps (course_of o standing) (course_of is standing')) (sym was_open)
-    (subst (λ st. Moves config steps (course_of None st) (course_of is standing')) (sym waited)
-    (subst (λ o. Moves config steps (course_of None now_is.Waiting) (course_of o standing')) (sym is_open) (go standing' calm)))
+    subst (λ o. MovesCourse config steps (course_of o standing) (course_of is standing')) (sym was_open)
+    (subst (λ st. MovesCourse config steps (course_of None st) (course_of is standing')) (sym waited)
+    (subst (λ o. MovesCourse config steps (course_of None now_is.Waiting) (course_of o standing')) (sym is_open) (go standing' calm)))
   where
-    go : (st : Standing) → (st ≡ now_is.Ready → EndsCalm config steps) → Moves config steps (course_of None now_is.Waiting) (course_of None st)
+    go : (st : Standing) → (st ≡ now_is.Ready → EndsCalm config steps) → MovesCourse config steps (course_of None now_is.Waiting) (course_of None st)
     go now_is.Ready c = (c refl, some)
     go now_is.Held c = tt
     go now_is.Waiting c = tt
 
 -- lines ran
 moves-lines : (config : Config) (steps : List Step) (quit silent : Bool) (was is : Option Closing) (standing standing' : Standing) → was ≡ None → standing ≡ now_is.Ready → ends_quit config steps ≡ quit → ends_silent steps ≡ silent
-    → ClosesFor (closing_by (waits_for_load standing) quit silent) is → RunsOn is standing' quit silent → Moves config steps (course_of was standing) (course_of is standing')
+    → ClosesFor (closing_by (waits_for_load standing) quit silent) is → RunsOn is standing' quit silent → MovesCourse config steps (course_of was standing) (course_of is standing')
 moves-lines config steps quit silent was is standing standing' was_open ready quits silents closes runs =
-    subst (λ o. Moves config steps (course_of o standing) (course_of is standing')) (sym was_open)
-    (subst (λ st. Moves config steps (course_of None st) (course_of is standing')) (sym ready)
+    subst (λ o. MovesCourse config steps (course_of o standing) (course_of is standing')) (sym was_open)
+    (subst (λ st. MovesCourse config steps (course_of None st) (course_of is standing')) (sym ready)
     (go is standing' (subst (λ st. ClosesFor (closing_by (waits_for_load st) quit silent) is) ready closes) runs))
   where
-    stays : (st : Standing) → RunsOn None st quit silent → Moves config steps Running (course_of None st)
+    stays : (st : Standing) → RunsOn None st quit silent → MovesCourse config steps Running (course_of None st)
     stays now_is.Ready r = let x = r refl refl in record { quits = quits ∙ x.0; silent = silents ∙ x.1 }
     stays now_is.Held r = tt
     stays now_is.Waiting r = tt
@@ -281,18 +281,18 @@ moves-lines config steps quit silent was is standing standing' was_open ready qu
     due : closing_of_steps config steps ≡ closing_by false quit silent
     due = ap (λ b. closing_by false b (ends_silent steps)) quits ∙ ap (closing_by false quit) silents
 
-    go : (o : Option Closing) (st : Standing) → ClosesFor (closing_by false quit silent) o → RunsOn o st quit silent → Moves config steps Running (course_of o st)
-    go o st (inl is_open) r = subst (λ x. Moves config steps Running (course_of x st)) (sym is_open) (stays st (subst (λ x. RunsOn x st quit silent) is_open r))
-    go o st (inr closed) r = subst (λ x. Moves config steps Running (course_of x st)) (sym closed) (sym due)
+    go : (o : Option Closing) (st : Standing) → ClosesFor (closing_by false quit silent) o → RunsOn o st quit silent → MovesCourse config steps Running (course_of o st)
+    go o st (inl is_open) r = subst (λ x. MovesCourse config steps Running (course_of x st)) (sym is_open) (stays st (subst (λ x. RunsOn x st quit silent) is_open r))
+    go o st (inr closed) r = subst (λ x. MovesCourse config steps Running (course_of x st)) (sym closed) (sym due)
 
 -- ---- the connection where it stands
 
 -- what is put where it stands changes nothing
 put-same : (latest m i : ℕ) (l : UnderWay) (cs : List Presence) (dropped : Bool) (held : List HeldValue) (c : Connection) → m ≡ suc i → slice_get cs i ≡ Some (Here c) → c.closing ≡ None
-    → set_in (sit latest l cs dropped held) held (shown m c) ≡ sit latest l cs dropped held
+    → set_in (sit latest l cs dropped held) held (shown_connection m c) ≡ sit latest l cs dropped held
 put-same latest m i l cs dropped held c e at is_open =
     let s = sit latest l cs dropped held in
-    sym (ap (λ o. if is_none o then set_in s held (shown m c) else without_connection m (record s { held = held })) is_open)
+    sym (ap (λ o. if is_none o then set_in s held (shown_connection m c) else without_connection m (record s { held = held })) is_open)
     ∙ put-situation latest m i l c c cs dropped held held e at is_open
     ∙ ap (λ o. sit latest (when_left (is_none o) m l) (slice_set cs i (Here c)) dropped held) is_open
     ∙ ap (λ k. sit latest l (slice_set cs i k) dropped held) (sym (get_or_from_slice_get cs i (Here c) (Here c) at))
@@ -344,9 +344,9 @@ module _ {S T : Type 0} (view : S → Values) (tape : T → Option Taped) (now :
         (outputs-by cs i p.was p.is steps (is_some (tape was.tape)) p.at
         (sym (text-is ds i p.is (replaced-is cs ds i p)) ∙ text ∙ ap (λ t. t ++ (if is_some (tape was.tape) then [] else flat_map reply_in steps)) (text-is cs i p.was p.at)) own n)
 
-    moves-own : (steps : List Step) → list_all (λ step. step.conn == suc i) steps ≡ true → Moves frame_was.config steps (course_of p.was.closing p.was.standing) (course_of p.is.closing p.is.standing)
-        → (n : ℕ) → Moves frame_was.config (own_steps n steps) (course_at cs n) (course_at ds n)
-    moves-own steps own moves n = subst (λ ks. Moves frame_was.config (own_steps n steps) (course_at cs n) (course_at ks n)) (sym p.set) (moves-by frame_was.config cs i p.was p.is steps p.at own moves n)
+    moves-own : (steps : List Step) → list_all (λ step. step.conn == suc i) steps ≡ true → MovesCourse frame_was.config steps (course_of p.was.closing p.was.standing) (course_of p.is.closing p.is.standing)
+        → (n : ℕ) → MovesCourse frame_was.config (own_steps n steps) (course_at cs n) (course_at ds n)
+    moves-own steps own moves n = subst (λ ks. MovesCourse frame_was.config (own_steps n steps) (course_at cs n) (course_at ks n)) (sym p.set) (moves-by frame_was.config cs i p.was p.is steps p.at own moves n)
 
     -- a task of its `LOAD` that waited was done
     pub piece-step : (task : Task) → p.was.standing ≡ now_is.Waiting → StepRan now m task p.was p.is (seen_at view tape was cs i) (seen_at view tape is ds i) → (held : List HeldValue) → (view was.store).Stands held
@@ -383,7 +383,7 @@ module _ {S T : Type 0} (view : S → Values) (tape : T → Option Taped) (now :
         let found = found-open m i p.was cs e p.at was_open in
         let x = r.ran s (record { at = refl; dropped = refl; stands = stands }) (ap is_some found) refl in
         let dropping = (view is.store).frame.dropped in
-        let start : set_in s held (with_piece [] (shown m p.was)) ≡ s = ap (set_in s held) (piece-nothing (shown m p.was)) ∙ put-same now m i (under_way was.loads) cs (view was.store).frame.dropped held p.was e p.at was_open in
+        let start : set_in s held (with_piece [] (shown_connection m p.was)) ≡ s = ap (set_in s held) (piece-nothing (shown_connection m p.was)) ∙ put-same now m i (under_way was.loads) cs (view was.store).frame.dropped held p.was e p.at was_open in
         let tasks : tasks_to_feed m (holds_line p.was.standing) ≡ RunLines m ∷ [] = ap (λ st. tasks_to_feed m (holds_line st)) ready in
         let ends : List HeldValue → Situation = λ rest. put_in (with_under_way (under_way is.loads) (with_drops dropping s)) rest m p.is in
         let before = stage (view was.store) (text_at cs i) (tape was.tape) in

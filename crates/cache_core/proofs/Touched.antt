@@ -1,5 +1,6 @@
 -- Connections of which one was touched, or none that anybody could see.
 use Rattle.std.proofs.Common.{refl, sym, ap, ◌∙◌, subst, arith, ◌≡◌, ◌≢◌, ℕ, zero, suc, ◌+◌, ◌-◌, ◌≤◌, Bool, true, false, ◌==◌, List, [], ◌∷◌, ◌++◌, map, Some, None, if◌then◌else◌, length, vec_len, is_none, slice_set, vec_capacity, cond, get_or, drop, ◌<◌, Option, take}
+use Rattle.std.proofs.lemmas.Bool.Decides.{nat_tests}
 use Rattle.std.proofs.Math.Seq.{drop-cons, take-suc}
 use Rattle.std.proofs.lemmas.Bool.{eqb-true, eq-eqb}
 use Rattle.std.proofs.lemmas.List.{length-set}
@@ -21,8 +22,8 @@ use Rattle.cache_core.proofs.connections.Getting.{at-other}
 use Rattle.cache_core.proofs.connections.Listed.{open-behind}
 use Rattle.cache_core.specs.Connection.Fed.{LooksAsBefore}
 use Rattle.cache_core.specs.Connection.Parts.{standing_as, stands_before}
-use Rattle.cache_core.specs.Connection.Shown.{shown}
-use Rattle.cache_core.specs.Connections.Presence.{Gone, Here, Out, Presence, closing_of, open_from, reply_text_of}
+use Rattle.cache_core.specs.Connection.Shown.{shown_connection}
+use Rattle.cache_core.specs.Connections.Presence.{Gone, Here, Out, Presence, closing_of_presence, open_from, reply_text_of}
 use Rattle.cache_core.specs.Fed.{ReplacedAt}
 use Rattle.cache_core.specs.Settled.{course_in, course_of}
 use Rattle.cache_core.specs.Settling.{AllLookAsBefore, HasReplyRoomAt, HaveReplyRoom, LeavesOthers, LooksLike, AreThere, AreWaiting, IsWaitingAt}
@@ -86,12 +87,12 @@ all-set (c ∷ cs) (suc i) was is at same = (like-itself c, all-set cs i was is 
 pub all-replaced : (old new : List Presence) (i : ℕ) (p : ReplacedAt old new i) → LooksAsBefore p.was p.is → AllLookAsBefore old new
 all-replaced old new i p same = subst (AllLookAsBefore old) (sym p.set) (all-set old i p.was p.is p.at same)
 
-shows-same : (k : ℕ) (c d : Connection) → LooksAsBefore c d → shown k d ≡ shown k c
+shows-same : (k : ℕ) (c d : Connection) → LooksAsBefore c d → shown_connection k d ≡ shown_connection k c
 shows-same k c d same = ap (λ st. standing_as k st d.waited d.unread.bytes) same.standing ∙ ap (λ n. standing_as k c.standing n d.unread.bytes) same.waited ∙ ap (standing_as k c.standing c.waited) same.bytes
 
 listed-like : (n : ℕ) (c d : Presence) (cs : List Presence) → LooksLike c d → open_from n (d ∷ cs) ≡ open_from n (c ∷ cs)
 listed-like n (Here c) (Here d) cs a =
-    ap (λ w. if is_none w then shown n d ∷ open_from (suc n) cs else open_from (suc n) cs) a.closing
+    ap (λ w. if is_none w then shown_connection n d ∷ open_from (suc n) cs else open_from (suc n) cs) a.closing
     ∙ ap (λ k. if is_none c.closing then k ∷ open_from (suc n) cs else open_from (suc n) cs) (shows-same n c d a)
 listed-like n (Here c) Out cs a = absurd a
 listed-like n (Here c) (Gone why) cs a = absurd a
@@ -110,12 +111,12 @@ all-seen f same [] (d ∷ ds) a = absurd a
 all-seen f same (c ∷ cs) [] a = absurd a
 all-seen f same (c ∷ cs) (d ∷ ds) a = ap (λ x. x ∷ map f ds) (same c d a.0) ∙ ap (λ xs. f c ∷ xs) (all-seen f same cs ds a.1)
 
-closing-like : (c d : Presence) → LooksLike c d → closing_of d ≡ closing_of c
+closing-like : (c d : Presence) → LooksLike c d → closing_of_presence d ≡ closing_of_presence c
 closing-like (Here c) (Here d) a = a.closing
 closing-like (Here c) Out a = absurd a
 closing-like (Here c) (Gone why) a = absurd a
-closing-like Out d a = ap closing_of a
-closing-like (Gone why) d a = ap closing_of a
+closing-like Out d a = ap closing_of_presence a
+closing-like (Gone why) d a = ap closing_of_presence a
 
 text-like : (c d : Presence) → LooksLike c d → reply_text_of d ≡ reply_text_of c
 text-like (Here c) (Here d) a = a.text
@@ -131,8 +132,8 @@ course-like (Here c) (Gone why) a = absurd a
 course-like Out d a = ap course_in a
 course-like (Gone why) d a = ap course_in a
 
-pub all-closings : (old new : List Presence) → AllLookAsBefore old new → map closing_of new ≡ map closing_of old
-all-closings old new a = all-seen closing_of closing-like old new a
+pub all-closings : (old new : List Presence) → AllLookAsBefore old new → map closing_of_presence new ≡ map closing_of_presence old
+all-closings old new a = all-seen closing_of_presence closing-like old new a
 
 pub all-texts : (old new : List Presence) → AllLookAsBefore old new → map reply_text_of new ≡ map reply_text_of old
 all-texts old new a = all-seen reply_text_of text-like old new a
@@ -165,9 +166,8 @@ no-truth e = let no : false ≡ true = e in cc
 elsewhere : (a b : ℕ) → (a == b) ≡ false → (a ≡ b) → ⊥
 elsewhere a b is same = no-truth (sym is ∙ eq-eqb a b same)
 
-left-among : (m n : ℕ) (gone : List ℕ) → 1 ≤ times_in m (gone ++ n ∷ []) → ((m - 1 ≡ n - 1) → ⊥) → (b : Bool) → (n == m) ≡ b → 1 ≤ times_in m gone
-left-among m n gone some away true e = let same = eqb-true n m e in absurd (away (omega arith))
-left-among m n gone some away false e = let t = times-more m n gone in let none : one_if (n == m) ≡ 0 = ap one_if e in omega arith
+left-among : (m n : ℕ) (gone : List ℕ) → 1 ≤ times_in m (gone ++ n ∷ []) → ((m - 1 ≡ n - 1) → ⊥) → 1 ≤ times_in m gone
+left-among m n gone some away = let t = times-more m n gone in grind (arith, nat_tests, t)
 
 -- one more has room
 pub room-more : (mid new : List Presence) (size n : ℕ) (gone : List ℕ) → HaveReplyRoom mid size gone → ((place : ℕ) → place ≢ n - 1 → slice_get new place ≡ slice_get mid place)
@@ -176,7 +176,7 @@ room-more mid new size n gone before others room m some c at = go (m - 1 == n - 
   where
     go : (b : Bool) → (m - 1 == n - 1) ≡ b → vec_len c.output.text + size ≤ vec_capacity c.output.text
     go true is = room c (ap (slice_get new) (sym (eqb-true (m - 1) (n - 1) is)) ∙ at)
-    go false is = before m (left-among m n gone some (elsewhere (m - 1) (n - 1) is) (n == m) refl) c (sym (others (m - 1) (elsewhere (m - 1) (n - 1) is)) ∙ at)
+    go false is = before m (left-among m n gone some (elsewhere (m - 1) (n - 1) is)) c (sym (others (m - 1) (elsewhere (m - 1) (n - 1) is)) ∙ at)
 
 -- The connections that wait for a load.
 
@@ -189,7 +189,7 @@ record FoundAt (m n : ℕ) (k : model.Connection) (cs : List Presence) : Type 0 
   is : Connection
   at : slice_get cs index ≡ Some (Here is)
   is_open : is.closing ≡ None
-  shows : shown m is ≡ k
+  shows : shown_connection m is ≡ k
 
 found-later : (m n : ℕ) (k : model.Connection) (c : Presence) (cs : List Presence) → FoundAt m (suc n) k cs → FoundAt m n k (c ∷ cs)
 found-later m n k c cs f = record { index = suc f.index; place = let e = f.place in omega (arith, e); is = f.is; at = f.at; is_open = f.is_open; shows = f.shows }
@@ -198,23 +198,18 @@ open-so : (closing : Option Closing) → is_none closing ≡ true → closing �
 open-so None e = refl
 open-so (Some by) e = let no : false ≡ true = e in cc
 
-find-first : (m n : ℕ) (c : Connection) (rest : List model.Connection) → (b : Bool)
-    → (if b then cond (n == m) (Some (shown n c)) (find (λ (x : model.Connection). x.number == m) rest) else find (λ (x : model.Connection). x.number == m) rest) ≡ find (λ (x : model.Connection). x.number == m) (if b then shown n c ∷ rest else rest)
-find-first m n c rest true = refl
-find-first m n c rest false = refl
-
 found-first : (m n : ℕ) (k : model.Connection) (c : Connection) (cs : List Presence) (rest : List model.Connection) → (find (λ (x : model.Connection). x.number == m) rest ≡ Some k → FoundAt m (suc n) k cs)
-    → (b t : Bool) → is_none c.closing ≡ b → (n == m) ≡ t → (if b then cond t (Some (shown n c)) (find (λ (x : model.Connection). x.number == m) rest) else find (λ (x : model.Connection). x.number == m) rest) ≡ Some k → FoundAt m n k (Here c ∷ cs)
+    → (b t : Bool) → is_none c.closing ≡ b → (n == m) ≡ t → (if b then cond t (Some (shown_connection n c)) (find (λ (x : model.Connection). x.number == m) rest) else find (λ (x : model.Connection). x.number == m) rest) ≡ Some k → FoundAt m n k (Here c ∷ cs)
 found-first m n k c cs rest next false t is same h = found-later m n k (Here c) cs (next h)
 found-first m n k c cs rest next true false is other h = found-later m n k (Here c) cs (next h)
 found-first m n k c cs rest next true true is same h =
     let e = eqb-true n m same in
-    record { index = 0; place = omega (arith, e); is = c; at = refl; is_open = open-so c.closing is; shows = ap (λ x. shown x c) (sym e) ∙ same_Some (shown n c) k h }
+    record { index = 0; place = omega (arith, e); is = c; at = refl; is_open = open-so c.closing is; shows = ap (λ x. shown_connection x c) (sym e) ∙ same_Some (shown_connection n c) k h }
 
 found-back : (m n : ℕ) (k : model.Connection) (cs : List Presence) → find (λ (x : model.Connection). x.number == m) (open_from n cs) ≡ Some k → FoundAt m n k cs
 found-back m n k [] e = let no : None ≡ Some k = e in cc
 found-back m n k (Here c ∷ cs) e =
-    found-first m n k c cs (open_from (suc n) cs) (λ h. found-back m (suc n) k cs h) (is_none c.closing) (n == m) refl refl (find-first m n c (open_from (suc n) cs) (is_none c.closing) ∙ e)
+    found-first m n k c cs (open_from (suc n) cs) (λ h. found-back m (suc n) k cs h) (is_none c.closing) (n == m) refl refl (grind arith)
 found-back m n k (Out ∷ cs) e = found-later m n k Out cs (found-back m (suc n) k cs e)
 found-back m n k (Gone why ∷ cs) e = found-later m n k (Gone why) cs (found-back m (suc n) k cs e)
 
@@ -226,11 +221,7 @@ waits-so now.Waiting line e = refl
 -- one that waits is counted once
 waits-once : (o : Option model.Connection) → option_map_or (λ (k : model.Connection). if is_waiting_now k.standing then 1 else 0) o 0 ≤ 1
 waits-once None = omega arith
-waits-once (Some k) = go (is_waiting_now k.standing)
-  where
-    go : (b : Bool) → (if b then 1 else 0) ≤ 1
-    go true = omega arith
-    go false = omega arith
+waits-once (Some k) = grind arith
 
 -- those who are to be told do wait
 pub told-wait : (config : Config) (told : List ℕ) (s : Situation) (cs : List Presence) → s.connections ≡ open_from 1 cs → Tidy told s → WaitForLoads config s → AreWaiting config cs told

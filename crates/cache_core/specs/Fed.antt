@@ -5,7 +5,7 @@ use Rattle.std.specs.Option.{option_map}
 use Rattle.audit_model.specs.declared.input.ServiceError.{ServiceError}
 use Rattle.cache_commands.specs.Loads.Pending.{SameLoads}
 use Rattle.cache_lines.specs.Bases.{Seen}
-use Rattle.cache_lines.specs.Gathered.{IsFresh, gathered, stage}
+use Rattle.cache_lines.specs.Gathered.{HasNothingOutside, gathered, stage}
 use Rattle.cache_lines.specs.Tape.Taped.{IsAtRest, Taped, finishes, started}
 use Rattle.cache_lines.specs.Waiting.{under_way}
 use Rattle.cache_lines.specs.declared.base.Base.{Base}
@@ -39,7 +39,7 @@ pub record BaseStays {S T : Type 0} (old new : Base S T) : Type 0 where
 -- a turn may begin: at this moment, with no record under way
 pub record CanTurn (now : ℕ) (x : Seen) : Type 0 where
   pub in_time : IsMoment x.stage.values now
-  pub clear : IsFresh (gathered x.stage)
+  pub clear : HasNothingOutside (gathered x.stage)
   pub rests : IsAtRest x.stage.tape
 
 -- memory was lacking, again only if a line is held back

@@ -1,9 +1,11 @@
 pub mod Connection
 pub mod Connections
 pub mod Fed
+pub mod Owing
 pub mod Places
 pub mod Rooms
 pub mod Settled
 pub mod Settling
 pub mod State
+pub mod Taking
 pub mod Turned

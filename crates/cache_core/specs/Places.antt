@@ -6,15 +6,14 @@ use Rattle.audit_model.specs.Belongs.{Known, refusal_of_conn}
 use Rattle.audit_model.specs.Follows.{known_in}
 use Rattle.audit_model.specs.declared.input.ServiceError.{ServiceError}
 use Rattle.cache_commands.specs.Loads.Standings.{waits_for_load}
-use Rattle.cache_core.specs.declared.connection.connection.Connection.{Connection}
-use Rattle.cache_core.specs.Connections.Presence.{Gone, Here, Out, Presence, closing_of, open_from, reply_text_of}
+use Rattle.cache_core.specs.Connections.Presence.{Gone, Here, Out, Presence, closing_of_presence, open_from, reply_text_of}
 
 -- what is known of connections
 abbrev pub known_of_all : List Presence → Known
 known_of_all connections =
     known_in (record {
       latest = 0;
-      opened = length (map closing_of connections);
+      opened = length (map closing_of_presence connections);
       sent = 0;
       connections = open_from 1 connections;
       pending = [];
@@ -36,16 +35,8 @@ waits_in (Gone why) = false
 abbrev pub waits_at : List Presence → ℕ → Bool
 waits_at connections index = option_map_or waits_in (slice_get connections index) false
 
--- its replies were taken, and the rest is as it was
-pub record IsTakenFrom (old new : Connection) : Type 0 where
-  pub bytes : new.unread.bytes ≡ old.unread.bytes
-  pub standing : new.standing ≡ old.standing
-  pub waited : new.waited ≡ old.waited
-  pub closing : new.closing ≡ old.closing
-  pub none : new.output.text.items ≡ []
-
 -- The replies of the connection at a place were taken; which connections are open, and why others have closed, is as it was.
 pub record IsTakenAt (old new : List Presence) (index : ℕ) : Type 0 where
   pub listed : open_from 1 new ≡ open_from 1 old
-  pub closings : map closing_of new ≡ map closing_of old
+  pub closings : map closing_of_presence new ≡ map closing_of_presence old
   pub texts : map reply_text_of new ≡ slice_set (map reply_text_of old) index []

@@ -12,7 +12,7 @@ use Rattle.cache_commands.specs.Right.{KeepsFrame}
 use Rattle.cache_commands.specs.declared.loads.standing.Standing.{Standing}
 use Rattle.cache_lines.specs.Drawing.{identifiers_in}
 use Rattle.cache_lines.specs.Ended.{ends_silent}
-use Rattle.cache_lines.specs.Gathered.{adds, written}
+use Rattle.cache_lines.specs.Gathered.{adds, written_in}
 use Rattle.cache_lines.specs.Leads.Leads.{TasksLead}
 use Rattle.cache_lines.specs.Lines.{ends_quit}
 use Rattle.cache_lines.specs.Making.{Making, making_of}
@@ -25,7 +25,7 @@ use Rattle.cache_commands.specs.declared.loads.standing.Standing.TheVariants as 
 use Rattle.cache_core.specs.Connection.Fed.{EndsCalm, closing_by}
 use Rattle.cache_core.specs.State.{at_number}
 use Rattle.cache_core.specs.Turned.{own_steps, replies_to}
-use Rattle.cache_core.specs.Connections.Presence.{Gone, Here, Out, Presence, closing_of, open_from, reply_text_of}
+use Rattle.cache_core.specs.Connections.Presence.{Gone, Here, Out, Presence, closing_of_presence, open_from, reply_text_of}
 
 -- ---- the state of a connection
 
@@ -58,17 +58,17 @@ closing_of_steps config own = closing_by false (ends_quit config own) (ends_sile
 
 -- Its state changes from one to the other by these steps of its own: it closes for the reason that they give; and if it runs lines, the
 -- last of them was neither a `QUIT` nor a `LOAD` that waits.
-abbrev pub Moves : Config → List Step → Course → Course → Type 0
-Moves config own Absent new = new ≡ Absent
-Moves config own (Closed why) new = (new ≡ Closed why) × (own ≡ [])
-Moves config own Running Absent = ⊥
-Moves config own Running (Closed why) = why ≡ closing_of_steps config own
-Moves config own Running Running = EndsCalm config own
-Moves config own Running Resting = Unit {0}
-Moves config own Resting Absent = ⊥
-Moves config own Resting (Closed why) = (why ≡ closing_of_steps config own) × (is_empty own ≡ false)
-Moves config own Resting Running = EndsCalm config own × (is_empty own ≡ false)
-Moves config own Resting Resting = Unit {0}
+abbrev pub MovesCourse : Config → List Step → Course → Course → Type 0
+MovesCourse config own Absent new = new ≡ Absent
+MovesCourse config own (Closed why) new = (new ≡ Closed why) × (own ≡ [])
+MovesCourse config own Running Absent = ⊥
+MovesCourse config own Running (Closed why) = why ≡ closing_of_steps config own
+MovesCourse config own Running Running = EndsCalm config own
+MovesCourse config own Running Resting = Unit {0}
+MovesCourse config own Resting Absent = ⊥
+MovesCourse config own Resting (Closed why) = (why ≡ closing_of_steps config own) × (is_empty own ≡ false)
+MovesCourse config own Resting Running = EndsCalm config own × (is_empty own ≡ false)
+MovesCourse config own Resting Resting = Unit {0}
 
 -- ---- a piece of a record
 
@@ -77,7 +77,7 @@ abbrev pub middle_of : Values → ℕ → UnderWay → List Presence → List He
 middle_of v now l cs held =
     record {
       latest = now;
-      opened = length (map closing_of cs);
+      opened = length (map closing_of_presence cs);
       sent = l.sent;
       connections = open_from 1 cs;
       pending = l.pending;
@@ -99,11 +99,11 @@ pub record Piece {S T : Type 0} (view : S → Values) (tape : T → Option Taped
       (identifiers_in (view was.store)) (identifiers_in (view is.store))
   pub outputs : (n : ℕ) → at_number [] (map reply_text_of new) n ≡ at_number []
       (map reply_text_of old) n ++ (if is_some (tape was.tape) then [] else replies_to n steps)
-  pub kept : option_map written (tape is.tape)
-      ≡ option_map (adds steps) (option_map written (tape was.tape))
+  pub kept : option_map written_in (tape is.tape)
+      ≡ option_map (adds steps) (option_map written_in (tape was.tape))
   pub notes : (view is.store).untaken ≡ (view was.store).untaken
       ++ (if is_some (tape was.tape) then [] else flat_map (λ step. step.notices) steps)
-  pub moves : (n : ℕ) → Moves making.config (own_steps n steps) (course_at old n) (course_at new n)
+  pub moves : (n : ℕ) → MovesCourse making.config (own_steps n steps) (course_at old n) (course_at new n)
 
 -- if a record is made, so many steps can still be held back
 abbrev pub HasSpareFor : ℕ → Option Taped → Type 0

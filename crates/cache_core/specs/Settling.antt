@@ -34,8 +34,8 @@ use Rattle.cache_commands.specs.declared.loads.loads.Loads.{Loads}
 use Rattle.cache_commands.specs.declared.loads.standing.Standing.TheVariants as now_is
 use Rattle.cache_core.specs.Fed.{ReplacedAt, seen_at}
 use Rattle.cache_core.specs.Settled.{Parts, Piece}
-use Rattle.cache_core.specs.State.{State, StandsFor}
-use Rattle.cache_core.specs.Turned.{Stays, Turned}
+use Rattle.cache_core.specs.State.{NamespaceState, StateStandsFor}
+use Rattle.cache_core.specs.Turned.{IsSameNamespace, Turned}
 
 -- ---- the events
 
@@ -74,11 +74,11 @@ but_for number loads =
     }
 
 -- the event happened: each situation that the old state stood for is continued by a record of it
-pub record Happens {S T : Type 0} (view : S → Values) (tape : T → Option Taped) (was is : State S T)
+pub record Happens {S T : Type 0} (view : S → Values) (tape : T → Option Taped) (was is : NamespaceState S T)
     (happened : Event) : Type 0 where
-  pub turned : (s : Situation) → StandsFor view was s → (entry : Record) × (entry.event ≡ happened)
+  pub turned : (s : Situation) → StateStandsFor view was s → (entry : Record) × (entry.event ≡ happened)
       × Turned view tape was is s entry
-  pub stays : Stays view was is
+  pub stays : IsSameNamespace view was is
 
 -- ---- connections that wait
 

@@ -14,12 +14,12 @@ use Rattle.cache_lines.specs.declared.base.Base.{Base}
 use Rattle.cache_store.specs.Values.{Values}
 use Rattle.audit_model.specs.Situation as model
 use Rattle.cache_lines.specs.Leads.Waiters.{WaitForLoads}
-use Rattle.cache_core.specs.Connections.Presence.{Presence, closing_of, open_from, reply_text_of}
+use Rattle.cache_core.specs.Connections.Presence.{Presence, closing_of_presence, open_from, reply_text_of}
 
 -- A namespace: its store, and the tape of its records; the latest moment; the open connections; for each connection that was opened why it
 -- closed, if it did, and its replies that were not taken; how many loads were sent, and those under way; those that went out and were not
 -- taken; and its own number.
-pub record State (S T : Type 0) : Type 0 where
+pub record NamespaceState (S T : Type 0) : Type 0 where
   pub store : S
   pub tape : T
   pub latest : ℕ
@@ -38,23 +38,23 @@ at_number other xs (suc place) = unwrap_or (slice_get xs place) other
 
 module _ {S T : Type 0} where
   -- why the connection with this number has closed, if it has
-  abbrev pub closing_in : State S T → ℕ → Option Closing
+  abbrev pub closing_in : NamespaceState S T → ℕ → Option Closing
   closing_in n number = at_number None n.closings number
 
   -- its replies that were not taken
-  abbrev pub output_in : State S T → ℕ → List ℕ
+  abbrev pub output_in : NamespaceState S T → ℕ → List ℕ
   output_in n number = at_number [] n.outputs number
 
   -- the connection was opened
-  abbrev pub was_opened : State S T → ℕ → Bool
-  was_opened n number = nat_lt 0 number && nat_le number (length n.closings)
+  abbrev pub was_opened_in : NamespaceState S T → ℕ → Bool
+  was_opened_in n number = nat_lt 0 number && nat_le number (length n.closings)
 
   -- how many of its loads were taken
-  abbrev pub loads_taken_of : State S T → ℕ
+  abbrev pub loads_taken_of : NamespaceState S T → ℕ
   loads_taken_of n = n.sent - length n.outgoing
 
   -- the situation, if these values are held
-  abbrev pub situation_with : (S → Values) → State S T → List HeldValue → Situation
+  abbrev pub situation_with : (S → Values) → NamespaceState S T → List HeldValue → Situation
   situation_with view n held =
       record {
         latest = n.latest;
@@ -67,19 +67,19 @@ module _ {S T : Type 0} where
       }
 
   -- it stands for this situation
-  pub record StandsFor (view : S → Values) (n : State S T) (s : Situation) : Type 0 where
+  pub record StateStandsFor (view : S → Values) (n : NamespaceState S T) (s : Situation) : Type 0 where
     pub held : List HeldValue
     pub stands : (view n.store).Stands held
     pub is : s ≡ situation_with view n held
 
   -- what a refusal depends on
-  abbrev pub known_of : (S → Values) → State S T → Known
-  known_of view n = known_in (situation_with view n [])
+  abbrev pub known_of_state : (S → Values) → NamespaceState S T → Known
+  known_of_state view n = known_in (situation_with view n [])
 
   -- ---- its parts
 
   -- a namespace without connections
-  abbrev pub new_state : S → T → ℕ → ℕ → State S T
+  abbrev pub new_state : S → T → ℕ → ℕ → NamespaceState S T
   new_state store tape latest namespace =
       record {
         store = store;
@@ -95,13 +95,13 @@ module _ {S T : Type 0} where
       }
 
   -- a namespace of these parts
-  abbrev pub state_of : Base S T → ℕ → List Presence → State S T
+  abbrev pub state_of : Base S T → ℕ → List Presence → NamespaceState S T
   state_of base latest connections = record {
     store = base.store;
     tape = base.tape;
     latest = latest;
     connections = open_from 1 connections;
-    closings = map closing_of connections;
+    closings = map closing_of_presence connections;
     outputs = map reply_text_of connections;
     sent = sent_of base.loads;
     pending = loads_pending base.loads;
@@ -111,7 +111,7 @@ module _ {S T : Type 0} where
 
   -- No moment of the store is after the latest one, which is below 2^63; no record is under way; and if records are kept, only they contain
   -- replies and notes.
-  pub record IsInOrder (view : S → Values) (tape : T → Option Taped) (n : State S T) : Type 0 where
+  pub record IsBetweenEvents (view : S → Values) (tape : T → Option Taped) (n : NamespaceState S T) : Type 0 where
     pub in_time : (view n.store).frame.latest ≤ n.latest
     pub moment : n.latest < 2 ^ 63
     pub rests : IsAtRest (tape n.tape)
@@ -123,8 +123,8 @@ module _ {S T : Type 0} where
 
 -- how its parts agree: a connection that was opened has replies, and is listed exactly while it has not closed; loads under way were sent,
 -- and no more went out than were sent
-pub record SuitsItself {S T : Type 0} (view : S → Values) (n : State S T) : Type 0 where
-  pub listed : (number : ℕ) → was_opened n number ≡ true → is_some
+pub record SuitsItself {S T : Type 0} (view : S → Values) (n : NamespaceState S T) : Type 0 where
+  pub listed : (number : ℕ) → was_opened_in n number ≡ true → is_some
       (model.connection_in number (situation_with view n [])) ≡ is_none (closing_in n number)
   pub counted : length n.outputs ≡ length n.closings
   pub sent : IsTrue (were_sent n.sent n.pending)

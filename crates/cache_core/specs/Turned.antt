@@ -31,7 +31,7 @@ use Rattle.audit_model.specs.declared.event.Event.TheVariants as event
 use Rattle.audit_model.specs.declared.input.ServiceError.TheVariants as error
 use Rattle.cache_store.specs.Running.{is_bounded}
 use Rattle.cache_core.specs.Connection.Fed.{closing_by}
-use Rattle.cache_core.specs.State.{State, StandsFor, closing_in, known_of, loads_taken_of, output_in}
+use Rattle.cache_core.specs.State.{NamespaceState, StateStandsFor, closing_in, known_of_state, loads_taken_of, output_in}
 
 -- ---- what a record says of one connection
 
@@ -80,10 +80,10 @@ with_record entry t = record t { journal = with_entry entry t.journal }
 -- otherwise the replies of its steps are appended to the output of each connection, and its notes to the notes. Each connection is closed
 -- for the reason that the record gives. Values were accepted in the part of their key; a `SYNC` left timely ones; parts hold at most what
 -- they may; identifiers were drawn, and keys used, as the steps say.
-pub record Turned {S T : Type 0} (view : S → Values) (tape : T → Option Taped) (was is : State S T)
+pub record Turned {S T : Type 0} (view : S → Values) (tape : T → Option Taped) (was is : NamespaceState S T)
     (s : Situation) (entry : Record) : Type 0 where
   pub next : Situation
-  pub stands : StandsFor view is next
+  pub stands : StateStandsFor view is next
   pub follows : Follows (view was.store).frame.config s entry next
   pub kept : tape is.tape ≡ option_map (with_record entry) (tape was.tape)
   pub outputs : (number : ℕ) → output_in is number ≡ output_in was number
@@ -108,7 +108,7 @@ is_sent pending sent =
     option_map_or (λ load. same load.key sent.1) (load_numbered sent.0.number pending) false
 
 -- Loads went out behind those that were not taken. They have the next numbers, and are under way, each with its key.
-pub record SendsBehind {S T : Type 0} (was is : State S T) : Type 0 where
+pub record SendsBehind {S T : Type 0} (was is : NamespaceState S T) : Type 0 where
   pub loads : List (LoadId × List ℕ)
   pub behind : is.outgoing ≡ was.outgoing ++ loads
   pub in_turn : IsTrue (are_in_turn was.namespace was.sent loads)
@@ -116,7 +116,7 @@ pub record SendsBehind {S T : Type 0} (was is : State S T) : Type 0 where
   pub keys : IsTrue (list_all (is_sent is.pending) loads)
 
 -- what no event changes: what the store was made with, which loads were taken, and that those that were not come first, in their order
-pub record Stays {S T : Type 0} (view : S → Values) (was is : State S T) : Type 0 where
+pub record IsSameNamespace {S T : Type 0} (view : S → Values) (was is : NamespaceState S T) : Type 0 where
   pub config : (view is.store).frame.config ≡ (view was.store).frame.config
   pub part_of : (view is.store).frame.part_of ≡ (view was.store).frame.part_of
   pub made : (view is.store).frame.made ≡ (view was.store).frame.made
@@ -130,18 +130,18 @@ pub record IsRecordOf (happened : Event) (is_held : Bool) (entry : Record) : Typ
   pub ends : ends_held entry.steps ≡ is_held
 
 -- the event happened: each situation that the old state stood for is continued by a record of it
-pub record Turns {S T : Type 0} (view : S → Values) (tape : T → Option Taped) (was is : State S T)
+pub record ContinuesBy {S T : Type 0} (view : S → Values) (tape : T → Option Taped) (was is : NamespaceState S T)
     (happened : Event) (is_held : Bool) : Type 0 where
-  pub turned : (s : Situation) → StandsFor view was s → (entry : Record)
+  pub turned : (s : Situation) → StateStandsFor view was s → (entry : Record)
       × IsRecordOf happened is_held entry × Turned view tape was is s entry
-  pub stays : Stays view was is
+  pub stays : IsSameNamespace view was is
 
 -- The event is refused for what is known, and otherwise only for lack of memory: with `HeldAgain` only if a command of its connection is
 -- held back.
-abbrev pub RefusesBy : {S T : Type 0} → (S → Values) → State S T → Event → (held : Bool)
+abbrev pub RefusesBy : {S T : Type 0} → (S → Values) → NamespaceState S T → Event → (held : Bool)
     → ServiceError → Type 0
 RefusesBy view n happened held e =
-    MatchOption (refusal_of (view n.store).frame.config (known_of view n) happened)
+    MatchOption (refusal_of (view n.store).frame.config (known_of_state view n) happened)
     ((e ≡ error.OutOfMemory) ⊎ ((e ≡ error.HeldAgain) × (held ≡ true))) (λ refused. e ≡ refused)
 
 -- a piece of bytes comes

@@ -7,6 +7,7 @@ pub mod connections;
 mod giving_up;
 pub mod interior;
 mod namespace;
+mod owing;
 mod places;
 mod recording;
 mod refusing;
@@ -14,3 +15,4 @@ mod reserving;
 mod settling;
 
 pub use namespace::Namespace;
+pub use owing::Owed;

@@ -1,21 +1,24 @@
 //! One namespace: its connections over its store.
-ghost use Rattle.std.specs.Prelude.{◌≡◌, ◌+◌, ◌-◌, ◌<◌, ◌^◌, ◌↔◌, [], None, Some, false, length, slice_set, IsErr, IsTrue, IfOk, IfErr, OnOk, OnErr};
+ghost use Rattle.std.specs.Prelude.{◌≡◌, ◌+◌, ◌-◌, ◌<◌, ◌^◌, ◌↔◌, [], None, Some, false, is_some, length, slice_set, IsErr, IsTrue, IfOk, IfErr, OnOk, OnErr};
 ghost use Rattle.audit_model.specs.Belongs.{refusal_of};
 ghost use Rattle.audit_model.specs.Situation.{Situation, is_holding_in};
 ghost use Rattle.audit_model.specs.declared.event.Event.TheVariants as event;
+ghost use Rattle.std.specs.Option.{option_map};
+ghost use Rattle.cache_core.specs.Owing.{GivesOwed, GivesOwn, GivesWanted};
 ghost use Rattle.cache_core.specs.Settling.{Happens, answering, giving_up};
-ghost use Rattle.cache_core.specs.State.{IsInOrder, StandsFor, SuitsItself, closing_in, known_of, loads_taken_of, new_state, output_in, situation_with, was_opened};
-ghost use Rattle.cache_core.specs.Turned.{RefusesBy, Turns, feeding, is_waiting_in};
+ghost use Rattle.cache_core.specs.State.{IsBetweenEvents, StateStandsFor, SuitsItself, closing_in, known_of_state, loads_taken_of, new_state, output_in, situation_with, was_opened_in};
+ghost use Rattle.cache_core.specs.Turned.{RefusesBy, ContinuesBy, feeding, is_waiting_in};
 ghost use Rattle.cache_commands.specs.Loads.Keys.{are_in_turn, have_their_keys};
 ghost use Rattle.cache_store.specs.Handing.{TakesFirstNote};
 ghost use Rattle.cache_store.specs.Values.{GivesNote};
 ghost use Rattle.cache_lines.specs.Tape.Taped.{IsAtRest};
 
 use crate::answering::Stored;
-use crate::connection::new_connection;
+use crate::connection::{Taken, new_connection};
 use crate::connections::Connections;
 use crate::giving_up::begin_give_up;
 use crate::interior::Interior;
+use crate::owing::Owed;
 use crate::places::{close_at, find_open, find_opened, leave_closed, take_at, waits_at_place};
 use crate::refusing::MAX_MOMENT;
 use audit_model::{Bytes, Closing, Event, Instant, LoadId, Note, Outcome, Seq, ServiceError};
@@ -35,13 +38,13 @@ pub struct Namespace<S: Store, T: Tape> {
 
 impl<S: Store, T: Tape> Model for Namespace<S, T> {
     ghost use Rattle.cache_core.specs.Settling.{Happens, answering, giving_up};
-    ghost use Rattle.cache_core.specs.State.{IsInOrder, State, state_of};
+    ghost use Rattle.cache_core.specs.State.{IsBetweenEvents, NamespaceState, state_of};
 
-    ghost Value = { State S T };
+    ghost Value = { NamespaceState S T };
 
     ghost view = { λ n. state_of n.interior.base n.latest n.interior.connections };
 
-    ghost invariant = { λ n. IsInOrder S.view T.view
+    ghost invariant = { λ n. IsBetweenEvents S.view T.view
         (state_of n.interior.base n.latest n.interior.connections) };
 }
 
@@ -79,7 +82,7 @@ impl<S: Store, T: Tape> Namespace<S, T> {
     /// Opens a connection, and returns its number. Returns an error if there is not enough memory; then nothing has changed.
     pub fn open(&mut self) -> Result<u64, AllocError>
         ensures turned { IfOk result (λ number. (number ≡ length self.old.closings + 1)
-            × Turns S.view T.view self.old self.new (event.Open number) false) }
+            × ContinuesBy S.view T.view self.old self.new (event.Open number) false) }
         ensures unchanged { OnErr result (self.new ≡ self.old) }
     {
         self.interior.base.store.sound();
@@ -99,8 +102,8 @@ impl<S: Store, T: Tape> Namespace<S, T> {
     /// `Moment` (above 2^63 - 1 nanoseconds), in this order, and otherwise `OutOfMemory`, or `HeldAgain` if there is still not enough
     /// memory for the command that is held back; then nothing has changed.
     pub fn feed(&mut self, number: u64, piece: &[u8], moment: Instant) -> Result<bool, ServiceError>
-        ensures turned { IfOk result (λ is_held.
-            Turns S.view T.view self.old self.new (feeding number piece.now moment.nanos) is_held) }
+        ensures turned { IfOk result (λ is_held. ContinuesBy S.view T.view self.old self.new
+            (feeding number piece.now moment.nanos) is_held) }
         ensures refused { IfErr result
             (RefusesBy S.view self.old (feeding number piece.now moment.nanos)
             (is_holding_in (situation_with S.view self.old []) number)) }
@@ -129,11 +132,11 @@ impl<S: Store, T: Tape> Namespace<S, T> {
     /// `OutOfMemory` if there is no memory for the record; then nothing has changed. The call allocates nothing else.
     pub fn close(&mut self, number: u64) -> Result<(), ServiceError>
         ensures turned { OnOk result
-            (Turns S.view T.view self.old self.new (event.Close number) false) }
+            (ContinuesBy S.view T.view self.old self.new (event.Close number) false) }
         ensures refused { IfErr result (RefusesBy S.view self.old (event.Close number) false) }
         ensures spare { T.view self.old.tape ≡ None
             → IfErr result (λ e. refusal_of (S.view self.old.store).frame.config
-            (known_of S.view self.old) (event.Close number) ≡ Some e) }
+            (known_of_state S.view self.old) (event.Close number) ≡ Some e) }
         ensures unchanged { OnErr result (self.new ≡ self.old) }
     {
         self.interior.base.store.sound();
@@ -200,7 +203,7 @@ impl<S: Store, T: Tape> Namespace<S, T> {
             (RefusesBy S.view self.old (giving_up load moment.nanos) false) }
         ensures spare { T.view self.old.tape ≡ None
             → IfErr result (λ e. refusal_of (S.view self.old.store).frame.config
-            (known_of S.view self.old) (giving_up load moment.nanos) ≡ Some e) }
+            (known_of_state S.view self.old) (giving_up load moment.nanos) ≡ Some e) }
         ensures unchanged { OnErr result (self.new ≡ self.old) }
     {
         self.interior.base.store.sound();
@@ -220,17 +223,60 @@ impl<S: Store, T: Tape> Namespace<S, T> {
         Ok(())
     }
 
-    /// Returns the reply bytes of a connection since they were last taken, moved out. The call allocates nothing. Returns `NoConnection` if
-    /// the connection was never opened; then nothing has changed.
-    pub fn take_output(&mut self, number: u64) -> Result<Vec<u8>, ServiceError>
-        ensures taken { IfOk result (λ text. (text.items ≡ output_in self.old number) × (self.new
-            ≡ record self.old { outputs = slice_set self.old.outputs (number - 1) [] })) }
-        ensures refused { IsErr result ↔ (was_opened self.old number ≡ false) }
+    /// Returns what a connection is owed, moved out: its replies since they were last taken; the loads that went out and were not taken, if
+    /// they are requested; why it is closed; and whether a `LOAD` of it waits. The call allocates nothing. Returns `NoConnection` if the
+    /// connection was never opened; then nothing has changed.
+    pub fn owed(&mut self, number: u64, wants_loads: bool) -> Result<Owed, ServiceError>
+        ensures given { IfOk result (GivesOwed S.view self.old self.new number wants_loads) }
+        ensures refused { IsErr result ↔ (was_opened_in self.old number ≡ false) }
+        ensures unchanged { IfErr result
+            (λ e. (e ≡ ServiceError.NoConnection) × (self.new ≡ self.old)) }
+    {
+        let taken = self.take_own(number)?;
+        Ok(Owed {
+            replies: Some(taken.replies),
+            loads: self.take_wanted(wants_loads),
+            closing: taken.closing,
+            waits: taken.waits,
+        })
+    }
+
+    /// MovesCourse out what a connection is owed itself. Returns `NoConnection` if the connection was never opened; then nothing has changed.
+    fn take_own(&mut self, number: u64) -> Result<Taken, ServiceError>
+        ensures given { IfOk result (GivesOwn S.view self.old self.new number) }
+        ensures refused { IsErr result ↔ (was_opened_in self.old number ≡ false) }
         ensures unchanged { IfErr result
             (λ e. (e ≡ ServiceError.NoConnection) × (self.new ≡ self.old)) }
     {
         let index = find_opened(&self.interior.connections, number)?;
         Ok(take_at(self.alloc, &mut self.interior.connections, index))
+    }
+
+    /// Takes the loads that went out, if they are requested.
+    fn take_wanted(&mut self, wants_loads: bool) -> Option<Vec<(LoadId, Bytes)>>
+        ensures wanted { is_some result ≡ wants_loads }
+        ensures given { GivesWanted self.old self.new (option_map (λ loads. loads.items) result) }
+    {
+        if wants_loads {
+            Some(self.take_loads())
+        } else {
+            None
+        }
+    }
+
+    /// Returns the reply bytes of a connection since they were last taken, moved out. The call allocates nothing. Returns `NoConnection` if
+    /// the connection was never opened; then nothing has changed.
+    pub fn take_output(&mut self, number: u64) -> Result<Vec<u8>, ServiceError>
+        ensures taken { IfOk result (λ text. (text.items ≡ output_in self.old number) × (self.new
+            ≡ record self.old { outputs = slice_set self.old.outputs (number - 1) [] })) }
+        ensures refused { IsErr result ↔ (was_opened_in self.old number ≡ false) }
+        ensures unchanged { IfErr result
+            (λ e. (e ≡ ServiceError.NoConnection) × (self.new ≡ self.old)) }
+    {
+        match self.take_own(number) {
+            Ok(taken) => Ok(taken.replies),
+            Err(error) => Err(error),
+        }
     }
 
     /// Returns the loads that went out and were not taken, moved out, in the order in which they were sent. The call allocates nothing.
@@ -257,7 +303,7 @@ impl<S: Store, T: Tape> Namespace<S, T> {
     /// Returns why a connection is closed, or `None` while it is open. Returns `NoConnection` if the connection was never opened.
     pub fn closed(&self, number: u64) -> Result<Option<Closing>, ServiceError>
         ensures closing { IfOk result (λ closing. closing ≡ closing_in self.now number) }
-        ensures refused { IsErr result ↔ (was_opened self.now number ≡ false) }
+        ensures refused { IsErr result ↔ (was_opened_in self.now number ≡ false) }
         ensures error { IfErr result (λ e. e ≡ ServiceError.NoConnection) }
     {
         let index = find_opened(&self.interior.connections, number)?;
@@ -268,7 +314,7 @@ impl<S: Store, T: Tape> Namespace<S, T> {
     pub fn waiting(&self, number: u64) -> Result<bool, ServiceError>
         ensures waits { IfOk result
             (λ waits. waits ≡ is_waiting_in (situation_with S.view self.now []) number) }
-        ensures refused { IsErr result ↔ (was_opened self.now number ≡ false) }
+        ensures refused { IsErr result ↔ (was_opened_in self.now number ≡ false) }
         ensures error { IfErr result (λ e. e ≡ ServiceError.NoConnection) }
     {
         let index = find_opened(&self.interior.connections, number)?;
@@ -286,7 +332,10 @@ impl<S: Store, T: Tape> Namespace<S, T> {
     pub fn into_tape(self) -> T
         ensures { result ≡ self.tape }
     {
-        self.interior.base.tape
+        let Namespace { interior, .. } = self;
+        let Interior { base, .. } = interior;
+        let Base { tape, .. } = base;
+        tape
     }
 
     /// Returns the tape of the namespace's records.
@@ -306,8 +355,8 @@ impl<S: Store, T: Tape> Namespace<S, T> {
     /// Does nothing. Its contract says what is true of every namespace: there is a situation (of the definitions) that it agrees with, its
     /// connections and loads are in order, and its store, connections and loads agree with each other.
     pub fn sound(&self)
-        ensures stands { (s : Situation) × StandsFor S.view self.now s }
-        ensures order { IsInOrder S.view T.view self.now }
+        ensures stands { (s : Situation) × StateStandsFor S.view self.now s }
+        ensures order { IsBetweenEvents S.view T.view self.now }
         ensures suits { SuitsItself S.view self.now }
     {
         self.interior.base.store.sound();

@@ -1,19 +1,17 @@
 //! The connections of a namespace, each at the place below its number.
-ghost use Rattle.std.specs.Prelude.{◌≡◌, ◌+◌, ◌<◌, ◌&&◌, ◌↔◌, [], None, Some, false, IfOk, IfErr, IsErr, is_none, length, nat_le, nat_lt};
-ghost use Rattle.cache_core.specs.Connections.Presence.{closing_at, text_at};
+ghost use Rattle.std.specs.Prelude.{◌≡◌, ◌+◌, ◌<◌, ◌&&◌, ◌↔◌, None, Some, false, IfOk, IfErr, IsErr, is_none, length, nat_le, nat_lt};
+ghost use Rattle.cache_core.specs.Connections.Presence.{closing_at};
 ghost use Rattle.cache_core.specs.Fed.{ReplacedAt};
-ghost use Rattle.cache_core.specs.Places.{IsTakenAt, IsTakenFrom, refusal_at, waits_at};
-ghost use Rattle.cache_lines.specs.Outputs.{IsRoomy};
+ghost use Rattle.cache_core.specs.Places.{IsTakenAt, refusal_at, waits_at};
+ghost use Rattle.cache_core.specs.Taking.{IsOwedAt};
 ghost use Rattle.cache_lines.specs.Waiting.{under_way, when_left};
 ghost use Rattle.cache_commands.specs.Loads.Pending.{SameTaken};
 
-use crate::connection::Connection;
+use crate::connection::Taken;
 use crate::connections::Connections;
 use audit_model::{Closing, ServiceError};
 use cache_commands::{Loads, is_waiting};
-use cache_lines::ReplyBuffer;
 use std::alloc::Global;
-use std::mem;
 
 /// Returns the number of the connection at an index.
 pub fn number_at(connections: &Connections, index: usize) -> u64
@@ -88,43 +86,16 @@ pub fn waits_at_place(connections: &Connections, index: usize) -> bool
     }
 }
 
-/// Moves an output out, and leaves room for the reply to the `LOAD` that waits.
-fn take_keeping_room(alloc: Global, output: &mut ReplyBuffer) -> Vec<u8>
-    requires { IsRoomy output.old }
-    ensures room { IsRoomy output.new }
-    ensures none { output.new.text.items ≡ [] }
-    ensures taken { result.items ≡ output.old.text.items }
-{
-    if output.text.is_empty() {
-        return Vec::new(alloc);
-    }
-    let fresh = mem::replace(&mut output.spare, Vec::new(alloc));
-    mem::replace(&mut output.text, fresh)
-}
-
-/// Moves out the replies of a connection.
-fn take_text(alloc: Global, connection: &mut Connection) -> Vec<u8>
-    ensures rest { IsTakenFrom connection.old connection.new }
-    ensures taken { result.items ≡ connection.old.output.text.items }
-{
-    if is_waiting(connection.standing) {
-        return take_keeping_room(alloc, &mut connection.output);
-    }
-    mem::replace(&mut connection.output.text, Vec::new(alloc))
-}
-
-/// Returns the replies of the connection at an index, moved out. Of a connection that has closed little is kept.
-pub fn take_at(alloc: Global, connections: &mut Connections, index: usize) -> Vec<u8>
+/// MovesCourse out what the connection at an index is owed. Of one that has closed little is kept.
+pub fn take_at(alloc: Global, connections: &mut Connections, index: usize) -> Taken
     requires { index < length connections.old }
     ensures rest { IsTakenAt connections.old connections.new index }
-    ensures taken { result.items ≡ text_at connections.old index }
+    ensures owed { IsOwedAt connections.old index result }
 {
-    if connections.get(index).is_none() {
-        return Vec::new(alloc);
+    let taken = connections.take_owed(alloc, index);
+    match taken.closing {
+        Some(_) => connections.retire(index),
+        None => {}
     }
-    let mut connection = connections.take(index);
-    let text = take_text(alloc, &mut connection);
-    connections.put(index, connection);
-    connections.retire(index);
-    text
+    taken
 }

@@ -2,7 +2,7 @@
 ghost use Rattle.std.specs.Prelude.{◌≡◌, ◌<◌, ◌≤◌, None, Some, true, is_some, length, IfOk, IfErr, OnOk, OnErr};
 ghost use Rattle.std.specs.List.{slice_get};
 ghost use Rattle.std.specs.Option.{option_map};
-ghost use Rattle.cache_core.specs.Connection.Fed.{LooksAsBefore, seen_of};
+ghost use Rattle.cache_core.specs.Connection.Fed.{LooksAsBefore, seen_by};
 ghost use Rattle.cache_core.specs.Fed.{BaseStays, CanTurn, FedTurn, FeedsAt, ReplacedAt, WantsMemory, seen_at};
 ghost use Rattle.cache_core.specs.Connections.Presence.{Here, closing_at};
 ghost use Rattle.cache_core.specs.declared.connection.connection.Connection.{Connection as Open};
@@ -68,11 +68,11 @@ pub fn feed_recorded<S: Store, T: Tape>(
     piece: &[u8],
     moment: Instant,
 ) -> Result<bool, ServiceError>
-    requires can_turn { CanTurn now (seen_of S.view T.view base.old connection.old) }
+    requires can_turn { CanTurn now (seen_by S.view T.view base.old connection.old) }
     requires open { connection.old.closing ≡ None }
     ensures turned { IfOk result (λ is_held. FedTurn now number moment.nanos connection.old
-        piece.now connection.new is_held (seen_of S.view T.view base.old connection.old)
-        (seen_of S.view T.view base.new connection.new)) }
+        piece.now connection.new is_held (seen_by S.view T.view base.old connection.old)
+        (seen_by S.view T.view base.new connection.new)) }
     ensures refused { IfErr result (WantsMemory (holds_line connection.old.standing)) }
     ensures unchanged { OnErr result
         (BaseStays base.old base.new × LooksAsBefore connection.old connection.new) }

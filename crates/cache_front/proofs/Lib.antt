@@ -1,3 +1,4 @@
+pub mod Blocks
 pub mod parts
 pub mod kept
 pub mod whole

@@ -1,4 +1,5 @@
 pub mod Parts
+pub mod Blocks
 pub mod Recent
 pub mod Keeping
 pub mod Registering

@@ -28,15 +28,15 @@ use Rattle.cache_lines.proofs.Drawn.{step-drawn, step-kept}
 use Rattle.cache_lines.proofs.Gathering.{silent-gathered}
 use Rattle.cache_lines.proofs.Knowing.{keys-known}
 use Rattle.cache_lines.specs.Drawing.{identifiers_in}
-use Rattle.cache_lines.specs.Gathered.{IsFresh, gather, gathered, stage}
-use Rattle.cache_lines.specs.Lines.{IsPlain, says_quit}
+use Rattle.cache_lines.specs.Gathered.{HasNothingOutside, gather, gathered, stage}
+use Rattle.cache_lines.specs.Lines.{TouchesOnlyValues, says_quit}
 use Rattle.cache_lines.specs.Ran.{RanLine, WaitsLine}
 use Rattle.cache_lines.specs.Tape.Taped.{Taped, drafts, ends, text_left}
 use Rattle.cache_lines.specs.Waiting.{UnderWay, load_sent_for, when_waiting}
 use Rattle.audit_model.specs.declared.command.Command.TheVariants as says
 
 -- a step with a reply does nothing but to values, and closes its connection where it is a `QUIT`
-pub plain-reading : (config : Config) (s : Situation) (r : Reading) (conn : ℕ) (line reply : List ℕ) (accepted : Option Accepted) (told : List Note) → IsPlain (effect_in config (view_in config s) (action_by r) (step_saying conn line reply accepted told)) (says_quit r)
+pub plain-reading : (config : Config) (s : Situation) (r : Reading) (conn : ℕ) (line reply : List ℕ) (accepted : Option Accepted) (told : List Note) → TouchesOnlyValues (effect_in config (view_in config s) (action_by r) (step_saying conn line reply accepted told)) (says_quit r)
 plain-reading config s (Ok (says.Set key ms value)) conn line reply accepted told = record { stays = refl; quits = refl; loads = λ conn s. refl }
 plain-reading config s (Ok (says.Get key)) conn line reply accepted told = record { stays = refl; quits = refl; loads = λ conn s. refl }
 plain-reading config s (Ok (says.Has key)) conn line reply accepted told = record { stays = refl; quits = refl; loads = λ conn s. refl }
@@ -92,7 +92,7 @@ waiting_left tape waiting = if is_some tape then [] else waiting
 
 -- a reply and notes were gathered
 pub gathered-one : (was is : Values) (number : ℕ) (line old_text reply text : List ℕ) (accepted : Option Accepted) (told waiting : List Note) (tape : Option Taped)
-    → IsFresh (gathered (stage was old_text tape)) → text ≡ old_text ++ reply → waiting ≡ was.untaken ++ told → is.untaken ≡ waiting_left tape waiting
+    → HasNothingOutside (gathered (stage was old_text tape)) → text ≡ old_text ++ reply → waiting ≡ was.untaken ++ told → is.untaken ≡ waiting_left tape waiting
     → gathered (stage is (text_left tape text) (option_map (ends (λ l. step_saying number l text accepted waiting)) (option_map (drafts line) tape)))
     ≡ gather (gathered (stage was old_text tape)) (step_saying number line reply accepted told ∷ [])
 gathered-one was is number line old_text reply text accepted told waiting None fresh wrote noted left =
@@ -109,14 +109,14 @@ gathered-one was is number line old_text reply text accepted told waiting (Some 
 
 -- nothing waits beside a record
 pub fresh-ended : (is : Values) (new_text text : List ℕ) (waiting : List Note) (tape : Option Taped) (step : List ℕ → Step) (line : List ℕ) → is.untaken ≡ waiting_left tape waiting → new_text ≡ text_left tape text
-    → IsFresh (gathered (stage is new_text (option_map (ends step) (option_map (drafts line) tape))))
+    → HasNothingOutside (gathered (stage is new_text (option_map (ends step) (option_map (drafts line) tape))))
 fresh-ended is new_text text waiting None step line left texted = tt
 fresh-ended is new_text text waiting (Some t) step line left texted = (texted, left)
 
 -- the line was answered, and its notes were taken
 pub ran-answered : (now number : ℕ) (line : List ℕ) (quit : Bool) (was mid is : Values) (old_text mid_text new_text : List ℕ) (accepted : Option Accepted) (tape new_tape : Option Taped)
     → says_quit (reading was.frame.config line) ≡ quit → IsAnswered now (reading was.frame.config line) accepted was mid old_text mid_text → GivesNote mid is → IsSoundStore is
-    → IsFresh (gathered (stage was old_text tape)) → is.untaken ≡ waiting_left tape mid.untaken
+    → HasNothingOutside (gathered (stage was old_text tape)) → is.untaken ≡ waiting_left tape mid.untaken
     → new_tape ≡ option_map (ends (λ l. step_saying number l mid_text accepted mid.untaken)) (option_map (drafts line) tape) → new_text ≡ text_left tape mid_text
     → RanLine now number line quit (stage was old_text tape) (stage is new_text new_tape)
 ran-answered now number line quit was mid is old_text mid_text new_text accepted tape new_tape says a gives sound fresh left stepped texted =
@@ -124,7 +124,7 @@ ran-answered now number line quit was mid is old_text mid_text new_text accepted
     let r = reading config line in
     record {
       frame = subst (λ (f : Frame). KeepsFrame was.frame f now) (sym gives.frame) a.frame;
-      fresh = subst (λ (t : Option Taped). IsFresh (gathered (stage is new_text t))) (sym stepped) (fresh-ended is new_text mid_text mid.untaken tape (λ l. step_saying number l mid_text accepted mid.untaken) line left texted);
+      fresh = subst (λ (t : Option Taped). HasNothingOutside (gathered (stage is new_text t))) (sym stepped) (fresh-ended is new_text mid_text mid.untaken tape (λ l. step_saying number l mid_text accepted mid.untaken) line left texted);
       ran = λ s agrees.
           let b = a.right s agrees in
           record {
@@ -132,7 +132,7 @@ ran-answered now number line quit was mid is old_text mid_text new_text accepted
             accepted = accepted;
             told = b.told;
             right = b.right;
-            plain = subst (λ q. IsPlain (effect_in config (view_in config s) (action_by r) (step_saying number line b.reply accepted b.told)) q) says (plain-reading config s r number line b.reply accepted b.told);
+            plain = subst (λ q. TouchesOnlyValues (effect_in config (view_in config s) (action_by r) (step_saying number line b.reply accepted b.told)) q) says (plain-reading config s r number line b.reply accepted b.told);
             says = says;
             parted = parted-reading config was.frame.part_of s r accepted a.part;
             left = gives.stands _ b.left;
@@ -161,7 +161,7 @@ kept-where line (Some t) = refl
 pub ran-drafted : (now number : ℕ) (line : List ℕ) (quit : Bool) (was mid is : Values) (old_text mid_text new_text : List ℕ) (accepted : Option Accepted) (tape mid_tape new_tape : Option Taped)
     → mid_tape ≡ option_map (drafts line) tape
     → says_quit (reading was.frame.config line) ≡ quit → IsAnswered now (reading was.frame.config line) accepted was mid old_text mid_text → GivesNote mid is → IsSoundStore is
-    → IsFresh (gathered (stage was old_text tape)) → is.untaken ≡ waiting_left mid_tape mid.untaken
+    → HasNothingOutside (gathered (stage was old_text tape)) → is.untaken ≡ waiting_left mid_tape mid.untaken
     → new_tape ≡ option_map (ends (λ l. step_saying number l mid_text accepted mid.untaken)) mid_tape → new_text ≡ text_left mid_tape mid_text
     → RanLine now number line quit (stage was old_text tape) (stage is new_text new_tape)
 ran-drafted now number line quit was mid is old_text mid_text new_text accepted tape mid_tape new_tape drafted says a gives sound fresh left stepped texted =

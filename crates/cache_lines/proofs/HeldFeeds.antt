@@ -23,13 +23,13 @@ use Rattle.cache_commands.specs.Order.{AgreesWith, order_by}
 use Rattle.cache_commands.specs.Right.{held_when_run, placed_doing, step_saying}
 use Rattle.cache_lines.specs.Drawing.{identifiers_in}
 use Rattle.cache_lines.specs.Ended.{RanReady, RanTasks, ends_held, ends_silent, held_with}
-use Rattle.cache_lines.specs.Gathered.{Stage, gather, gathered, stage}
+use Rattle.cache_lines.specs.Gathered.{LineStage, gather, gathered, stage}
 use Rattle.cache_lines.specs.Lines.{IsThere, are_timely, ends_quit, has_its_part, is_timely_after, ready, says_quit, set_in, situation_behind, with_drops}
 use Rattle.cache_lines.specs.Making.{Making}
 use Rattle.cache_lines.specs.Ordered.{HasKeys, HaveKeys}
 use Rattle.cache_lines.specs.Ran.{RanOne}
 use Rattle.cache_lines.specs.Tape.Taped.{Taped}
-use Rattle.cache_lines.specs.Waiting.{waiting, with_under_way}
+use Rattle.cache_lines.specs.Waiting.{waiting_with, with_under_way}
 use Rattle.cache_lines.specs.Whole.{held_line}
 use Rattle.cache_store.specs.Promises.{no_deed}
 use Rattle.audit_model.specs.declared.command.Command.TheVariants as says
@@ -60,7 +60,7 @@ module _ (making : Making) (number : ℕ) (base : Situation) (held : List HeldVa
   released reply accepted told = step_saying number (held_line bytes) reply accepted told
 
   -- it is right
-  right-released : (quit : Bool) (old new : Stage) → IsThere number base → (one : RanOne making number fed (held_line bytes) quit old new)
+  right-released : (quit : Bool) (old new : LineStage) → IsThere number base → (one : RanOne making number fed (held_line bytes) quit old new)
       → is_right making.config (placed_step_in making.config fed (Some (RunHeld number)) (released one.reply one.accepted one.told)) ≡ true
   right-released quit old new there one =
       subst (λ d. is_right making.config (placed_doing making.config fed (Some (RunHeld number)) d (action_by (reading making.config (held_line bytes))) (released one.reply one.accepted one.told)) ≡ true)
@@ -68,7 +68,7 @@ module _ (making : Making) (number : ℕ) (base : Situation) (held : List HeldVa
       (right-in-turn making.config fed (RunHeld number) number (held_line bytes) one.reply one.accepted one.told one.right (eq-eqb number number refl))
 
   -- what it leaves
-  after-released : (quit : Bool) (old new : Stage) → IsThere number base → (one : RanOne making number fed (held_line bytes) quit old new)
+  after-released : (quit : Bool) (old new : LineStage) → IsThere number base → (one : RanOne making number fed (held_line bytes) quit old new)
       → after_step making.config fed (Some (RunHeld number)) (released one.reply one.accepted one.told)
       (effect_in making.config (view_in making.config fed) (action_by (reading making.config (held_line bytes))) (released one.reply one.accepted one.told))
       ≡ situation_behind quit (with_drops new.values.frame.dropped base) (held_when_run making.config fed (action_by (reading making.config (held_line bytes))) (step_saying 0 [] one.reply one.accepted one.told)) (ready number (behind_lines 1 bytes ++ piece))
@@ -81,7 +81,7 @@ module _ (making : Making) (number : ℕ) (base : Situation) (held : List HeldVa
   starts x (y ∷ ys) b e h = h
 
   -- that command runs first, and lines behind it
-  pub feeds-held : (quit is_held is_silent : Bool) (target : List HeldValue → Situation) (old middle new : Stage) → IsThere number base
+  pub feeds-held : (quit is_held is_silent : Bool) (target : List HeldValue → Situation) (old middle new : LineStage) → IsThere number base
       → (one : RanOne making number fed (held_line bytes) false old middle)
       → RanReady making number (with_drops middle.values.frame.dropped base) (held_when_run making.config fed (action_by (reading making.config (held_line bytes))) (step_saying 0 [] one.reply one.accepted one.told)) (behind_lines 1 bytes ++ piece) quit is_held is_silent target middle new
       → RanTasks making fed (tasks_to_feed number true) quit is_held is_silent target old new
@@ -113,7 +113,7 @@ module _ (making : Making) (number : ℕ) (base : Situation) (held : List HeldVa
       }
 
   -- it is a `QUIT`, and nothing runs behind it
-  pub feeds-quit : (rest : List ℕ) (old new : Stage) → IsThere number base → RanOne making number fed (held_line bytes) true old new
+  pub feeds-quit : (rest : List ℕ) (old new : LineStage) → IsThere number base → RanOne making number fed (held_line bytes) true old new
       → RanTasks making fed (tasks_to_feed number true) true false false (λ left. situation_behind true (with_drops new.values.frame.dropped base) left (ready number rest)) old new
   feeds-quit rest old new there one =
       let config = making.config in
@@ -145,11 +145,11 @@ module _ (making : Making) (number : ℕ) (base : Situation) (held : List HeldVa
       }
 
   -- it is a `LOAD` that begins to wait
-  pub feeds-waits : (key : List ℕ) (load : Option ℕ) (old : Stage) (text : List ℕ) (tape : Option Taped) → IsThere number base → reading making.config (held_line bytes) ≡ Ok (says.Load key)
+  pub feeds-waits : (key : List ℕ) (load : Option ℕ) (old : LineStage) (text : List ℕ) (tape : Option Taped) → IsThere number base → reading making.config (held_line bytes) ≡ Ok (says.Load key)
       → load ≡ number_to_send key base.sent base.pending → live_at making.config base.latest held key ≡ None → old.values.Stands (all_held_after making.config base.latest held no_deed [])
       → gathered (stage old.values text tape) ≡ gather (gathered old) (step_waits number (held_line bytes) load ∷ [])
       → RanTasks making fed (tasks_to_feed number true) false false true
-      (λ left. set_in (with_under_way (record { sent = when_sent load base.sent; pending = when_joined number key load base.pending }) base) left (waiting number (held_line bytes) (behind_lines 1 bytes ++ piece) (1 + times))) old (stage old.values text tape)
+      (λ left. set_in (with_under_way (record { sent = when_sent load base.sent; pending = when_joined number key load base.pending }) base) left (waiting_with number (held_line bytes) (behind_lines 1 bytes ++ piece) (1 + times))) old (stage old.values text tape)
   feeds-waits key load old text tape there reads is none stands gathers =
       let config = making.config in
       let line = held_line bytes in
@@ -159,11 +159,11 @@ module _ (making : Making) (number : ℕ) (base : Situation) (held : List HeldVa
       let left = left_waiting config base held key in
       let joined = with_under_way (record { sent = when_sent load base.sent; pending = when_joined number key load base.pending }) base in
       let right = turn-right config base held number c (RunHeld number) line (Running (says.Load key)) step there refl refl (ap action_by reads) (eq-eqb number number refl) (waits-right config base held number c key load refl is none) in
-      let after : after_step config fed (Some (RunHeld number)) step (effect_in config (view_in config fed) (action_by (reading config line)) step) ≡ set_in joined left (waiting number line behind (1 + times)) =
+      let after : after_step config fed (Some (RunHeld number)) step (effect_in config (view_in config fed) (action_by (reading config line)) step) ≡ set_in joined left (waiting_with number line behind (1 + times)) =
       ap (λ r. after_step config fed (Some (RunHeld number)) step (effect_in config (view_in config fed) (action_by r) step)) reads
-      ∙ after-waits config base held left number c (waiting number line behind (1 + times)) (RunHeld number) key line load
+      ∙ after-waits config base held left number c (waiting_with number line behind (1 + times)) (RunHeld number) key line load
       (effect_in config (view_in config fed) (Running (says.Load key)) step) there refl is refl refl in
-      let last = set_in joined left (waiting number line behind (1 + times)) in
+      let last = set_in joined left (waiting_with number line behind (1 + times)) in
       let placed = placed_step_in config fed (Some (RunHeld number)) step in
       record {
         steps = step ∷ [];

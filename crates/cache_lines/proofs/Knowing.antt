@@ -1,5 +1,5 @@
 -- What is known of the keys held, step by step.
-use Rattle.std.proofs.Common.{refl, sym, ap, ◌∙◌, subst, ◌≡◌, ℕ, Bool, true, false, List, [], ◌∷◌, ◌++◌, Some, if◌then◌else◌, Ok, Err}
+use Rattle.std.proofs.Common.{arith, refl, sym, ap, ◌∙◌, subst, ◌≡◌, ℕ, Bool, true, false, List, [], ◌∷◌, ◌++◌, Some, if◌then◌else◌, Ok, Err}
 use Rattle.audit_model.specs.Changes.{after_step}
 use Rattle.audit_model.specs.Follows.{placed_step_in}
 use Rattle.audit_model.specs.Grammar.{Reading, reading}
@@ -9,7 +9,7 @@ use Rattle.audit_model.specs.Steps.{Task, RunLines}
 use Rattle.audit_model.specs.declared.config.Config.{Config}
 use Rattle.audit_model.specs.declared.transcript.Step.{Step}
 use Rattle.cache_commands.specs.Order.{Order, Settled, Used, Unknown, AgreesWith, order_by}
-use Rattle.cache_lines.specs.Lines.{Runs, situation_behind, effect_of_step}
+use Rattle.cache_lines.specs.Lines.{RunsLines, situation_behind, effect_of_step}
 use Rattle.cache_lines.specs.Making.{Making}
 use Rattle.cache_lines.specs.Ordered.{HasKeys, HaveKeys, HaveKeysBehind, order_behind_step, order_behind}
 use Rattle.cache_store.specs.Recency.{AreKeysOf}
@@ -35,7 +35,7 @@ order-behind-more config n order [] step = refl
 order-behind-more config n order (x ∷ xs) step = order-behind-more config n (order_behind_step config n order x) xs step
 
 pub runs-keys-more : (making : Making) (number : ℕ) (n : ℕ) (order : Order) (steps : List Step) (s t : Situation) (step : Step)
-    → Runs making number s steps t → HaveKeysBehind making.config number n order s steps
+    → RunsLines making number s steps t → HaveKeysBehind making.config number n order s steps
     → HasKeys (order_behind_step making.config n (order_behind making.config n order steps) step) (after_step making.config t (Some (RunLines number)) step (effect_of_step making.config number t step)).held
     → HaveKeysBehind making.config number n order s (steps ++ step ∷ [])
 runs-keys-more making number n order [] s t step runs keys h =
@@ -49,7 +49,7 @@ due_if may number = if may then RunLines number ∷ [] else []
 
 -- lines that ran in turn
 pub keys-in-turn : (making : Making) (number : ℕ) (n : ℕ) (order : Order) (steps : List Step) (s t : Situation)
-    → Runs making number s steps t → HaveKeysBehind making.config number n order s steps → HaveKeys making.config n order s (RunLines number ∷ []) steps
+    → RunsLines making number s steps t → HaveKeysBehind making.config number n order s steps → HaveKeys making.config n order s (RunLines number ∷ []) steps
 keys-in-turn making number n order [] s t runs keys = tt
 keys-in-turn making number n order (step ∷ steps) s t runs keys =
     subst (λ b.
@@ -76,11 +76,7 @@ unknown-by n (Ok says.Quit) = refl
 unknown-by n (Err fault) = refl
 
 unknown-after : (config : Config) (n : ℕ) (step : Step) → order_behind_step config n Unknown step ≡ Unknown
-unknown-after config n step = go step.held
-  where
-    go : (b : Bool) → (if b then Unknown else order_by n (reading config step.line) Unknown) ≡ Unknown
-    go true = refl
-    go false = unknown-by n (reading config step.line)
+unknown-after config n step = let runs = unknown-by n (reading config step.line) in grind (arith, runs)
 
 pub unknown-behind : (config : Config) (n : ℕ) (steps : List Step) → order_behind config n Unknown steps ≡ Unknown
 unknown-behind config n [] = refl

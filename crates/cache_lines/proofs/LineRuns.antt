@@ -1,5 +1,5 @@
 -- One line of a connection runs.
-use Rattle.std.proofs.Common.{refl, ap, ◌∙◌, ◌≡◌, ℕ, Bool, true, false, ◌||◌, List, [], Option, Some, if◌then◌else◌, drop, sym, subst, append_assoc, suc, ◌+◌, not, ◌&&◌, ◌∷◌, ◌++◌, take, None, is_none, is_some, cond, ◌==◌, map, unwrap_or}
+use Rattle.std.proofs.Common.{arith, refl, ap, ◌∙◌, ◌≡◌, ℕ, Bool, true, false, ◌||◌, List, [], Option, Some, if◌then◌else◌, drop, sym, subst, append_assoc, suc, ◌+◌, not, ◌&&◌, ◌∷◌, ◌++◌, take, None, is_none, is_some, ◌==◌, map, unwrap_or}
 use Rattle.std.proofs.Math.Bool.{or-false}
 use Rattle.std.proofs.lemmas.Bool.{and_from, eq-eqb, and_parts}
 use Rattle.std.proofs.lemmas.Grind.{flat_map-append}
@@ -38,9 +38,9 @@ use Rattle.cache_lines.proofs.Knowing.{has-ended, order-behind-more, runs-keys-m
 use Rattle.cache_lines.proofs.Placing.{found-there, ended-again, numbered}
 use Rattle.cache_lines.proofs.leads.Leading.{cons-parted}
 use Rattle.cache_lines.specs.Drawing.{identifiers_in}
-use Rattle.cache_lines.specs.Ended.{ends_silent, RanReady, ends_held, line_at}
-use Rattle.cache_lines.specs.Gathered.{Gathered, IsFresh, Stage, gather, gathered, reply_in, stage}
-use Rattle.cache_lines.specs.Lines.{IsPlain, IsThere, situation_behind, set_in, with_drops, Runs, ends_quit, has_its_part, is_timely_after, effect_of_step, ready, says_quit, ArePartedIn, are_timely, holding}
+use Rattle.cache_lines.specs.Ended.{ends_silent, RanReady, ends_held, line_in_front}
+use Rattle.cache_lines.specs.Gathered.{Gathered, HasNothingOutside, LineStage, gather, gathered, reply_in, stage}
+use Rattle.cache_lines.specs.Lines.{TouchesOnlyValues, IsThere, situation_behind, set_in, with_drops, RunsLines, ends_quit, has_its_part, is_timely_after, effect_of_step, ready, says_quit, ArePartedIn, are_timely, holding}
 use Rattle.cache_lines.specs.Making.{Making, making_of}
 use Rattle.cache_lines.specs.Ordered.{HasKeys, order_behind}
 use Rattle.cache_lines.specs.Ran.{RanOne, RanLines, RanLine}
@@ -85,7 +85,7 @@ released c = record { number = c.number; unread = c.unread; standing = Ready; wa
 
 -- what a plain step of a line leaves of the situation
 pub after-line : (config : Config) (base : Situation) (held : List HeldValue) (n : ℕ) (c : Connection) (line reply : List ℕ) (accepted : Option Accepted) (told : List Note) (quit : Bool)
-    → IsThere n base → is_overlong (numbered n c) ≡ false → IsPlain (effect_saying config (set_in base held (numbered n c)) n line reply accepted told) quit
+    → IsThere n base → is_overlong (numbered n c) ≡ false → TouchesOnlyValues (effect_saying config (set_in base held (numbered n c)) n line reply accepted told) quit
     → after_step config (set_in base held (numbered n c)) (Some (RunLines n)) (step_saying n line reply accepted told) (effect_saying config (set_in base held (numbered n c)) n line reply accepted told)
     ≡ situation_behind quit (with_drops (base.dropped || drops (effect_saying config (set_in base held (numbered n c)) n line reply accepted told)) base)
     (held_when_run config (set_in base held (numbered n c)) (action_by (reading config line)) (step_saying n line reply accepted told)) (numbered n (beyond c))
@@ -98,7 +98,7 @@ after-line config base held n c line reply accepted told quit there fits plain =
 
 -- what a plain step of a held command leaves of the situation
 pub after-held : (config : Config) (base : Situation) (held : List HeldValue) (n : ℕ) (c : Connection) (line reply : List ℕ) (accepted : Option Accepted) (told : List Note) (quit : Bool)
-    → IsThere n base → is_overlong (numbered n c) ≡ false → IsPlain (effect_saying config (set_in base held (numbered n c)) n line reply accepted told) quit
+    → IsThere n base → is_overlong (numbered n c) ≡ false → TouchesOnlyValues (effect_saying config (set_in base held (numbered n c)) n line reply accepted told) quit
     → after_step config (set_in base held (numbered n c)) (Some (RunHeld n)) (step_saying n line reply accepted told) (effect_saying config (set_in base held (numbered n c)) n line reply accepted told)
     ≡ situation_behind quit (with_drops (base.dropped || drops (effect_saying config (set_in base held (numbered n c)) n line reply accepted told)) base)
     (held_when_run config (set_in base held (numbered n c)) (action_by (reading config line)) (step_saying n line reply accepted told)) (numbered n (released c))
@@ -132,21 +132,21 @@ gather-more g xs ys = go g.kept
     go (Some t) = ap (λ ss. record { text = g.text; kept = Some (record t { steps = ss }); waiting = g.waiting }) (append_assoc t.steps xs ys)
 
 -- what is gathered stays fresh
-pub fresh-gather : (g : Gathered) (steps : List Step) → IsFresh g → IsFresh (gather g steps)
+pub fresh-gather : (g : Gathered) (steps : List Step) → HasNothingOutside g → HasNothingOutside (gather g steps)
 fresh-gather g steps fresh = go g.kept fresh
   where
-    go : (kept : Option Taped) → IsFresh (record g { kept = kept }) → IsFresh (gather (record g { kept = kept }) steps)
+    go : (kept : Option Taped) → HasNothingOutside (record g { kept = kept }) → HasNothingOutside (gather (record g { kept = kept }) steps)
     go None f = tt
     go (Some t) f = f
 
 -- ---- runs of lines
 
 pub runs-more : (making : Making) (number : ℕ) (steps : List Step) (s t : Situation) (step : Step) (u : Situation)
-    → Runs making number s steps t → may_run_in t number ≡ true → is_right making.config (placed_step_in making.config t (Some (RunLines number)) step) ≡ true
+    → RunsLines making number s steps t → may_run_in t number ≡ true → is_right making.config (placed_step_in making.config t (Some (RunLines number)) step) ≡ true
     → has_its_part making.part_of (effect_of_step making.config number t step) ≡ true
     → is_timely_after making.config making.made (effect_of_step making.config number t step) (after_step making.config t (Some (RunLines number)) step (effect_of_step making.config number t step)) ≡ true
     → after_step making.config t (Some (RunLines number)) step (effect_of_step making.config number t step) ≡ u
-    → Runs making number s (steps ++ step ∷ []) u
+    → RunsLines making number s (steps ++ step ∷ []) u
 runs-more making number [] s t step u runs may right parted timely after = (
   subst (λ x. may_run_in x number ≡ true) runs may,
   subst (λ x. is_right making.config (placed_step_in making.config x (Some (RunLines number)) step) ≡ true) runs right,
@@ -176,11 +176,7 @@ silent-more (x ∷ y ∷ xs) step = silent-more (y ∷ xs) step
 -- steps that all have their replies
 pub silent-none : (steps : List Step) → list_all (λ step. is_some step.reply) steps ≡ true → ends_silent steps ≡ false
 silent-none [] all = refl
-silent-none (step ∷ []) all = has-one step.reply (not step.held) (and_parts (is_some step.reply) true all).0
-  where
-    has-one : (o : Option (List ℕ)) (b : Bool) → is_some o ≡ true → (is_none o && b) ≡ false
-    has-one None b e = let no : false ≡ true = e in cc
-    has-one (Some x) b e = refl
+silent-none (step ∷ []) all = grind arith
 silent-none (step ∷ next ∷ steps) all = silent-none (next ∷ steps) (and_parts (is_some step.reply) (list_all (λ (x : Step). is_some x.reply) (next ∷ steps)) all).1
 
 -- a connection with a whole line is not closed for a long one
@@ -205,7 +201,7 @@ all-more : (p : Step → Bool) (xs : List Step) (x : Step) → list_all p xs ≡
 all-more p xs x all one = list_all-append p xs (x ∷ []) ∙ and_from (list_all p xs) (p x && true) all (and_from (p x) true one refl)
 
 -- one more line ran
-pub ran-more : (making : Making) (number : ℕ) (base : Situation) (held : List HeldValue) (bytes mid rest line : List ℕ) (n : ℕ) (quit : Bool) (old middle new : Stage)
+pub ran-more : (making : Making) (number : ℕ) (base : Situation) (held : List HeldValue) (bytes mid rest line : List ℕ) (n : ℕ) (quit : Bool) (old middle new : LineStage)
     → IsThere number base → (r : RanLines making number base held bytes false mid old middle) → IsLine mid n → line ≡ without_return (take n mid) → (quit ≡ false → rest ≡ drop (n + 1) mid)
     → RanOne making number (set_in (with_drops middle.values.frame.dropped base) r.left (ready number mid)) line quit middle new
     → RanLines making number base held bytes quit rest old new
@@ -252,13 +248,13 @@ ran-more making number base held bytes mid rest line n quit old middle new there
     ended-rest false is left = ap (λ b. set_in (with_drops new.values.frame.dropped base) left (ready number b)) (is refl)
 
 -- no line ran yet
-pub ran-none : (making : Making) (number : ℕ) (base : Situation) (held : List HeldValue) (bytes : List ℕ) (old : Stage)
+pub ran-none : (making : Making) (number : ℕ) (base : Situation) (held : List HeldValue) (bytes : List ℕ) (old : LineStage)
     → old.values.Stands held → base.dropped ≡ old.values.frame.dropped → RanLines making number base held bytes false bytes old old
 ran-none making number base held bytes old m same =
     record { steps = []; left = held; stands = m; runs = ap (λ b. set_in (with_drops b base) held (ready number bytes)) (sym same); none_held = refl; replied = refl; quits = refl; draws = spends-same (identifiers_in old.values); ordered = λ places order plain agrees. (agrees, tt); gathered_is = sym (gather-none (gathered old)) }
 
 -- a line that was refused changed nothing but what room there is
-pub ran-kept : (making : Making) (number : ℕ) (base : Situation) (held : List HeldValue) (bytes rest : List ℕ) (quit : Bool) (old : Stage) (values : Values) (middle_text new_text : List ℕ) (middle_tape new_tape : Option Taped)
+pub ran-kept : (making : Making) (number : ℕ) (base : Situation) (held : List HeldValue) (bytes rest : List ℕ) (quit : Bool) (old : LineStage) (values : Values) (middle_text new_text : List ℕ) (middle_tape new_tape : Option Taped)
     → RanLines making number base held bytes quit rest old (stage values middle_text middle_tape)
     → gathered (stage values new_text new_tape) ≡ gathered (stage values middle_text middle_tape)
     → RanLines making number base held bytes quit rest old (stage values new_text new_tape)
@@ -271,25 +267,25 @@ pub frames-more : (a b c : Frame) (now : ℕ) → KeepsFrame a b now → KeepsFr
 frames-more a b c now g h = record { rest = h.rest ∙ ap (λ (f : Frame). record f { dropped = c.dropped; latest = c.latest }) g.rest; latest = h.latest }
 
 -- what holds from round to round: from each situation that the values stood for, lines ran as far as that many bytes
-abbrev pub RanTo : (now number : ℕ) (bytes : List ℕ) (used : ℕ) (old new : Stage) → Type 0
+abbrev pub RanTo : (now number : ℕ) (bytes : List ℕ) (used : ℕ) (old new : LineStage) → Type 0
 RanTo now number bytes used old new =
     (s : Situation) → Agrees old.values now s → IsThere number s → RanLines (making_of old.values.frame) number s s.held bytes false (drop used bytes) old new
 
 -- one line more
-pub line-next : (now number : ℕ) (bytes : List ℕ) (used n : ℕ) (quit : Bool) (rest : List ℕ) (old middle new : Stage) → KeepsFrame old.values.frame middle.values.frame now → RanTo now number bytes used old middle
-    → IsLine (drop used bytes) n → RanLine now number (line_at (drop used bytes) n) quit middle new → (quit ≡ false → rest ≡ drop (n + 1) (drop used bytes))
+pub line-next : (now number : ℕ) (bytes : List ℕ) (used n : ℕ) (quit : Bool) (rest : List ℕ) (old middle new : LineStage) → KeepsFrame old.values.frame middle.values.frame now → RanTo now number bytes used old middle
+    → IsLine (drop used bytes) n → RanLine now number (line_in_front (drop used bytes) n) quit middle new → (quit ≡ false → rest ≡ drop (n + 1) (drop used bytes))
     → (s : Situation) → Agrees old.values now s → IsThere number s → RanLines (making_of old.values.frame) number s s.held bytes quit rest old new
 line-next now number bytes used n quit rest old middle new frame ran at line skips = λ s agrees there.
     let mid = drop used bytes in
     let r = ran s agrees there in
     let t = set_in (with_drops middle.values.frame.dropped s) r.left (ready number mid) in
-    ran-more (making_of old.values.frame) number s s.held bytes mid rest (line_at mid n) n quit old middle new there r at refl skips
-    (subst (λ (m : Making). RanOne m number t (line_at mid n) quit middle new) (ap making_of frame.rest) (line.ran t (record { at = agrees.at; dropped = refl; stands = r.stands })))
+    ran-more (making_of old.values.frame) number s s.held bytes mid rest (line_in_front mid n) n quit old middle new there r at refl skips
+    (subst (λ (m : Making). RanOne m number t (line_in_front mid n) quit middle new) (ap making_of frame.rest) (line.ran t (record { at = agrees.at; dropped = refl; stands = r.stands })))
 
 -- Lines of a connection that is ready, to their end.
 
 -- lines that ran until none may
-pub runs-end : (making : Making) (number : ℕ) (steps : List Step) (s t : Situation) → Runs making number s steps t → may_run_in t number ≡ false
+pub runs-end : (making : Making) (number : ℕ) (steps : List Step) (s t : Situation) → RunsLines making number s steps t → may_run_in t number ≡ false
     → after_steps making.config s (RunLines number ∷ []) steps ≡ Some t
 runs-end making number [] s t runs stops =
     ap (λ b. if is_empty (due_if b number) then Some s else None) (subst (λ x. may_run_in x number ≡ false) runs stops) ∙ ap Some (sym runs)
@@ -300,7 +296,7 @@ runs-end making number (step ∷ steps) s t runs stops =
     ∙ runs-end making number steps _ t runs.4 stops
 
 -- the values that such lines accept stand in their parts
-pub runs-parted : (making : Making) (number : ℕ) (steps : List Step) (s t : Situation) → Runs making number s steps t → ArePartedIn making.config making.part_of s (RunLines number ∷ []) steps
+pub runs-parted : (making : Making) (number : ℕ) (steps : List Step) (s t : Situation) → RunsLines making number s steps t → ArePartedIn making.config making.part_of s (RunLines number ∷ []) steps
 runs-parted making number [] s t runs = refl
 runs-parted making number (step ∷ steps) s t runs =
     ap (λ b. let now_due = due_if b number in let placed = placed_step_in making.config s (first_due now_due) step in
@@ -308,7 +304,7 @@ runs-parted making number (step ∷ steps) s t runs =
     ∙ cons-parted making.part_of (effect_of_step making.config number s step).value _ runs.2 (runs-parted making number steps _ t runs.4)
 
 -- and each `SYNC` among them leaves timely values
-pub runs-timely : (making : Making) (number : ℕ) (steps : List Step) (s t : Situation) → Runs making number s steps t → are_timely making.config making.made s (RunLines number ∷ []) steps ≡ true
+pub runs-timely : (making : Making) (number : ℕ) (steps : List Step) (s t : Situation) → RunsLines making number s steps t → are_timely making.config making.made s (RunLines number ∷ []) steps ≡ true
 runs-timely making number [] s t runs = refl
 runs-timely making number (step ∷ steps) s t runs =
     ap (λ b. let now_due = due_if b number in let placed = placed_step_in making.config s (first_due now_due) step in let u = after_step making.config s placed.task step placed.effect in
@@ -324,13 +320,7 @@ stops-partial base left number rest there partial =
 
 pub find-dropped : (n : ℕ) (cs : List Connection) → find (λ c. c.number == n) (without_number n cs) ≡ None
 find-dropped n [] = refl
-find-dropped n (c ∷ cs) = go (find-dropped n cs) (c.number == n) refl
-  where
-    go : find (λ k. k.number == n) (without_number n cs) ≡ None → (b : Bool) → (c.number == n) ≡ b → find (λ k. k.number == n) (without_number n (c ∷ cs)) ≡ None
-    go next true e = ap (λ b. find (λ k. k.number == n) (cond (not b) (c ∷ without_number n cs) (without_number n cs))) e ∙ next
-    go next false e =
-        ap (λ b. find (λ k. k.number == n) (cond (not b) (c ∷ without_number n cs) (without_number n cs))) e
-        ∙ ap (λ b. cond b (Some c) (find (λ k. k.number == n) (without_number n cs))) e ∙ next
+find-dropped n (c ∷ cs) = let next = find-dropped n cs in grind (arith, next)
 
 pub stops-long : (base : Situation) (left : List HeldValue) (number : ℕ) (rest : List ℕ) → is_overlong (ready number rest) ≡ true → may_run_in (set_in base left (ready number rest)) number ≡ false
 stops-long base left number rest long =
@@ -359,8 +349,8 @@ right-held config s number line =
 -- a line of those that may run is held back
 pub runs-held : (making : Making) (base : Situation) (number : ℕ) (s : Situation) (steps : List Step) (left : List HeldValue) (rest line : List ℕ) (n : ℕ)
     → IsThere number base → IsLine rest n → line ≡ without_return (take n rest)
-    → Runs making number s steps (set_in base left (ready number rest))
-    → Runs making number s (steps ++ step_held number line ∷ []) (set_in base (all_held_after making.config base.latest left no_deed []) (holding number line (behind_lines 1 rest)))
+    → RunsLines making number s steps (set_in base left (ready number rest))
+    → RunsLines making number s (steps ++ step_held number line ∷ []) (set_in base (all_held_after making.config base.latest left no_deed []) (holding number line (behind_lines 1 rest)))
 runs-held making base number s steps left rest line n there at said runs =
     let t = set_in base left (ready number rest) in
     let step = step_held number line in
@@ -376,15 +366,7 @@ runs-held making base number s steps left rest line n there at said runs =
 
 ends-none : (steps : List Step) → list_all (λ step. not step.held) steps ≡ true → ends_held steps ≡ false
 ends-none [] all = refl
-ends-none (step ∷ []) all = not-true step.held (and-left (not step.held) true all)
-  where
-    not-true : (b : Bool) → not b ≡ true → b ≡ false
-    not-true true e = let h : false ≡ true = e in cc
-    not-true false e = refl
-
-    and-left : (a b : Bool) → (a && b) ≡ true → a ≡ true
-    and-left true b e = refl
-    and-left false b e = e
+ends-none (step ∷ []) all = grind arith
 ends-none (step ∷ next ∷ steps) all = ends-none (next ∷ steps) (and-right (not step.held) (list_all (λ (x : Step). not x.held) (next ∷ steps)) all)
   where
     and-right : (a b : Bool) → (a && b) ≡ true → b ≡ true
@@ -399,7 +381,7 @@ ends-held (step ∷ next ∷ steps) number line = ends-held (next ∷ steps) num
 -- ---- lines of a connection that is ready
 
 -- lines ran until less than one, or too long a one, was left, or a `QUIT` ran
-pub ready-stopped : (making : Making) (number : ℕ) (base : Situation) (held : List HeldValue) (bytes : List ℕ) (quit : Bool) (rest : List ℕ) (old new : Stage)
+pub ready-stopped : (making : Making) (number : ℕ) (base : Situation) (held : List HeldValue) (bytes : List ℕ) (quit : Bool) (rest : List ℕ) (old new : LineStage)
     → (r : RanLines making number base held bytes quit rest old new) → may_run_in (situation_behind quit (with_drops new.values.frame.dropped base) r.left (ready number rest)) number ≡ false
     → RanReady making number base held bytes quit false false (λ left. situation_behind quit (with_drops new.values.frame.dropped base) left (ready number rest)) old new
 ready-stopped making number base held bytes quit rest old new r stops = record {
@@ -420,7 +402,7 @@ ready-stopped making number base held bytes quit rest old new r stops = record {
 }
 
 -- lines ran until memory was wanted for one
-pub ready-held : (making : Making) (number : ℕ) (base : Situation) (held : List HeldValue) (bytes rest line : List ℕ) (n : ℕ) (old middle : Stage) (text : List ℕ) (tape : Option Taped)
+pub ready-held : (making : Making) (number : ℕ) (base : Situation) (held : List HeldValue) (bytes rest line : List ℕ) (n : ℕ) (old middle : LineStage) (text : List ℕ) (tape : Option Taped)
     → IsThere number base → (r : RanLines making number base held bytes false rest old middle) → IsLine rest n → line ≡ without_return (take n rest)
     → middle.values.Stands (all_held_after making.config base.latest r.left no_deed []) → gathered (stage middle.values text tape) ≡ gather (gathered middle) (step_held number line ∷ [])
     → RanReady making number base held bytes false true false (λ left. set_in (with_drops middle.values.frame.dropped base) left (holding number (held_line rest) (behind_lines 1 rest))) old (stage middle.values text tape)

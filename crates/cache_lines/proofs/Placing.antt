@@ -1,5 +1,5 @@
 -- A connection put in its place again.
-use Rattle.std.proofs.Common.{cond, refl, sym, ap, ◌∙◌, ◌≡◌, ℕ, Bool, true, false, not, ◌==◌, List, [], ◌∷◌, map, Some, if◌then◌else◌, is_some}
+use Rattle.std.proofs.Common.{arith, refl, ap, ◌∙◌, ◌≡◌, ℕ, Bool, true, false, ◌==◌, List, [], ◌∷◌, map, Some, if◌then◌else◌, is_some}
 use Rattle.std.proofs.lemmas.Bool.{eq-eqb}
 use Rattle.std.specs.List.{find}
 use Rattle.audit_model.specs.Situation.{Situation, Connection, HeldValue, connection_in, with_connection, without_number, without_waiting, is_overlong}
@@ -17,40 +17,15 @@ here n = eq-eqb n n refl
 
 found-swapped : (n : ℕ) (c : Connection) (ds : List Connection) → is_some (find (λ d. d.number == n) ds) ≡ true → find (λ d. d.number == n) (map (swap n c) ds) ≡ Some (numbered n c)
 found-swapped n c [] h = let e : false ≡ true = h in cc
-found-swapped n c (d ∷ ds) h = go (found-swapped n c ds) (d.number == n) refl h
-  where
-    go : (is_some (find (λ k. k.number == n) ds) ≡ true → find (λ k. k.number == n) (map (swap n c) ds) ≡ Some (numbered n c)) → (b : Bool) → (d.number == n) ≡ b → is_some (cond b (Some d) (find (λ k. k.number == n) ds)) ≡ true → find (λ k. k.number == n) (map (swap n c) (d ∷ ds)) ≡ Some (numbered n c)
-    go next true e g =
-        ap (λ b. cond ((if b then numbered n c else d).number == n) (Some (if b then numbered n c else d)) (find (λ k. k.number == n) (map (swap n c) ds))) e
-        ∙ ap (λ b. cond b (Some (numbered n c)) (find (λ k. k.number == n) (map (swap n c) ds))) (here n)
-    go next false e g =
-        ap (λ b. cond ((if b then numbered n c else d).number == n) (Some (if b then numbered n c else d)) (find (λ k. k.number == n) (map (swap n c) ds))) e
-        ∙ ap (λ b. cond b (Some d) (find (λ k. k.number == n) (map (swap n c) ds))) e
-        ∙ next g
+found-swapped n c (d ∷ ds) h = let next = found-swapped n c ds in let own = here n in grind (arith, next, own)
 
 pub swapped-again : (n : ℕ) (c d : Connection) (ks : List Connection) → map (swap n d) (map (swap n c) ks) ≡ map (swap n d) ks
 swapped-again n c d [] = refl
-swapped-again n c d (k ∷ ks) = ap (λ x. x ∷ map (swap n d) (map (swap n c) ks)) (go (k.number == n) refl) ∙ ap (λ xs. swap n d k ∷ xs) (swapped-again n c d ks)
-  where
-    go : (b : Bool) → (k.number == n) ≡ b → swap n d (swap n c k) ≡ swap n d k
-    go true e = ap (λ b. swap n d (if b then numbered n c else k)) e ∙ ap (λ b. if b then numbered n d else numbered n c) (here n) ∙ sym (ap (λ b. if b then numbered n d else k) e)
-    go false e = ap (λ b. swap n d (if b then numbered n c else k)) e
+swapped-again n c d (k ∷ ks) = let next = swapped-again n c d ks in let own = here n in grind (arith, next, own)
 
 pub dropped-swapped : (n : ℕ) (c : Connection) (ks : List Connection) → without_number n (map (swap n c) ks) ≡ without_number n ks
 dropped-swapped n c [] = refl
-dropped-swapped n c (k ∷ ks) = go (dropped-swapped n c ks) (k.number == n) refl
-  where
-    go : without_number n (map (swap n c) ks) ≡ without_number n ks → (b : Bool) → (k.number == n) ≡ b → without_number n (map (swap n c) (k ∷ ks)) ≡ without_number n (k ∷ ks)
-    go next true e =
-        ap (λ b. cond (not ((if b then numbered n c else k).number == n)) ((if b then numbered n c else k) ∷ without_number n (map (swap n c) ks)) (without_number n (map (swap n c) ks))) e
-        ∙ ap (λ b. cond (not b) (numbered n c ∷ without_number n (map (swap n c) ks)) (without_number n (map (swap n c) ks))) (here n)
-        ∙ next
-        ∙ sym (ap (λ b. cond (not b) (k ∷ without_number n ks) (without_number n ks)) e)
-    go next false e =
-        ap (λ b. cond (not ((if b then numbered n c else k).number == n)) ((if b then numbered n c else k) ∷ without_number n (map (swap n c) ks)) (without_number n (map (swap n c) ks))) e
-        ∙ ap (λ b. cond (not b) (k ∷ without_number n (map (swap n c) ks)) (without_number n (map (swap n c) ks))) e
-        ∙ ap (λ xs. k ∷ xs) next
-        ∙ sym (ap (λ b. cond (not b) (k ∷ without_number n ks) (without_number n ks)) e)
+dropped-swapped n c (k ∷ ks) = let next = dropped-swapped n c ks in let own = here n in grind (arith, next, own)
 
 -- the connection that was put there is found there
 pub found-there : (base : Situation) (held : List HeldValue) (n : ℕ) (c : Connection) → IsThere n base → is_overlong (numbered n c) ≡ false

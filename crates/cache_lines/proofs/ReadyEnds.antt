@@ -1,8 +1,7 @@
 -- Lines that end with a `LOAD` that begins to wait.
-use Rattle.std.proofs.Common.{refl, ap, ◌∙◌, subst, sym, ◌≡◌, ℕ, suc, Bool, true, false, ◌&&◌, ◌||◌, ◌==◌, List, [], map, Option, Some, None, if◌then◌else◌, Ok, is_some, take, ◌++◌, ◌∷◌, true≢false, drop, unwrap_or}
+use Rattle.std.proofs.Common.{arith, refl, ap, ◌∙◌, subst, sym, ◌≡◌, ℕ, suc, Bool, true, false, ◌||◌, List, [], map, Option, Some, None, if◌then◌else◌, Ok, is_some, take, ◌++◌, ◌∷◌, true≢false, drop, unwrap_or}
 use Rattle.std.proofs.Math.Bool.{or-false}
 use Rattle.std.proofs.lemmas.Bool.{and_from, eq-eqb, and_parts}
-use Rattle.std.specs.List.{find}
 use Rattle.std.specs.Option.{option_map_or}
 use Rattle.audit_model.specs.Changes.{connection_after, join_by, join_load, after_step, all_held_after}
 use Rattle.audit_model.specs.Commands.{drops, quits}
@@ -10,9 +9,9 @@ use Rattle.audit_model.specs.Follows.{line_in, placed_step_in}
 use Rattle.audit_model.specs.Grammar.{reading}
 use Rattle.audit_model.specs.History.{Action, Effect, Running}
 use Rattle.audit_model.specs.Replies.{load_sent_by}
-use Rattle.audit_model.specs.Situation.{Situation, Connection, HeldValue, PendingLoad, connection_in, is_overlong, is_ready, live_at, load_in, may_run_in, view_in, with_connection, without_number, without_waiting}
+use Rattle.audit_model.specs.Situation.{Situation, Connection, HeldValue, PendingLoad, connection_in, is_overlong, live_at, load_in, may_run_in, view_in, with_connection, without_number, without_waiting}
 use Rattle.audit_model.specs.Steps.{Task, action_by, action_in, effect_in, is_right, is_in_turn, is_held_rightly, is_task_of, RunLines}
-use Rattle.audit_model.specs.Stream.{first_line, behind_lines, without_return}
+use Rattle.audit_model.specs.Stream.{behind_lines, without_return}
 use Rattle.audit_model.specs.declared.config.Config.{Config}
 use Rattle.audit_model.specs.declared.transcript.Step.{Step}
 use Rattle.audit_lines.proofs.Lines.{IsLine-first_line, long_from}
@@ -33,14 +32,14 @@ use Rattle.cache_lines.proofs.Placing.{dropped-swapped, found-there, numbered, s
 use Rattle.cache_lines.proofs.WholeLines.{has-line}
 use Rattle.cache_lines.specs.Bases.{Seen}
 use Rattle.cache_lines.specs.Drawing.{Identifiers, StepDraws, identifiers_in}
-use Rattle.cache_lines.specs.Ended.{RanReady, ends_held, RunsReady, AddsSteps, StopsBy, ends_by_quit, line_at}
-use Rattle.cache_lines.specs.Gathered.{Stage, gather, gathered, stage, IsFresh}
-use Rattle.cache_lines.specs.Lines.{IsThere, Runs, ready, set_in, with_drops, has_its_part, is_timely_after, effect_of_step, says_quit, holding, situation_behind}
+use Rattle.cache_lines.specs.Ended.{RanReady, ends_held, RunsReady, AddsSteps, StopsBy, ends_by_quit, line_in_front}
+use Rattle.cache_lines.specs.Gathered.{LineStage, gather, gathered, stage, HasNothingOutside}
+use Rattle.cache_lines.specs.Lines.{IsThere, RunsLines, ready, set_in, with_drops, has_its_part, is_timely_after, effect_of_step, says_quit, holding, situation_behind}
 use Rattle.cache_lines.specs.Making.{Making, making_of}
 use Rattle.cache_lines.specs.Ordered.{HasKeys, order_behind}
 use Rattle.cache_lines.specs.Ran.{RanLines, RanLine, WaitsLine}
 use Rattle.cache_lines.specs.Tape.Taped.{Taped, step_held}
-use Rattle.cache_lines.specs.Waiting.{waiting, with_loads, with_under_way, UnderWay, load_sent_for, loads_in, when_waiting}
+use Rattle.cache_lines.specs.Waiting.{waiting_with, with_loads, with_under_way, UnderWay, load_sent_for, loads_in, when_waiting}
 use Rattle.cache_lines.specs.Whole.{held_line}
 use Rattle.cache_lines.specs.declared.looping.End.{End}
 use Rattle.audit_model.specs.declared.command.Command.TheVariants as says
@@ -151,15 +150,11 @@ after-waits config base held left n c d task key line number effect there fits s
     effect_is = effect_in config (view_in config (set_in base held (numbered n c))) (Running (says.Load key)) (step_waits n line number)
 
 -- a connection whose `LOAD` waits runs no line, also where it was closed
-pub stops-waiting : (base : Situation) (left : List HeldValue) (n : ℕ) (line bytes : List ℕ) (times : ℕ) → IsThere n base → may_run_in (set_in base left (waiting n line bytes times)) n ≡ false
-stops-waiting base left n line bytes times there = go (is_overlong (waiting n line bytes times)) refl
-  where
-    go : (b : Bool) → is_overlong (waiting n line bytes times) ≡ b → may_run_in (set_in base left (waiting n line bytes times)) n ≡ false
-    go false fits = ap (λ c. option_map_or (λ k. is_ready k.standing && is_some (first_line k.unread)) c false) (found-there base left n (waiting n line bytes times) there fits)
-    go true long =
-        ap (λ c. option_map_or (λ k. is_ready k.standing && is_some (first_line k.unread)) c false)
-        (ap (λ b. find (λ c. c.number == n) (if b then without_number n base.connections else map (λ c. if c.number == n then waiting n line bytes times else c) base.connections)) long
-        ∙ find-dropped n base.connections)
+pub stops-waiting : (base : Situation) (left : List HeldValue) (n : ℕ) (line bytes : List ℕ) (times : ℕ) → IsThere n base → may_run_in (set_in base left (waiting_with n line bytes times)) n ≡ false
+stops-waiting base left n line bytes times there =
+    let found = found-there base left n (waiting_with n line bytes times) there in
+    let none = find-dropped n base.connections in
+    grind (arith, found, none)
 
 -- a step that is right in all but turn and line, of a connection whose line is due, is right
 pub turn-right : (config : Config) (base : Situation) (held : List HeldValue) (n : ℕ) (c : Connection) (task : Task) (line : List ℕ) (action : Action) (step : Step)
@@ -202,9 +197,9 @@ waits-left config base held key Stands none stands = subst Stands (sym (loading.
 pub runs-waits : (making : Making) (base : Situation) (number : ℕ) (s : Situation) (steps : List Step) (left : List HeldValue) (rest line key : List ℕ) (n : ℕ) (load : Option ℕ)
     → IsThere number base → IsLine rest n → line ≡ without_return (take n rest) → reading making.config line ≡ Ok (says.Load key)
     → load ≡ number_to_send key base.sent base.pending → live_at making.config base.latest left key ≡ None
-    → Runs making number s steps (set_in base left (ready number rest))
-    → Runs making number s (steps ++ step_waits number line load ∷ [])
-    (set_in (with_under_way (record { sent = when_sent load base.sent; pending = when_joined number key load base.pending }) base) (left_waiting making.config base left key) (waiting number line (behind_lines 1 rest) 1))
+    → RunsLines making number s steps (set_in base left (ready number rest))
+    → RunsLines making number s (steps ++ step_waits number line load ∷ [])
+    (set_in (with_under_way (record { sent = when_sent load base.sent; pending = when_joined number key load base.pending }) base) (left_waiting making.config base left key) (waiting_with number line (behind_lines 1 rest) 1))
 runs-waits making base number s steps left rest line key n load there at said reads is none runs =
     let t = set_in base left (ready number rest) in
     let step = step_waits number line load in
@@ -216,19 +211,19 @@ runs-waits making base number s steps left rest line key n load there at said re
     (ap (λ r. has_its_part making.part_of (effect_in making.config (view_in making.config t) (action_by r) step)) reads)
     (ap (λ r. is_timely_after making.config making.made (effect_in making.config (view_in making.config t) (action_by r) step) (after_step making.config t (Some (RunLines number)) step (effect_in making.config (view_in making.config t) (action_by r) step))) reads)
     (ap (λ r. after_step making.config t (Some (RunLines number)) step (effect_in making.config (view_in making.config t) (action_by r) step)) reads
-    ∙ after-waits making.config base left (left_waiting making.config base left key) number (ready number rest) (waiting number line (behind_lines 1 rest) 1) (RunLines number) key line load effect there fits is refl refl)
+    ∙ after-waits making.config base left (left_waiting making.config base left key) number (ready number rest) (waiting_with number line (behind_lines 1 rest) 1) (RunLines number) key line load effect there fits is refl refl)
 
 ends-more : (steps : List Step) (step : Step) → ends_held (steps ++ step ∷ []) ≡ step.held
 ends-more [] step = refl
 ends-more (x ∷ []) step = refl
 ends-more (x ∷ y ∷ xs) step = ends-more (y ∷ xs) step
 
-pub ready-waits : (making : Making) (number : ℕ) (base : Situation) (held : List HeldValue) (bytes rest line key : List ℕ) (n : ℕ) (load : Option ℕ) (old middle : Stage) (text : List ℕ) (tape : Option Taped)
+pub ready-waits : (making : Making) (number : ℕ) (base : Situation) (held : List HeldValue) (bytes rest line key : List ℕ) (n : ℕ) (load : Option ℕ) (old middle : LineStage) (text : List ℕ) (tape : Option Taped)
     → IsThere number base → (r : RanLines making number base held bytes false rest old middle) → IsLine rest n → line ≡ without_return (take n rest) → reading making.config line ≡ Ok (says.Load key)
     → load ≡ number_to_send key base.sent base.pending → live_at making.config base.latest r.left key ≡ None → middle.values.Stands (all_held_after making.config base.latest r.left no_deed [])
     → gathered (stage middle.values text tape) ≡ gather (gathered middle) (step_waits number line load ∷ [])
     → RanReady making number base held bytes false false true
-    (λ left. set_in (with_under_way (record { sent = when_sent load base.sent; pending = when_joined number key load base.pending }) (with_drops middle.values.frame.dropped base)) left (waiting number line (behind_lines 1 rest) 1)) old (stage middle.values text tape)
+    (λ left. set_in (with_under_way (record { sent = when_sent load base.sent; pending = when_joined number key load base.pending }) (with_drops middle.values.frame.dropped base)) left (waiting_with number line (behind_lines 1 rest) 1)) old (stage middle.values text tape)
 ready-waits making number base held bytes rest line key n load old middle text tape there r at said reads is none stands gathers =
     let config = making.config in
     let from = with_drops middle.values.frame.dropped base in
@@ -271,7 +266,7 @@ pub joined : (number : ℕ) (key : List ℕ) (s : Situation) (load : Option ℕ)
 joined number key s load e = ap (λ l. record { sent = when_sent l s.sent; pending = when_joined number key l s.pending }) e
 
 -- lines ran as far as that many bytes, and no load was joined
-module _ (now number : ℕ) (bytes : List ℕ) (used : ℕ) (old middle : Seen) (ran : RanTo now number bytes used old.stage middle.stage) (frame : KeepsFrame old.stage.values.frame middle.stage.values.frame now) (fresh : IsFresh (gathered middle.stage)) (still : middle.loads ≡ old.loads) where
+module _ (now number : ℕ) (bytes : List ℕ) (used : ℕ) (old middle : Seen) (ran : RanTo now number bytes used old.stage middle.stage) (frame : KeepsFrame old.stage.values.frame middle.stage.values.frame now) (fresh : HasNothingOutside (gathered middle.stage)) (still : middle.loads ≡ old.loads) where
   abbrev making : Making
   making = making_of old.stage.values.frame
 
@@ -287,8 +282,8 @@ module _ (now number : ℕ) (bytes : List ℕ) (used : ℕ) (old middle : Seen) 
   made-same : values.frame.config ≡ making.config
   made-same = ap (λ (f : Frame). f.config) frame.rest
 
-  fresh-with : (steps : List Step) (new : Seen) → gathered new.stage ≡ gather (gathered middle.stage) steps → IsFresh (gathered new.stage)
-  fresh-with steps new e = subst IsFresh (sym e) (fresh-gather (gathered middle.stage) steps fresh)
+  fresh-with : (steps : List Step) (new : Seen) → gathered new.stage ≡ gather (gathered middle.stage) steps → HasNothingOutside (gathered new.stage)
+  fresh-with steps new e = subst HasNothingOutside (sym e) (fresh-gather (gathered middle.stage) steps fresh)
 
   -- no line runs at what is left
   quiet : (text : List ℕ) (tape : Option Taped) (loads : UnderWay) → AddsSteps [] middle (record { stage = stage values text tape; loads = loads })
@@ -301,7 +296,7 @@ module _ (now number : ℕ) (bytes : List ℕ) (used : ℕ) (old middle : Seen) 
       (ready-stopped making number s s.held bytes false rest old.stage (stage values text tape) lines (stops lines.left))
 
   -- a `QUIT` ran
-  ends-quit : (n : ℕ) (new : Seen) → IsLine rest n → RanLine now number (line_at rest n) true middle.stage new.stage → new.loads ≡ middle.loads → RunsReady now number bytes rest at.Quit old new
+  ends-quit : (n : ℕ) (new : Seen) → IsLine rest n → RanLine now number (line_in_front rest n) true middle.stage new.stage → new.loads ≡ middle.loads → RunsReady now number bytes rest at.Quit old new
   ends-quit n new at line same = record {
     ran = λ s agrees there under.
         let from = with_drops new.stage.values.frame.dropped s in
@@ -314,23 +309,23 @@ module _ (now number : ℕ) (bytes : List ℕ) (used : ℕ) (old middle : Seen) 
   }
 
   -- the line is held back
-  held-back : (n : ℕ) (text : List ℕ) (tape : Option Taped) (loads : UnderWay) → IsSoundStore values → IsLine rest n → AddsSteps (step_held number (line_at rest n) ∷ []) middle (record { stage = stage values text tape; loads = loads })
+  held-back : (n : ℕ) (text : List ℕ) (tape : Option Taped) (loads : UnderWay) → IsSoundStore values → IsLine rest n → AddsSteps (step_held number (line_in_front rest n) ∷ []) middle (record { stage = stage values text tape; loads = loads })
       → RunsReady now number bytes rest at.Held old (record { stage = stage values text tape; loads = loads })
   held-back n text tape loads sound line g = record {
     ran = λ s agrees there under.
         let lines = ran s agrees there in
-        let a = ready-held making number s s.held bytes rest (line_at rest n) n old.stage middle.stage text tape there lines line refl (idle-by values making.config s.latest lines.left sound made-same lines.stands) g.gathered_is in
+        let a = ready-held making number s s.held bytes rest (line_in_front rest n) n old.stage middle.stage text tape there lines line refl (idle-by values making.config s.latest lines.left sound made-same lines.stands) g.gathered_is in
         subst (λ u. RanReady making number s s.held bytes false true false (λ left. set_in (with_under_way u (dropping s)) left (holding number (held_line rest) (behind_lines 1 rest))) old.stage (stage values text tape)) (under ∙ sym still ∙ sym g.loads_are) a;
     ends = has-line rest n line;
     frame = frame;
-    fresh = fresh-with (step_held number (line_at rest n) ∷ []) (record { stage = stage values text tape; loads = loads }) g.gathered_is;
+    fresh = fresh-with (step_held number (line_in_front rest n) ∷ []) (record { stage = stage values text tape; loads = loads }) g.gathered_is;
   }
 
   -- a `LOAD` begins to wait
-  waits : (n : ℕ) (text : List ℕ) (tape : Option Taped) (loads : UnderWay) → IsSoundStore values → IsLine rest n → WaitsLine now number (line_at rest n) middle (record { stage = stage values text tape; loads = loads })
+  waits : (n : ℕ) (text : List ℕ) (tape : Option Taped) (loads : UnderWay) → IsSoundStore values → IsLine rest n → WaitsLine now number (line_in_front rest n) middle (record { stage = stage values text tape; loads = loads })
       → RunsReady now number bytes rest at.Waits old (record { stage = stage values text tape; loads = loads })
   waits n text tape loads sound at w =
-      let line = line_at rest n in
+      let line = line_in_front rest n in
       let miss = w.is_miss in
       let key = miss.key in
       let reads : reading making.config line ≡ Ok (says.Load key) = subst (λ (k : Config). reading k line ≡ Ok (says.Load key)) made-same miss.reads in
@@ -344,9 +339,9 @@ module _ (now number : ℕ) (bytes : List ℕ) (used : ℕ) (old middle : Seen) 
             subst (λ (k : Config). live_at k s.latest lines.left key ≡ None) made-same (subst (λ (m : ℕ). live_at values.frame.config m lines.left key ≡ None) (sym agrees.at) (miss.none lines.left lines.stands)) in
             let sent = ap (load_sent_for key) (sym same) in
             let a = ready-waits making number s s.held bytes rest line key n load old.stage middle.stage text tape there lines at refl reads sent none (idle-by values making.config s.latest lines.left sound made-same lines.stands) w.gathered_is in
-            let b = subst (λ u. RanReady making number s s.held bytes false false true (λ left. set_in (with_under_way u (dropping s)) left (waiting number line (behind_lines 1 rest) 1)) old.stage (stage values text tape))
+            let b = subst (λ u. RanReady making number s s.held bytes false false true (λ left. set_in (with_under_way u (dropping s)) left (waiting_with number line (behind_lines 1 rest) 1)) old.stage (stage values text tape))
             (joined number key s load sent ∙ ap (when_waiting number key) same ∙ sym w.loads_are) a in
-            subst (λ l. RanReady making number s s.held bytes false false true (λ left. set_in (with_under_way loads (dropping s)) left (waiting number l (behind_lines 1 rest) 1)) old.stage (stage values text tape)) said b;
+            subst (λ l. RanReady making number s s.held bytes false false true (λ left. set_in (with_under_way loads (dropping s)) left (waiting_with number l (behind_lines 1 rest) 1)) old.stage (stage values text tape)) said b;
         ends = has-line rest n at;
         frame = frame;
         fresh = fresh-with (step_silent number line load None [] ∷ []) (record { stage = stage values text tape; loads = loads }) w.gathered_is;

@@ -11,21 +11,21 @@ use Rattle.cache_commands.specs.Answered.{Agrees}
 use Rattle.cache_commands.specs.Right.{KeepsFrame}
 use Rattle.cache_lines.specs.Bases.{Seen}
 use Rattle.cache_lines.specs.Drawing.{StepsDraw, identifiers_in}
-use Rattle.cache_lines.specs.Gathered.{gather, gathered, IsFresh, Stage, spare_in}
+use Rattle.cache_lines.specs.Gathered.{gather, gathered, HasNothingOutside, LineStage, spare_in}
 use Rattle.cache_lines.specs.Lines.{ArePartedIn, IsThere, are_timely, ends_quit, holding, ready, set_in, situation_behind, with_drops}
 use Rattle.cache_lines.specs.Making.{Making, making_of}
 use Rattle.cache_lines.specs.Ordered.{OrdersSteps}
 use Rattle.cache_lines.specs.Ran.{RunsAs}
 use Rattle.cache_lines.specs.Tape.Taped.{step_held, Taped}
-use Rattle.cache_lines.specs.Waiting.{holding_load, loads_in, waiting, with_under_way}
+use Rattle.cache_lines.specs.Waiting.{holding_load, loads_in, waiting_with, with_under_way}
 use Rattle.cache_lines.specs.Whole.{has_line, held_line}
 use Rattle.cache_lines.specs.declared.looping.End.{End}
 use Rattle.cache_lines.specs.declared.running.LineOutcome.TheVariants.{Stays, Quits, Waits}
 use Rattle.cache_lines.specs.declared.looping.End.TheVariants as at
 
 -- the line with this many bytes at the front, without one carriage return
-abbrev pub line_at : List ℕ → ℕ → List ℕ
-line_at bytes n = without_return (take n bytes)
+abbrev pub line_in_front : List ℕ → ℕ → List ℕ
+line_in_front bytes n = without_return (take n bytes)
 
 -- these steps ran, and no load was joined
 pub record AddsSteps (steps : List Step) (old new : Seen) : Type 0 where
@@ -46,12 +46,12 @@ holds_back at.Held = true
 holds_back at.Waits = false
 holds_back at.Quit = false
 
-abbrev pub waits_now : End → Bool
-waits_now at.More = false
-waits_now at.TooLong = false
-waits_now at.Held = false
-waits_now at.Waits = true
-waits_now at.Quit = false
+abbrev pub ends_waiting : End → Bool
+ends_waiting at.More = false
+ends_waiting at.TooLong = false
+ends_waiting at.Held = false
+ends_waiting at.Waits = true
+ends_waiting at.Quit = false
 
 -- Lines stop at these bytes: less than a line is left, or more than a line may have; or a line is held back, or is a `LOAD` that begins to
 -- wait; or it is a `QUIT`, and has run.
@@ -60,16 +60,16 @@ StopsBy now number bytes at.More old new = IsPartial bytes × AddsSteps [] old n
 StopsBy now number bytes at.TooLong old new =
     (8192 < length (cut_at 10 bytes).0) × AddsSteps [] old new
 StopsBy now number bytes at.Held old new =
-    (n : ℕ) × IsLine bytes n × AddsSteps (step_held number (line_at bytes n) ∷ []) old new
+    (n : ℕ) × IsLine bytes n × AddsSteps (step_held number (line_in_front bytes n) ∷ []) old new
 StopsBy now number bytes at.Waits old new =
-    (n : ℕ) × IsLine bytes n × RunsAs now number (line_at bytes n) Waits old new
+    (n : ℕ) × IsLine bytes n × RunsAs now number (line_in_front bytes n) Waits old new
 StopsBy now number bytes at.Quit old new =
-    (n : ℕ) × IsLine bytes n × RunsAs now number (line_at bytes n) Quits old new
+    (n : ℕ) × IsLine bytes n × RunsAs now number (line_in_front bytes n) Quits old new
 
 -- the first line of the bytes ran, and has this many bytes, or lines stop at it
 abbrev pub RunsFirst : (now number : ℕ) (bytes : List ℕ) → Result ℕ End → (old new : Seen) → Type 0
 RunsFirst now number bytes (Ok n) old new =
-    IsLine bytes n × RunsAs now number (line_at bytes n) Stays old new
+    IsLine bytes n × RunsAs now number (line_in_front bytes n) Stays old new
 RunsFirst now number bytes (Err end) old new = StopsBy now number bytes end old new
 
 -- a line ran
@@ -101,13 +101,13 @@ abbrev pub left_by : ℕ → End → (times : ℕ) → List ℕ → Connection
 left_by number at.More times rest = ready number rest
 left_by number at.TooLong times rest = ready number rest
 left_by number at.Held times rest = holding number (held_line rest) (behind_lines 1 rest)
-left_by number at.Waits times rest = waiting number (held_line rest) (behind_lines 1 rest) times
+left_by number at.Waits times rest = waiting_with number (held_line rest) (behind_lines 1 rest) times
 left_by number at.Quit times rest = ready number rest
 
 -- Steps ran from this situation, all that these tasks made due; the last one may be held back, a `QUIT`, or a `LOAD` that waits. What they
 -- leave stands for this situation.
 pub record RanTasks (making : Making) (s : Situation) (tasks : List Task)
-    (quit is_held is_silent : Bool) (target : List HeldValue → Situation) (old new : Stage) :
+    (quit is_held is_silent : Bool) (target : List HeldValue → Situation) (old new : LineStage) :
     Type 0 where
   pub steps : List Step
   pub left : List HeldValue
@@ -125,7 +125,7 @@ pub record RanTasks (making : Making) (s : Situation) (tasks : List Task)
 -- lines of a connection that is ready ran
 abbrev pub RanReady : (making : Making) (number : ℕ) (base : Situation) (held : List HeldValue)
     (bytes : List ℕ) (quit is_held is_silent : Bool) (target : List HeldValue → Situation)
-    (old new : Stage) → Type 0
+    (old new : LineStage) → Type 0
 RanReady making number base held bytes quit is_held is_silent target old new =
     RanTasks making (set_in base held (ready number bytes)) (RunLines number ∷ []) quit is_held
     is_silent target old new
@@ -145,12 +145,12 @@ pub record RunsReady (now number : ℕ) (bytes rest : List ℕ) (end : End) (old
   pub ran : (s : Situation) → Agrees old.stage.values now s → IsThere number s
       → loads_in s ≡ old.loads
       → RanReady (making_of old.stage.values.frame) number s s.held bytes (ends_by_quit end)
-      (holds_back end) (waits_now end) (λ left. situation_behind (ends_by_quit end)
+      (holds_back end) (ends_waiting end) (λ left. situation_behind (ends_by_quit end)
       (with_under_way new.loads (with_drops new.stage.values.frame.dropped s)) left
       (left_by number end 1 rest)) old.stage new.stage
   pub ends : EndsFor end rest
   pub frame : KeepsFrame old.stage.values.frame new.stage.values.frame now
-  pub fresh : IsFresh (gathered new.stage)
+  pub fresh : HasNothingOutside (gathered new.stage)
 
 -- the connection with this number, which holds its first line back and began to wait for it this often, with these bytes and one more piece
 abbrev pub held_with : ℕ → ℕ → List ℕ → List ℕ → Connection

@@ -8,17 +8,17 @@ use Rattle.cache_store.specs.Values.{Values}
 use Rattle.cache_lines.specs.Tape.Taped.{Taped}
 
 -- what a line changes: the values, the replies written and not taken, and the tape
-pub record Stage : Type 1 where
+pub record LineStage : Type 1 where
   pub values : Values
   pub text : List ℕ
   pub tape : Option Taped
 
-abbrev pub stage : Values → List ℕ → Option Taped → Stage
+abbrev pub stage : Values → List ℕ → Option Taped → LineStage
 stage values text tape = record { values = values; text = text; tape = tape }
 
 -- a tape's records and steps, whatever room it has
-abbrev pub written : Taped → Taped
-written t =
+abbrev pub written_in : Taped → Taped
+written_in t =
     record { journal = t.journal; begun = t.begun; steps = t.steps; spare = 0; drafted = None }
 
 -- the replies written and not taken, what the tape keeps, if anything, and the notes reported and not taken
@@ -27,8 +27,8 @@ pub record Gathered : Type 0 where
   pub kept : Option Taped
   pub waiting : List Note
 
-abbrev pub gathered : Stage → Gathered
-gathered g = record { text = g.text; kept = option_map written g.tape; waiting = g.values.untaken }
+abbrev pub gathered : LineStage → Gathered
+gathered g = record { text = g.text; kept = option_map written_in g.tape; waiting = g.values.untaken }
 
 abbrev pub reply_in : Step → List ℕ
 reply_in step = unwrap_or step.reply []
@@ -57,8 +57,8 @@ gather g steps = go g.kept
     go (Some t) = record { text = g.text; kept = Some (adds steps t); waiting = g.waiting }
 
 -- if a record is made, nothing waits outside it
-abbrev pub IsFresh : Gathered → Type 0
-IsFresh g = MatchOption g.kept (Unit {0}) (λ t. (g.text ≡ []) × (g.waiting ≡ []))
+abbrev pub HasNothingOutside : Gathered → Type 0
+HasNothingOutside g = MatchOption g.kept (Unit {0}) (λ t. (g.text ≡ []) × (g.waiting ≡ []))
 
 -- how many lines can be added to the record without allocating, if one is made
 abbrev pub spare_in : Option Taped → Option ℕ

@@ -77,20 +77,20 @@ are_timely config made s tasks (step ∷ steps) =
 
 -- these steps of the connection's lines ran, each in its turn and right, each value in the part of its key, and each `SYNC` left timely
 -- values
-abbrev pub Runs : Making → ℕ → Situation → List Step → Situation → Type 0
-Runs making number s [] t = t ≡ s
-Runs making number s (step ∷ steps) t =
+abbrev pub RunsLines : Making → ℕ → Situation → List Step → Situation → Type 0
+RunsLines making number s [] t = t ≡ s
+RunsLines making number s (step ∷ steps) t =
     IsTrue (may_run_in s number) × IsTrue
     (is_right making.config (placed_step_in making.config s (Some (RunLines number)) step))
     × IsTrue (has_its_part making.part_of (effect_of_step making.config number s step))
     × IsTrue (is_timely_after making.config making.made (effect_of_step making.config number s step)
     (after_step making.config s (Some (RunLines number)) step
     (effect_of_step making.config number s step)))
-    × Runs making number (after_step making.config s (Some (RunLines number)) step
+    × RunsLines making number (after_step making.config s (Some (RunLines number)) step
     (effect_of_step making.config number s step)) steps t
 
 -- a step that does something only to values, and may close its connection; it joins no load
-pub record IsPlain (effect : Effect) (quit : Bool) : Type 0 where
+pub record TouchesOnlyValues (effect : Effect) (quit : Bool) : Type 0 where
   pub stays : is_held effect ≡ false
   pub quits : quits effect ≡ quit
   pub loads : (conn : ℕ) (s : Situation) → join_load conn effect s ≡ s

@@ -18,8 +18,8 @@ use Rattle.cache_store.specs.Running.{is_timely}
 use Rattle.audit_model.specs.declared.command.Command.TheVariants as says
 use Rattle.cache_lines.specs.Bases.{Seen}
 use Rattle.cache_lines.specs.Drawing.{StepDraws, StepsDraw, identifiers_in}
-use Rattle.cache_lines.specs.Gathered.{IsFresh, Stage, gather, gathered}
-use Rattle.cache_lines.specs.Lines.{IsPlain, Runs, ends_quit, has_its_part, ready, says_quit, set_in, situation_behind, with_drops}
+use Rattle.cache_lines.specs.Gathered.{HasNothingOutside, LineStage, gather, gathered}
+use Rattle.cache_lines.specs.Lines.{TouchesOnlyValues, RunsLines, ends_quit, has_its_part, ready, says_quit, set_in, situation_behind, with_drops}
 use Rattle.cache_lines.specs.Making.{Making, making_of}
 use Rattle.cache_lines.specs.Waiting.{load_sent_for, when_waiting}
 use Rattle.cache_lines.specs.Ordered.{HasKeys, OrdersLines}
@@ -28,13 +28,13 @@ use Rattle.cache_lines.specs.declared.running.LineOutcome.TheVariants.{Stays, Qu
 
 -- The line's step was right except for its turn, its values are held, and its reply and notes were gathered.
 pub record RanOne (making : Making) (number : ℕ) (s : Situation) (line : List ℕ) (quit : Bool)
-    (old new : Stage) : Type 0 where
+    (old new : LineStage) : Type 0 where
   pub reply : List ℕ
   pub accepted : Option Accepted
   pub told : List Note
   pub right : DoesRight making.config s (action_by (reading making.config line))
       (step_saying 0 [] reply accepted told)
-  pub plain : IsPlain (effect_in making.config (view_in making.config s)
+  pub plain : TouchesOnlyValues (effect_in making.config (view_in making.config s)
       (action_by (reading making.config line)) (step_saying number line reply accepted told)) quit
   pub says : says_quit (reading making.config line) ≡ quit
   pub parted : IsTrue
@@ -59,9 +59,9 @@ pub record RanOne (making : Making) (number : ℕ) (s : Situation) (line : List 
       ≡ gather (gathered old) (step_saying number line reply accepted told ∷ [])
 
 -- the line ran in each situation that the values stood for
-pub record RanLine (now number : ℕ) (line : List ℕ) (quit : Bool) (old new : Stage) : Type 0 where
+pub record RanLine (now number : ℕ) (line : List ℕ) (quit : Bool) (old new : LineStage) : Type 0 where
   pub frame : KeepsFrame old.values.frame new.values.frame now
-  pub fresh : IsFresh (gathered new)
+  pub fresh : HasNothingOutside (gathered new)
   pub ran : (s : Situation) → Agrees old.values now s
       → RanOne (making_of old.values.frame) number s line quit old new
 
@@ -96,11 +96,11 @@ begins_to_wait Waits = true
 -- From this situation, with these values held and these bytes unread, lines of the connection ran until those bytes were left, or the last
 -- one was a `QUIT`, and what they left is the result.
 pub record RanLines (making : Making) (number : ℕ) (base : Situation) (held : List HeldValue)
-    (bytes : List ℕ) (quit : Bool) (rest : List ℕ) (old new : Stage) : Type 0 where
+    (bytes : List ℕ) (quit : Bool) (rest : List ℕ) (old new : LineStage) : Type 0 where
   pub steps : List Step
   pub left : List HeldValue
   pub stands : new.values.Stands left
-  pub runs : Runs making number (set_in base held (ready number bytes)) steps
+  pub runs : RunsLines making number (set_in base held (ready number bytes)) steps
       (situation_behind quit (with_drops new.values.frame.dropped base) left (ready number rest))
   pub none_held : IsTrue (list_all (λ step. not step.held) steps)
   pub replied : IsTrue (list_all (λ step. is_some step.reply) steps)

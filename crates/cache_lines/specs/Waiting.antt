@@ -7,8 +7,8 @@ use Rattle.audit_model.specs.declared.command.Command.TheVariants as says
 use Rattle.cache_commands.specs.declared.loads.loads.Loads.{Loads}
 
 -- a connection whose `LOAD` waits, with these bytes unread after it, and how often it began to wait
-abbrev pub waiting : ℕ → List ℕ → List ℕ → ℕ → Connection
-waiting number line bytes times =
+abbrev pub waiting_with : ℕ → List ℕ → List ℕ → ℕ → Connection
+waiting_with number line bytes times =
     record { number = number; unread = bytes; standing = Waiting line; waited = times }
 
 -- a connection that holds a `LOAD` back that had begun to wait this often

@@ -1,8 +1,8 @@
 //! Lines, one after another.
 ghost use Rattle.std.specs.Prelude.{◌≡◌, ◌+◌, ◌≤◌, drop, false, true, length, IfErr, OnOk};
 ghost use Rattle.cache_commands.specs.Loads.Pending.{SameTaken};
-ghost use Rattle.cache_lines.specs.Bases.{CanRun, seen};
-ghost use Rattle.cache_lines.specs.Ended.{RunsReady, spare_of, RunsFirst, has_run, waits_now};
+ghost use Rattle.cache_lines.specs.Bases.{CanRun, seen_on};
+ghost use Rattle.cache_lines.specs.Ended.{RunsReady, spare_of, RunsFirst, has_run, ends_waiting};
 ghost use Rattle.cache_lines.specs.Gathered.{spare_in};
 ghost use Rattle.cache_lines.specs.Outputs.{IsRoomy};
 
@@ -37,11 +37,11 @@ fn run_first<S: Store, T: Tape>(
     bytes: &[u8],
     output: &mut ReplyBuffer,
 ) -> Result<usize, End>
-    requires { CanRun now (seen S.view T.view base.old output.old) }
-    ensures runs { RunsFirst now number bytes.now result (seen S.view T.view base.old output.old)
-        (seen S.view T.view base.new output.new) }
+    requires { CanRun now (seen_on S.view T.view base.old output.old) }
+    ensures runs { RunsFirst now number bytes.now result (seen_on S.view T.view base.old output.old)
+        (seen_on S.view T.view base.new output.new) }
     ensures rests { has_run result ≡ false → base.new.store ≡ base.old.store }
-    ensures room { IfErr result (λ end. waits_now end ≡ true → IsRoomy output.new) }
+    ensures room { IfErr result (λ end. ends_waiting end ≡ true → IsRoomy output.new) }
     ensures kept { OnOk result (spare_in (T.view base.new.tape) ≡ spare_in (T.view base.old.tape)) }
     ensures spare { spare_of (T.view base.old.tape) ≤ spare_of (T.view base.new.tape) + 1 }
     ensures goes { SameTaken base.old.loads base.new.loads }
@@ -81,11 +81,11 @@ pub fn run_bytes<S: Store, T: Tape>(
     bytes: &[u8],
     output: &mut ReplyBuffer,
 ) -> (usize, End)
-    requires { CanRun now (seen S.view T.view base.old output.old) }
+    requires { CanRun now (seen_on S.view T.view base.old output.old) }
     ensures ran { RunsReady now number bytes.now (drop result.0 bytes.now) result.1
-        (seen S.view T.view base.old output.old) (seen S.view T.view base.new output.new) }
+        (seen_on S.view T.view base.old output.old) (seen_on S.view T.view base.new output.new) }
     ensures used { result.0 ≤ length bytes.now }
-    ensures room { waits_now result.1 ≡ true → IsRoomy output.new }
+    ensures room { ends_waiting result.1 ≡ true → IsRoomy output.new }
     ensures spare { spare_of (T.view base.old.tape) ≤ spare_of (T.view base.new.tape) + 1 }
     ensures goes { SameTaken base.old.loads base.new.loads }
 {

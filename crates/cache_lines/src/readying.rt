@@ -1,8 +1,8 @@
 //! The lines of a connection that is ready.
 ghost use Rattle.std.specs.Prelude.{◌≡◌, ◌+◌, ◌≤◌, ◌++◌, [], drop, true, length};
 ghost use Rattle.cache_commands.specs.Loads.Pending.{SameTaken};
-ghost use Rattle.cache_lines.specs.Bases.{CanRun, seen};
-ghost use Rattle.cache_lines.specs.Ended.{RunsReady, spare_of, waits_now};
+ghost use Rattle.cache_lines.specs.Bases.{CanRun, seen_on};
+ghost use Rattle.cache_lines.specs.Ended.{RunsReady, spare_of, ends_waiting};
 ghost use Rattle.cache_lines.specs.Outputs.{IsRoomy};
 
 use crate::base::Base;
@@ -33,11 +33,11 @@ pub fn run_lines<S: Store, T: Tape>(
     piece: &[u8],
     output: &mut ReplyBuffer,
 ) -> End
-    requires can_run { CanRun now (seen S.view T.view base.old output.old) }
+    requires can_run { CanRun now (seen_on S.view T.view base.old output.old) }
     requires fits { length piece.now ≤ unread.old.room }
     ensures ran { RunsReady now number (unread.old.bytes ++ piece.now) unread.new.bytes result
-        (seen S.view T.view base.old output.old) (seen S.view T.view base.new output.new) }
-    ensures room { waits_now result ≡ true → IsRoomy output.new }
+        (seen_on S.view T.view base.old output.old) (seen_on S.view T.view base.new output.new) }
+    ensures room { ends_waiting result ≡ true → IsRoomy output.new }
     ensures spare { spare_of (T.view base.old.tape) ≤ spare_of (T.view base.new.tape) + 1 }
     ensures goes { SameTaken base.old.loads base.new.loads }
 {

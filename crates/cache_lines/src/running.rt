@@ -4,7 +4,7 @@ ghost use Rattle.audit_lines.specs.Request.{said};
 ghost use Rattle.audit_model.specs.declared.command.Command.TheVariants as says;
 ghost use Rattle.cache_commands.specs.Loads.Pending.{SameTaken};
 ghost use Rattle.cache_store.specs.Values.{IsMoment};
-ghost use Rattle.cache_lines.specs.Bases.{IsClear, LooksSame, seen};
+ghost use Rattle.cache_lines.specs.Bases.{IsClear, LooksSame, seen_on};
 ghost use Rattle.cache_lines.specs.Gathered.{spare_in};
 ghost use Rattle.cache_lines.specs.Lines.{says_quit};
 ghost use Rattle.cache_lines.specs.Outputs.{IsRoomy};
@@ -62,9 +62,9 @@ pub fn run_line<S: Store, T: Tape>(
 ) -> Result<LineOutcome, AllocError>
     requires in_time { IsMoment (S.view base.old.store) now }
     requires short { length line.now ≤ 8192 }
-    requires fresh { IsClear (seen S.view T.view base.old output.old) }
+    requires fresh { IsClear (seen_on S.view T.view base.old output.old) }
     ensures runs { IfOk result (λ done. RunsAs now number line.now done
-        (seen S.view T.view base.old output.old) (seen S.view T.view base.new output.new)) }
+        (seen_on S.view T.view base.old output.old) (seen_on S.view T.view base.new output.new)) }
     ensures waits { IfOk result (λ done. begins_to_wait done ≡ true →
         (base.new.store ≡ base.old.store) × IsRoomy output.new) }
     ensures refused { OnErr result

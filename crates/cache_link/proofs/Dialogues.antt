@@ -12,19 +12,19 @@ use Rattle.cache_run.proofs.driver.Exchanges.{chain-more}
 use Rattle.cache_run.proofs.driver.Interludes.{interlude-none}
 use Rattle.cache_run.specs.Devices.Sent.{SentBut}
 use Rattle.cache_run.specs.Devices.Sources.{Asking, Askings, Readings}
-use Rattle.cache_run.specs.Driver.Drives.{Rest, Talks, asked_of, late_of, lost_of}
-use Rattle.cache_run.specs.Driver.Exchanges.{Chain, Exchange, Outs, asks_of, askings_in, bytes_of, moments_in, pieces_in, replies_in, told_of}
+use Rattle.cache_run.specs.Driver.Drives.{LeftUndone, Talks, asked_of, late_of, lost_of}
+use Rattle.cache_run.specs.Driver.Exchanges.{Chain, Exchange, Outs, asks_of, askings_in, bytes_fed, moments_in, pieces_in, replies_in, readings_of}
 use Rattle.cache_run.specs.Driver.Interludes.{Interlude, Station, together}
 use Rattle.cache_run.specs.declared.driver.host.Host.{Ghosts as Ways}
-use Rattle.cache_link.specs.Dialogues.{Comes, ComesBehind, Dialogue, Wire}
+use Rattle.cache_link.specs.Dialogues.{ComesByExchange, ComesBehind, Dialogue, Wire}
 
 -- a byte that is read later
 abbrev pub sentinel : List ℕ
 sentinel = 0 ∷ []
 
 -- what was not fed, where nothing was refused
-pub lost-is : (rest : Rest) (inbox : List ℕ) → rest.refused ≡ None → rest.unfed ≡ inbox → lost_of rest ≡ inbox
-lost-is rest inbox accepted unfed = ap (λ z. option_map_or bytes_of z [] ++ rest.unfed) accepted ∙ unfed
+pub lost-is : (rest : LeftUndone) (inbox : List ℕ) → rest.refused ≡ None → rest.unfed ≡ inbox → lost_of rest ≡ inbox
+lost-is rest inbox accepted unfed = ap (λ z. option_map_or bytes_fed z [] ++ rest.unfed) accepted ∙ unfed
 
 -- readings and askings, cut in two
 pub readings-split : {C : Type 0} (reads : C → ℕ → C → Type 0) (c : C) (ts us : List ℕ) (e : C) → Readings reads c (ts ++ us) e → (d : C) × Readings reads c ts d × Readings reads d us e
@@ -41,15 +41,15 @@ same-together h k c d l m place clock loader = rw (place, clock, loader) refl
 module _ {X H K D : Type 0} (ways : Ways X H) (reads : K → ℕ → K → Type 0) (loads : D → List ℕ → Option Outcome → D → Type 0) (conn : Conn) where
   -- exchanges with the clock's readings, and with what the loader returned
   pub chain-station : (h : H) (hand : Outs) (xs : List Exchange) (k : H) (after : Outs) (c d : K) (l m : D) → Chain (ways.came conn) h hand xs k after → Readings reads c (moments_in xs) d → Askings loads l (askings_in xs) m
-      → Chain (Comes ways reads loads conn) (together h c l) hand xs (together k d m) after
+      → Chain (ComesByExchange ways reads loads conn) (together h c l) hand xs (together k d m) after
   chain-station h hand [] k after c d l m chain told asked = (same-together h k c d l m chain.0 told asked, chain.1)
   chain-station h hand (x ∷ xs) k after c d l m chain told asked =
-      let ts = readings-split reads c (told_of x.doing) (moments_in xs) d told in
+      let ts = readings-split reads c (readings_of x.doing) (moments_in xs) d told in
       let ks = askings-split loads l (asks_of x.doing) (askings_in xs) m asked in
       (together chain.0 ts.0 ks.0, chain.1, record { came = chain.2; told = ts.1; asked = ks.1 }, chain.3, chain-station chain.0 chain.1 xs k after ts.0 d ks.0 m chain.4 ts.2 ks.2)
 
   -- between them nobody had a turn
-  pub chain-behind : (p : Station H K D) (hand : Outs) (xs : List Exchange) (q : Station H K D) (after : Outs) → Chain (Comes ways reads loads conn) p hand xs q after → Chain (ComesBehind ways reads loads conn) p hand xs q after
+  pub chain-behind : (p : Station H K D) (hand : Outs) (xs : List Exchange) (q : Station H K D) (after : Outs) → Chain (ComesByExchange ways reads loads conn) p hand xs q after → Chain (ComesBehind ways reads loads conn) p hand xs q after
   chain-behind p hand [] q after chain = chain
   chain-behind p hand (x ∷ xs) q after chain = (chain.0, chain.1, record { begin = p; others = interlude-none ways reads loads conn p; comes = chain.2 }, chain.3, chain-behind chain.0 chain.1 xs q after chain.4)
 
@@ -61,7 +61,7 @@ module _ {X H K D : Type 0} (ways : Ways X H) (reads : K → ℕ → K → Type 
 
   -- exchanges that follow those before others' turns
   pub chain-after : (start : Station H K D) (xs : List Exchange) (last now : Station H K D) (ys : List Exchange) (q : Station H K D) (after : Outs) → Chain (ComesBehind ways reads loads conn) start [] xs last [] → Interlude ways reads loads conn last now
-      → Chain (Comes ways reads loads conn) now [] ys q after → Follows start (xs ++ ys) q after
+      → Chain (ComesByExchange ways reads loads conn) now [] ys q after → Follows start (xs ++ ys) q after
   chain-after start xs last now [] q after before others chain =
       let same : xs ≡ xs ++ [] = sym (append-nil xs) in
       record {
@@ -78,7 +78,7 @@ module _ {X H K D : Type 0} (ways : Ways X H) (reads : K → ℕ → K → Type 
       }
 
   -- exchanges that took place without others, up to what was refused
-  pub follows-talks : (start last now : Station H K D) (xs : List Exchange) (k : H) (x y : Option (List ℕ)) (u v : Option (List ℕ)) (c : K) (l : D) (hand : Outs) (left : Rest) → Chain (ComesBehind ways reads loads conn) start [] xs last [] → Interlude ways reads loads conn last now
+  pub follows-talks : (start last now : Station H K D) (xs : List Exchange) (k : H) (x y : Option (List ℕ)) (u v : Option (List ℕ)) (c : K) (l : D) (hand : Outs) (left : LeftUndone) → Chain (ComesBehind ways reads loads conn) start [] xs last [] → Interlude ways reads loads conn last now
       → (talks : Talks (ways.came conn) reads loads now.place k (record { remaining = x; contents = y; clock = now.clock; loader = now.loader }) (record { remaining = u; contents = v; clock = c; loader = l }) [] hand left)
       → (q : Station H K D) × Follows start (xs ++ talks.exchanges) q hand × (late_of left ≡ [] → asked_of left ≡ [] → q ≡ together k c l)
   follows-talks start last now xs k x y u v c l hand left before others talks =
@@ -90,8 +90,8 @@ module _ {X H K D : Type 0} (ways : Ways X H) (reads : K → ℕ → K → Type 
       )
 
   -- A dialogue goes on: exchanges feed what is in an inbox, and what is owed is gathered behind what was there.
-  module _ (start last now : Station H K D) (a b : Wire) (rest : Rest) (inbox : List ℕ) (dialogue : Dialogue ways reads loads conn start last a b [] rest) (others : Interlude ways reads loads conn last now) (accepted : rest.refused ≡ None) (unfed : rest.unfed ≡ inbox) (unsent : rest.unsent ≡ []) (nothing : rest.untaken ≡ 0) where
-    abbrev pub dialogue-more : (k : H) (before gathered : List ℕ) (c : K) (l : D) (hand : Outs) (left : Rest) → before ≡ [] → (talks : Talks (ways.came conn) reads loads now.place k (record { remaining = Some (inbox ++ sentinel); contents = Some before; clock = now.clock; loader = now.loader }) (record { remaining = Some sentinel; contents = Some gathered; clock = c; loader = l }) [] hand left)
+  module _ (start last now : Station H K D) (a b : Wire) (rest : LeftUndone) (inbox : List ℕ) (dialogue : Dialogue ways reads loads conn start last a b [] rest) (others : Interlude ways reads loads conn last now) (accepted : rest.refused ≡ None) (unfed : rest.unfed ≡ inbox) (unsent : rest.unsent ≡ []) (nothing : rest.untaken ≡ 0) where
+    abbrev pub dialogue-more : (k : H) (before gathered : List ℕ) (c : K) (l : D) (hand : Outs) (left : LeftUndone) → before ≡ [] → (talks : Talks (ways.came conn) reads loads now.place k (record { remaining = Some (inbox ++ sentinel); contents = Some before; clock = now.clock; loader = now.loader }) (record { remaining = Some sentinel; contents = Some gathered; clock = c; loader = l }) [] hand left)
         → (q : Station H K D) (follows : Follows start (dialogue.exchanges ++ talks.exchanges) q hand) → Dialogue ways reads loads conn start follows.last a b hand (record left { unsent = gathered ++ left.unsent })
     dialogue-more k before gathered c l hand left none talks q follows =
         let xs = dialogue.exchanges in
@@ -101,7 +101,7 @@ module _ {X H K D : Type 0} (ways : Ways X H) (reads : K → ℕ → K → Type 
           exchanges = xs ++ ys;
           chain = follows.chain;
           read = subst (Consumes a.remaining b.remaining)
-              (ap (λ z. pieces_in xs ++ z) (lost-is rest inbox accepted unfed ∙ append_cancel_right inbox (pieces_in ys ++ lost) sentinel talks.read) ∙ sym (append_assoc (pieces_in xs) (pieces_in ys) lost) ∙ ap (λ z. z ++ lost) (sym (flat_map-append (λ (e : Exchange). bytes_of e.doing) xs ys))) dialogue.read;
+              (ap (λ z. pieces_in xs ++ z) (lost-is rest inbox accepted unfed ∙ append_cancel_right inbox (pieces_in ys ++ lost) sentinel talks.read) ∙ sym (append_assoc (pieces_in xs) (pieces_in ys) lost) ∙ ap (λ z. z ++ lost) (sym (flat_map-append (λ (e : Exchange). bytes_fed e.doing) xs ys))) dialogue.read;
           sent = dialogue.sent;
           wrote = dialogue.wrote;
           replies =
@@ -112,7 +112,7 @@ module _ {X H K D : Type 0} (ways : Ways X H) (reads : K → ℕ → K → Type 
         }
 
   -- some of what is owed was written
-  abbrev pub dialogue-sent : (start last : Station H K D) (a b : Wire) (hand : Outs) (rest : Rest) (backlog left lost : List ℕ) (c : Option (List ℕ)) → SentBut left backlog b.contents c → rest.unsent ≡ backlog ++ lost → Dialogue ways reads loads conn start last a b hand rest
+  abbrev pub dialogue-sent : (start last : Station H K D) (a b : Wire) (hand : Outs) (rest : LeftUndone) (backlog left lost : List ℕ) (c : Option (List ℕ)) → SentBut left backlog b.contents c → rest.unsent ≡ backlog ++ lost → Dialogue ways reads loads conn start last a b hand rest
       → Dialogue ways reads loads conn start last a (record b { contents = c }) hand (record rest { unsent = left ++ lost })
   dialogue-sent start last a b hand rest backlog left lost c wrote unsent x = record {
     exchanges = x.exchanges;

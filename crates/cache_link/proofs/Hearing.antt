@@ -1,9 +1,9 @@
 -- What is left of a report.
 use Rattle.std.proofs.Common.{◌≡◌, ℕ, ◌<◌, List, Option, Bool, true, false, refl, sym, ◌∙◌, arith, inl, inr, Result, Ok, Err, MatchResult}
 use Rattle.std.specs.declared.io.Error.{Error}
-use Rattle.cache_run.specs.Devices.Failures.{counted}
+use Rattle.cache_run.specs.Devices.Failures.{failures_after}
 use Rattle.cache_run.specs.Driver.Causes.{Obtains}
-use Rattle.cache_link.specs.Patience.{device, would_wait_by}
+use Rattle.cache_link.specs.Patience.{device_of, would_wait_by}
 use Rattle.cache_link.specs.Reports.{Hears, HearsOf, TakesFew, report_after}
 use Rattle.cache_link.specs.declared.link.Report.{Report}
 use Rattle.cache_link.specs.declared.link.Report.TheVariants.{Nothing, Bytes, End}
@@ -41,12 +41,12 @@ module _ {R : Type 0} (remaining : R → Option (List ℕ)) (before after : Repo
   }
 
   -- a report of which something was read
-  pub hears-read : (filled : Result ℕ Error) (bytes : List ℕ) → HearsOf filled before after → is.waited ≡ counted (would_wait_by filled) was.waited → Obtains (remaining (device was)) (remaining (device is)) bytes filled → Hears remaining before after was is
+  pub hears-read : (filled : Result ℕ Error) (bytes : List ℕ) → HearsOf filled before after → is.waited ≡ failures_after (would_wait_by filled) was.waited → Obtains (remaining (device_of was)) (remaining (device_of is)) bytes filled → Hears remaining before after was is
   hears-read filled bytes heard count got = record {
     ending = λ end. elim (heard.ending end) [ inl same ↦ inl same | inr wait ↦ inr (counted-fails (would_wait_by filled) was.waited is.waited count wait) ];
     bytes = λ some none. elim (heard.bytes some none) [
       | inl wait ↦ inl (counted-fails (would_wait_by filled) was.waited is.waited count wait)
-      | inr few ↦ inr (takes-few (remaining (device was)) (remaining (device is)) bytes filled few got)
+      | inr few ↦ inr (takes-few (remaining (device_of was)) (remaining (device_of is)) bytes filled few got)
     ];
   }
 

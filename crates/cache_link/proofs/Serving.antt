@@ -8,9 +8,9 @@ use Rattle.audit_model.specs.declared.input.Conn.{Conn}
 use Rattle.cache_run.proofs.devices.Sending.{consumes_more, same_appends, same_consumes}
 use Rattle.cache_run.proofs.driver.Interludes.{interlude-more, interlude-none}
 use Rattle.cache_run.specs.Devices.Sent.{SentBut}
-use Rattle.cache_run.specs.Driver.Driven.{ComesTo as DriverComesTo, Finished, Stopped, Underway, unfed}
-use Rattle.cache_run.specs.Driver.Drives.{Outside, Rest, Talks, lost_of, no_rest}
-use Rattle.cache_run.specs.Driver.Exchanges.{HaveClosed, Outs, asks_of, pieces_in, told_of}
+use Rattle.cache_run.specs.Driver.Driven.{ComesToProgress as DriverComesTo, Finished, Stopped, Underway, unfed}
+use Rattle.cache_run.specs.Driver.Drives.{Outside, LeftUndone, Talks, lost_of, no_rest}
+use Rattle.cache_run.specs.Driver.Exchanges.{HaveClosed, Outs, asks_of, pieces_in, readings_of}
 use Rattle.cache_run.specs.Driver.Causes.{Because}
 use Rattle.cache_run.specs.Driver.Interludes.{Interlude, Station, together}
 use Rattle.cache_run.specs.declared.devices.errors.RunError.{RunError}
@@ -21,8 +21,8 @@ use Rattle.cache_run.specs.declared.driver.host.Host.{Ghosts as Ways}
 use Rattle.cache_run.specs.declared.driver.session.Footing.TheVariants.{Closed, Ready}
 use Rattle.cache_run.specs.declared.driver.session.Session.{Session}
 use Rattle.cache_link.specs.Dialogues.{Dialogue, Wire}
-use Rattle.cache_link.specs.Served.{Fetched, HasJustOpened, IsAlike, IsAnswered, IsBroken, IsGoing, IsServed}
-use Rattle.cache_link.specs.Patience.{device}
+use Rattle.cache_link.specs.Served.{Fetched, HasJustOpened, IsAlike, FeedsNoMore, IsBroken, IsGoing, IsServed}
+use Rattle.cache_link.specs.Patience.{device_of}
 use Rattle.cache_link.specs.declared.link.Link.{Link}
 use Rattle.cache_link.specs.declared.patient.Patient.{Patient}
 use Rattle.cache_link.proofs.Closing.{closed-more}
@@ -73,7 +73,7 @@ module _ {X H K D : Type 0} (ways : Ways X H) (reads : K → ℕ → K → Type 
     second = record { remaining = Some sentinel; contents = Some gathered; clock = q.clock; loader = q.loader }
 
     -- an answer of which all was taken
-    answered-none : (k : H) (left : Rest) → left.unsent ≡ [] → left.untaken ≡ 0 → (talks : Talks (ways.came t.session.conn) reads loads p.place k first second [] [] left)
+    answered-none : (k : H) (left : LeftUndone) → left.unsent ≡ [] → left.untaken ≡ 0 → (talks : Talks (ways.came t.session.conn) reads loads p.place k first second [] [] left)
         → (t.is_over ≡ false → (k ≡ q.place) × (left.refused ≡ None) × (left.unfed ≡ t.session.inbox) × (t.session.taken.items ≡ []) × (t.session.footing ≢ Closed)) → (t.is_over ≡ true → HaveClosed talks.exchanges ⊎ (left.refused ≢ None)) → IsServed ways reads loads start a t q b
     answered-none k left written taken talks stays over =
         let xs = moved.0.exchanges in
@@ -87,7 +87,7 @@ module _ {X H K D : Type 0} (ways : Ways X H) (reads : K → ℕ → K → Type 
           going = λ still.
               let facts = stays still in
               record {
-                others = subst (λ z. Interlude ways reads loads t.session.conn g.1.last z) (g.2 (ap (λ z. option_map_or told_of z []) facts.1) (ap (λ z. option_map_or asks_of z []) facts.1) ∙ ap (λ z. together z q.clock q.loader) facts.0) g.1.others;
+                others = subst (λ z. Interlude ways reads loads t.session.conn g.1.last z) (g.2 (ap (λ z. option_map_or readings_of z []) facts.1) (ap (λ z. option_map_or asks_of z []) facts.1) ∙ ap (λ z. together z q.clock q.loader) facts.0) g.1.others;
                 accepted = facts.1;
                 unfed = facts.2;
                 idle = facts.3;
@@ -217,22 +217,22 @@ module _ {X H K D : Type 0} (ways : Ways X H) (reads : K → ℕ → K → Type 
 
   -- more was read of it, or nothing more is read
   pub served-fetched : {R : Type 0} (remaining : R → Option (List ℕ)) (was is : Patient R) (start : Station H K D) (a : Wire) (s t : Link) (p : Station H K D) (w : Option (List ℕ)) → s.is_over ≡ false → Fetched remaining was is s t
-      → IsServed ways reads loads start a s p (record { remaining = remaining (device was); contents = w }) → IsServed ways reads loads start a t p (record { remaining = remaining (device is); contents = w })
+      → IsServed ways reads loads start a s p (record { remaining = remaining (device_of was); contents = w }) → IsServed ways reads loads start a t p (record { remaining = remaining (device_of is); contents = w })
   served-fetched remaining was is start a s t p w goes f x =
       let g = x.going goes in
-      let There : Conn → Type 0 = λ conn. Dialogue ways reads loads conn start x.last a (record { remaining = remaining (device was); contents = w }) [] x.rest × Interlude ways reads loads conn x.last p in
+      let There : Conn → Type 0 = λ conn. Dialogue ways reads loads conn start x.last a (record { remaining = remaining (device_of was); contents = w }) [] x.rest × Interlude ways reads loads conn x.last p in
       let d : There t.session.conn = subst There (sym f.conn) (x.dialogue, g.others) in
       let xs = d.0.exchanges in
-      let left : Rest = record x.rest { unfed = t.session.inbox } in
+      let left : LeftUndone = record x.rest { unfed = t.session.inbox } in
       record {
         last = x.last;
         rest = left;
         dialogue = record {
           exchanges = xs;
           chain = d.0.chain;
-          read = subst (Consumes a.remaining (remaining (device is)))
+          read = subst (Consumes a.remaining (remaining (device_of is)))
               (append_assoc (pieces_in xs) (lost_of x.rest) f.piece ∙ ap (λ z. pieces_in xs ++ z) (ap (λ z. z ++ f.piece) (lost-is x.rest s.session.inbox g.accepted g.unfed) ∙ sym f.whole ∙ sym (lost-is left t.session.inbox g.accepted refl)))
-              (consumes_more a.remaining (remaining (device was)) (remaining (device is)) (pieces_in xs ++ lost_of x.rest) f.piece d.0.read f.bytes);
+              (consumes_more a.remaining (remaining (device_of was)) (remaining (device_of is)) (pieces_in xs ++ lost_of x.rest) f.piece d.0.read f.bytes);
           sent = d.0.sent;
           wrote = d.0.wrote;
           replies = d.0.replies;
@@ -247,7 +247,7 @@ module _ {X H K D : Type 0} (ways : Ways X H) (reads : K → ℕ → K → Type 
   -- a link that is alike
   pub served-alike : (start : Station H K D) (a : Wire) (s t : Link) (p : Station H K D) (b : Wire) → IsAlike s t → IsServed ways reads loads start a s p b → IsServed ways reads loads start a t p b
   served-alike start a s t p b f x =
-      let There : Conn → Type 0 = λ conn. (d : Dialogue ways reads loads conn start x.last a b [] x.rest) × (s.is_over ≡ false → Interlude ways reads loads conn x.last p) × (s.is_over ≡ true → IsAnswered s b d.exchanges x.rest) in
+      let There : Conn → Type 0 = λ conn. (d : Dialogue ways reads loads conn start x.last a b [] x.rest) × (s.is_over ≡ false → Interlude ways reads loads conn x.last p) × (s.is_over ≡ true → FeedsNoMore s b d.exchanges x.rest) in
       let d : There t.session.conn = subst There (sym f.conn) (x.dialogue, (λ still. (x.going still).others), x.over) in
       record {
         last = x.last;

@@ -34,19 +34,15 @@ is_broken_at piece (Ok n) = n == 0 && not (length piece == 0)
 is_broken_at piece (Err e) = not (is_for_now (error_kind e))
 
 -- the device itself
-abbrev pub device : {T : Type 0} → Patient T → T
-device patient = patient.inner
+abbrev pub device_of : {T : Type 0} → Patient T → T
+device_of patient = patient.inner
 
 -- it broke down in between, unless its count was full
 abbrev pub BreaksDown : {T : Type 0} → (was is : Patient T) → Type 0
 BreaksDown was is = HasFailed was.broken is.broken
 
--- a read of it would have had to wait in between, unless its count was full
-abbrev pub HasWaited : {T : Type 0} → (was is : Patient T) → Type 0
-HasWaited was is = HasFailed was.waited is.waited
-
 -- bytes may have been written to it in between
 pub record WritesOn {T : Type 0} (contents : T → Option (List ℕ)) (was is : Patient T) : Type 0 where
   pub later : was.broken ≤ is.broken
   pub more : List ℕ
-  pub wrote : Appends (contents (device was)) (contents (device is)) more
+  pub wrote : Appends (contents (device_of was)) (contents (device_of is)) more

@@ -2,7 +2,8 @@
 use Rattle.std.specs.Prelude.{◌≡◌, ◌<◌, ◌⊎◌, ℕ, Bool, true, false, if◌then◌else◌, List, length, Option, Result, MatchResult}
 use Rattle.std.specs.Io.KnownBytes.{Consumes}
 use Rattle.std.specs.declared.io.Error.{Error}
-use Rattle.cache_link.specs.Patience.{HasWaited, device, would_wait_by}
+use Rattle.cache_link.specs.Patience.{device_of, would_wait_by}
+use Rattle.cache_run.specs.Devices.Failures.{HasFailed}
 use Rattle.cache_link.specs.declared.link.Report.{Report}
 use Rattle.cache_link.specs.declared.link.Report.TheVariants.{Nothing, Bytes, End}
 use Rattle.cache_link.specs.declared.patient.Patient.{Patient}
@@ -38,6 +39,6 @@ TakesFew before after =
 -- took fewer than there was room for.
 pub record Hears {R : Type 0} (remaining : R → Option (List ℕ)) (before after : Report)
     (was is : Patient R) : Type 0 where
-  pub ending : before ≡ End → (after ≡ End) ⊎ HasWaited was is
-  pub bytes : before ≡ Bytes → after ≡ Nothing → HasWaited was is
-      ⊎ TakesFew (remaining (device was)) (remaining (device is))
+  pub ending : before ≡ End → (after ≡ End) ⊎ HasFailed was.waited is.waited
+  pub bytes : before ≡ Bytes → after ≡ Nothing → HasFailed was.waited is.waited
+      ⊎ TakesFew (remaining (device_of was)) (remaining (device_of is))

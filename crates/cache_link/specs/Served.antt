@@ -2,14 +2,14 @@
 use Rattle.std.specs.Prelude.{◌≡◌, ◌≢◌, ◌≤◌, ◌⊎◌, ◌++◌, ℕ, true, false, List, [], Option, None, Result, MatchResult, Ok}
 use Rattle.std.specs.Io.KnownBytes.{Appends, Consumes, IsAtEnd}
 use Rattle.audit_model.specs.declared.event.Outcome.{Outcome}
-use Rattle.cache_run.specs.Driver.Drives.{Rest, lost_of}
+use Rattle.cache_run.specs.Driver.Drives.{LeftUndone, lost_of}
 use Rattle.cache_run.specs.Driver.Exchanges.{Exchange, HaveClosed, Outs}
 use Rattle.cache_run.specs.Driver.Interludes.{Interlude, Station}
 use Rattle.cache_run.specs.declared.devices.errors.RunError.{RunError}
 use Rattle.cache_run.specs.declared.driver.host.Host.{Ghosts as Ways}
 use Rattle.cache_run.specs.declared.driver.session.Footing.TheVariants.{Ready, Closed}
 use Rattle.cache_link.specs.Dialogues.{Dialogue, Wire}
-use Rattle.cache_link.specs.Patience.{device}
+use Rattle.cache_link.specs.Patience.{device_of}
 use Rattle.cache_link.specs.declared.link.Link.{Link}
 use Rattle.cache_link.specs.declared.link.Next.{Next}
 use Rattle.cache_link.specs.declared.link.Next.TheVariants.{Over}
@@ -25,7 +25,7 @@ station place tools = record { place = place; clock = tools.clock; loader = tool
 abbrev pub wire : {R W : Type 0} → (R → Option (List ℕ)) → (W → Option (List ℕ)) → Patient R
     → Patient W → Wire
 wire remaining contents reader writer =
-    record { remaining = remaining (device reader); contents = contents (device writer) }
+    record { remaining = remaining (device_of reader); contents = contents (device_of writer) }
 
 -- only more was read of it, if all that was read had been fed; or nothing more is read
 pub record Fetched {R : Type 0} (remaining : R → Option (List ℕ)) (was is : Patient R)
@@ -36,9 +36,9 @@ pub record Fetched {R : Type 0} (remaining : R → Option (List ℕ)) (was is : 
   pub backlog : t.backlog ≡ s.backlog
   pub piece : List ℕ
   pub whole : t.session.inbox ≡ s.session.inbox ++ piece
-  pub bytes : Consumes (remaining (device was)) (remaining (device is)) piece
+  pub bytes : Consumes (remaining (device_of was)) (remaining (device_of is)) piece
   pub over : t.is_over ≡ true → (t.session.inbox ≡ [])
-      × (IsAtEnd (remaining (device is)) ⊎ (t.is_stopped ≡ true))
+      × (IsAtEnd (remaining (device_of is)) ⊎ (t.is_stopped ≡ true))
 
 -- nothing was done for it, and nothing was read or written
 pub record IsAlike (s t : Link) : Type 0 where
@@ -66,19 +66,19 @@ abbrev pub WritesFirst : {H K D R W : Type 0} → (W → Option (List ℕ)) → 
     → Station H K D → Patient R → Patient R → Patient W → Patient W → Type 0
 WritesFirst contents s p q reader reader' writer writer' =
     ((more : List ℕ)
-    × Appends (contents (device writer)) (contents (device writer')) (s.backlog ++ more))
+    × Appends (contents (device_of writer)) (contents (device_of writer')) (s.backlog ++ more))
     ⊎ ((q ≡ p) × (reader' ≡ reader))
 
 -- Nothing more is fed: the input is at its end, or nothing more is read of it, and all that was read was fed; or the connection has closed;
 -- or others had closed it, so that something was refused.
-abbrev pub IsAnswered : Link → Wire → List Exchange → Rest → Type 0
-IsAnswered link b exchanges rest =
+abbrev pub FeedsNoMore : Link → Wire → List Exchange → LeftUndone → Type 0
+FeedsNoMore link b exchanges rest =
     ((lost_of rest ≡ []) × (IsAtEnd b.remaining ⊎ (link.is_stopped ≡ true)))
     ⊎ HaveClosed exchanges ⊎ (rest.refused ≢ None)
 
 module _ {X H K D : Type 0} (ways : Ways X H) (reads : K → ℕ → K → Type 0) (loads : D → List ℕ → Option Outcome → D → Type 0) where
   -- more of it may be fed: what was read and not fed is in its inbox, and no load is in hand; then others have their turns
-  pub record IsGoing (link : Link) (last now : Station H K D) (rest : Rest) : Type 0 where
+  pub record IsGoing (link : Link) (last now : Station H K D) (rest : LeftUndone) : Type 0 where
     pub others : Interlude ways reads loads link.session.conn last now
     pub accepted : rest.refused ≡ None
     pub unfed : rest.unfed ≡ link.session.inbox
@@ -89,12 +89,12 @@ module _ {X H K D : Type 0} (ways : Ways X H) (reads : K → ℕ → K → Type 
   pub record IsServed (start : Station H K D) (a : Wire) (link : Link) (now : Station H K D)
       (b : Wire) : Type 0 where
     pub last : Station H K D
-    pub rest : Rest
+    pub rest : LeftUndone
     pub dialogue : Dialogue ways reads loads link.session.conn start last a b [] rest
     pub unsent : rest.unsent ≡ link.backlog
     pub all_taken : rest.untaken ≡ 0
     pub going : link.is_over ≡ false → IsGoing link last now rest
-    pub over : link.is_over ≡ true → IsAnswered link b dialogue.exchanges rest
+    pub over : link.is_over ≡ true → FeedsNoMore link b dialogue.exchanges rest
 
   -- and all that it was owed is written, and nothing more is fed
   pub record IsFinished (start : Station H K D) (a : Wire) (link : Link) (now : Station H K D)
@@ -107,7 +107,7 @@ module _ {X H K D : Type 0} (ways : Ways X H) (reads : K → ℕ → K → Type 
   pub record IsBroken (start : Station H K D) (a : Wire) (link : Link) (b : Wire) : Type 0 where
     pub last : Station H K D
     pub hand : Outs
-    pub rest : Rest
+    pub rest : LeftUndone
     pub dialogue : Dialogue ways reads loads link.session.conn start last a b hand rest
     pub held : link.is_over ≡ false → hand ≡ link.session.taken.items
     pub lost : List ℕ
@@ -143,9 +143,9 @@ module _ {X H K D : Type 0} (ways : Ways X H) (reads : K → ℕ → K → Type 
       → Link → Station H K D → Station H K D → Patient R → Patient R → Type 0
   Works remaining result s t p q was is =
       (start : Station H K D) → (a : Wire) → (contents : Option (List ℕ))
-      → IsServed start a s p (record { remaining = remaining (device was); contents = contents })
+      → IsServed start a s p (record { remaining = remaining (device_of was); contents = contents })
       → Continued result start a t q
-      (record { remaining = remaining (device is); contents = contents })
+      (record { remaining = remaining (device_of is); contents = contents })
 
   -- and nothing is read
   abbrev pub Attends : Result (Unit {0}) RunError → Link → Link → Station H K D → Station H K D

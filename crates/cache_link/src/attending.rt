@@ -2,7 +2,7 @@
 ghost use Rattle.std.specs.Prelude.{◌≡◌, [], IfOk, IfErr};
 ghost use Rattle.cache_run.specs.Devices.Sources.{HasToldLate};
 ghost use Rattle.cache_run.specs.Driver.Causes.{Because};
-ghost use Rattle.cache_run.specs.Driver.Driven.{Holds, Turns, spot};
+ghost use Rattle.cache_run.specs.Driver.Driven.{HoldsSession, TurnsUnread, spot};
 ghost use Rattle.cache_run.specs.Driver.Interludes.{InterludeBut, together};
 
 use cache_run::{
@@ -19,10 +19,10 @@ fn take_step<H: Host, O: Write, K: Clock, D: Loader>(
     clock: &mut K,
     loader: &mut D,
 ) -> Result<Progress, RunError>
-    requires known { Holds H.LENT H.knows session.old place.old }
-    ensures known { Holds H.LENT H.knows session.new place.new
+    requires known { HoldsSession H.LENT H.knows session.old place.old }
+    ensures known { HoldsSession H.LENT H.knows session.new place.new
         × (session.new.conn ≡ session.old.conn) }
-    ensures goes { Turns H.Host K.reads D.loads result session.old session.new
+    ensures goes { TurnsUnread H.Host K.reads D.loads result session.old session.new
         (spot O.contents place.old writer.old clock.old loader.old)
         (spot O.contents place.new writer.new clock.new loader.new) }
     ensures among { InterludeBut H.Host K.reads D.loads session.old.conn
@@ -45,10 +45,10 @@ fn settle_all<H: Host, O: Write, K: Clock, D: Loader>(
     clock: &mut K,
     loader: &mut D,
 ) -> Result<Progress, RunError>
-    requires known { Holds H.LENT H.knows session.old place.old }
-    ensures known { Holds H.LENT H.knows session.new place.new
+    requires known { HoldsSession H.LENT H.knows session.old place.old }
+    ensures known { HoldsSession H.LENT H.knows session.new place.new
         × (session.new.conn ≡ session.old.conn) }
-    ensures goes { Turns H.Host K.reads D.loads result session.old session.new
+    ensures goes { TurnsUnread H.Host K.reads D.loads result session.old session.new
         (spot O.contents place.old writer.old clock.old loader.old)
         (spot O.contents place.new writer.new clock.new loader.new) }
     ensures among { InterludeBut H.Host K.reads D.loads session.old.conn
@@ -80,10 +80,10 @@ pub fn attend<H: Host, O: Write, K: Clock, D: Loader>(
     clock: &mut K,
     loader: &mut D,
 ) -> Result<Progress, RunError>
-    requires known { Holds H.LENT H.knows session.old place.old }
-    ensures known { Holds H.LENT H.knows session.new place.new
+    requires known { HoldsSession H.LENT H.knows session.old place.old }
+    ensures known { HoldsSession H.LENT H.knows session.new place.new
         × (session.new.conn ≡ session.old.conn) }
-    ensures goes { Turns H.Host K.reads D.loads result session.old session.new
+    ensures goes { TurnsUnread H.Host K.reads D.loads result session.old session.new
         (spot O.contents place.old writer.old clock.old loader.old)
         (spot O.contents place.new writer.new clock.new loader.new) }
     ensures among { InterludeBut H.Host K.reads D.loads session.old.conn

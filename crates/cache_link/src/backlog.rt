@@ -1,7 +1,7 @@
 //! Replies that were not written.
 ghost use Rattle.std.specs.Prelude.{◌≡◌, ◌==◌, ◌≤◌, [], true, drop, length, IfErr, IfOk};
 ghost use Rattle.cache_run.specs.Devices.Sent.{SentBut};
-ghost use Rattle.cache_link.specs.Patience.{BreaksDown, device};
+ghost use Rattle.cache_link.specs.Patience.{BreaksDown, device_of};
 
 use crate::patient::{Patient, is_for_now, would_wait};
 use cache_run::RunError;
@@ -63,8 +63,8 @@ impl Backlog {
 
     /// Writes as much as the writer takes at once, and returns whether that is all. Returns `Write` if the writer broke down.
     pub fn write_to<W: Write>(&mut self, writer: &mut Patient<W>) -> Result<bool, RunError>
-        ensures sent { SentBut self.new self.old (W.contents (device writer.old))
-            (W.contents (device writer.new)) }
+        ensures sent { SentBut self.new self.old (W.contents (device_of writer.old))
+            (W.contents (device_of writer.new)) }
         ensures all { IfOk result (λ done. done ≡ true → self.new ≡ []) }
         ensures why { IfErr result
             (λ e. (e ≡ RunError.Write) × BreaksDown writer.old writer.new) }

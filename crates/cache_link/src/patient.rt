@@ -3,9 +3,9 @@ ghost use Rattle.std.specs.Prelude.{◌≡◌, ◌≤◌, ◌<◌, [], false, no
 ghost use Rattle.std.specs.Io.{WritesAtMost};
 ghost use Rattle.std.specs.Io.KnownBytes.{WriteAppends};
 ghost use Rattle.std.specs.IoError.{error_kind};
-ghost use Rattle.cache_run.specs.Devices.Failures.{counted};
+ghost use Rattle.cache_run.specs.Devices.Failures.{failures_after};
 ghost use Rattle.cache_run.specs.Driver.Causes.{Obtains};
-ghost use Rattle.cache_link.specs.Patience.{BreaksDown, device, is_broken_at, is_broken_by, is_for_now, would_wait, would_wait_by};
+ghost use Rattle.cache_link.specs.Patience.{BreaksDown, device_of, is_broken_at, is_broken_by, is_for_now, would_wait, would_wait_by};
 
 use cache_run::Inbox;
 use std::io;
@@ -38,7 +38,7 @@ pub struct Patient<T> {
 impl<T> Patient<T> {
     /// Wraps a device, none of whose calls is counted.
     pub fn new(inner: T) -> Patient<T>
-        ensures holds { device result ≡ inner }
+        ensures holds { device_of result ≡ inner }
         ensures none { (result.broken ≡ 0) × (result.waited ≡ 0) }
     {
         Patient {
@@ -54,10 +54,10 @@ impl<R: Read> Patient<R> {
     /// passed on; then none was read.
     pub fn fill(&mut self, inbox: &mut Inbox) -> io::Result<usize>
         requires { inbox.old ≡ [] }
-        ensures bytes { Obtains (R.remaining (device self.old)) (R.remaining (device self.new))
-            inbox.new result }
-        ensures counts { self.new.broken ≡ counted (is_broken_by result) self.old.broken }
-        ensures waits { self.new.waited ≡ counted (would_wait_by result) self.old.waited }
+        ensures bytes { Obtains (R.remaining (device_of self.old))
+            (R.remaining (device_of self.new)) inbox.new result }
+        ensures counts { self.new.broken ≡ failures_after (is_broken_by result) self.old.broken }
+        ensures waits { self.new.waited ≡ failures_after (would_wait_by result) self.old.waited }
         ensures later { self.old.broken ≤ self.new.broken }
     {
         let result = inbox.fill(&mut self.inner);
@@ -70,9 +70,9 @@ impl<R: Read> Patient<R> {
     /// Counts an error of a read.
     fn note(&mut self, error: &io::Error)
         ensures counts { self.new.broken
-            ≡ counted (not (is_for_now (error_kind error.now))) self.old.broken }
+            ≡ failures_after (not (is_for_now (error_kind error.now))) self.old.broken }
         ensures waits { self.new.waited
-            ≡ counted (would_wait (error_kind error.now)) self.old.waited }
+            ≡ failures_after (would_wait (error_kind error.now)) self.old.waited }
         ensures later { self.old.broken ≤ self.new.broken }
         ensures same { self.new.inner ≡ self.old.inner }
     {
@@ -88,9 +88,10 @@ impl<W: Write> Patient<W> {
     /// Writes a prefix of the bytes, and returns how many bytes were taken. An error is passed on.
     pub fn write(&mut self, bytes: &[u8]) -> io::Result<usize>
         ensures bound { WritesAtMost result bytes.now }
-        ensures bytes { WriteAppends (W.contents (device self.old)) (W.contents (device self.new))
-            result bytes.now }
-        ensures counts { self.new.broken ≡ counted (is_broken_at bytes.now result) self.old.broken }
+        ensures bytes { WriteAppends (W.contents (device_of self.old))
+            (W.contents (device_of self.new)) result bytes.now }
+        ensures counts { self.new.broken
+            ≡ failures_after (is_broken_at bytes.now result) self.old.broken }
         ensures later { self.old.broken ≤ self.new.broken }
         ensures failed { MatchResult result
             (λ n. n ≡ 0 → 0 < length bytes.now → BreaksDown self.old self.new)

@@ -1,1 +1,2 @@
+pub mod LoadsSettled
 pub mod SetApart

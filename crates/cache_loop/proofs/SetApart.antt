@@ -1,9 +1,9 @@
 -- What a connection is given that leaves the loads of its namespace to others.
-use Rattle.std.proofs.Common.{◌≡◌, Bool, false, subst}
+use Rattle.std.proofs.Common.{◌≡◌, Bool, subst}
 use Rattle.std.specs.Option.{option_map}
 use Rattle.audit_model.specs.declared.input.Conn.{Conn}
 use Rattle.cache_run.specs.Driver.Exchanges.{Doing, Exchange}
-use Rattle.cache_run.specs.Driver.Hosting.{Suits, exchange_of}
+use Rattle.cache_run.specs.Driver.Hosting.{exchange_of}
 use Rattle.cache_run.specs.declared.driver.host.Given.{Given}
 use Rattle.cache_loop.specs.Apart.{ComesApart, IsGivenApart}
 
@@ -13,13 +13,5 @@ comes-apart Came conn p q doing given apart same came =
     let held = same.held in
     let replies = same.replies in
     let closing = same.closing in
-    let one : exchange_of (doing given.held) given ≡ record (exchange_of (doing apart.held) apart) { loads = option_map (λ loads. loads.items) given.loads } = cc in
-    (option_map (λ loads. loads.items) given.loads, subst (λ exchange. Came conn p exchange q) one came)
-
--- it suits a host that is not lent
-pub suits-apart : (lent wants_loads : Bool) (given apart : Given) → IsGivenApart given apart → Suits lent wants_loads given → Suits false wants_loads apart
-suits-apart lent wants_loads given apart same suits = record {
-  unwanted = λ unwanted. same.none (suits.unwanted unwanted);
-  wanted = λ no. cc;
-  waits = λ no. cc;
-}
+    let one : exchange_of (doing given.held) given ≡ record (exchange_of (doing apart.held) apart) { loads = option_map (λ loads. loads.items) given.owed.loads } = cc in
+    (option_map (λ loads. loads.items) given.owed.loads, subst (λ exchange. Came conn p exchange q) one came)

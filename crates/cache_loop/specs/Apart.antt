@@ -13,7 +13,7 @@ ComesApart Came conn p exchange q =
 -- the same is given, but for the loads, of which there are none if there were none
 pub record IsGivenApart (given apart : Given) : Type 0 where
   pub held : apart.held ≡ given.held
-  pub replies : apart.replies ≡ given.replies
-  pub closing : apart.closing ≡ given.closing
-  pub waits : apart.waits ≡ given.waits
-  pub none : given.loads ≡ None → apart.loads ≡ None
+  pub replies : apart.owed.replies ≡ given.owed.replies
+  pub closing : apart.owed.closing ≡ given.owed.closing
+  pub waits : apart.owed.waits ≡ given.owed.waits
+  pub none : given.owed.loads ≡ None → apart.owed.loads ≡ None

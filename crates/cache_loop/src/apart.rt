@@ -1,9 +1,10 @@
 //! A host whose connections leave their loads to others.
-ghost use Rattle.std.specs.Prelude.{◌≡◌, false, None};
+ghost use Rattle.std.specs.Prelude.{◌≡◌, ◌++◌, [], false, None, IfOk, OnErr};
 ghost use Rattle.cache_loop.specs.Apart.{ComesApart, IsGivenApart};
+ghost use Rattle.cache_loop.specs.Loads.{Attempts, SettlesBehind, SettlesEach, nothing_held, outs_in, times_out};
 
 use audit_model::{Bytes, Conn, LoadId, Outcome};
-use cache_run::{Given, Host, Loader, RunError};
+use cache_run::{Given, Host, Loader, Owed, RunError};
 use std::alloc::Global;
 use std::mem;
 
@@ -27,47 +28,95 @@ impl<'a, H: Host> Apart<'a, H> {
     }
 
     /// Takes the loads that went out since the last call, with their keys.
-    pub fn take_loads(&mut self) -> Vec<(LoadId, Bytes)> {
+    pub fn take_loads(&mut self) -> Vec<(LoadId, Bytes)>
+        ensures all { result.items ≡ self.old.loads.items }
+        ensures none { self.new.loads.items ≡ [] }
+    {
         mem::replace(&mut self.loads, Vec::new(self.alloc))
     }
 
     /// Keeps loads that went out. Those for which there is no memory are returned.
-    fn keep(&mut self, loads: Vec<(LoadId, Bytes)>) -> Option<Vec<(LoadId, Bytes)>> {
+    fn keep(&mut self, loads: Vec<(LoadId, Bytes)>) -> Option<Vec<(LoadId, Bytes)>>
+        ensures { self.new.loads.items ++ outs_in result ≡ self.old.loads.items ++ loads.items }
+    {
         if self.loads.is_empty() {
             self.loads = loads;
             return None;
         }
-        if self.loads.reserve(loads.len()).is_err() {
+        let mut loads = loads;
+        if self.loads.append(&mut loads).is_err() {
             return Some(loads);
         }
-        for load in loads {
-            let _ = self.loads.push(load);
-        }
         None
+    }
+
+    /// Settles a load of the host by a connection, like `Host::settle`. Keeps the loads that go out then, and returns those for which there
+    /// is no memory. Returns the host's error.
+    pub fn settle_load(
+        &mut self,
+        place: &mut H::Place,
+        conn: Conn,
+        load: u64,
+        said: Option<Outcome>,
+        moment: u64,
+    ) -> Result<Option<Vec<(LoadId, Bytes)>>, RunError>
+        requires known { H.knows conn place.old }
+        ensures settled { IfOk result (λ left. SettlesBehind H.came conn load self.old.loads.items
+            place.old (self.new.loads.items ++ outs_in left) place.new) }
+        ensures refused { OnErr result (H.rests place.old place.new
+            × (self.new.loads.items ≡ self.old.loads.items)) }
+    {
+        let Given { owed, .. } = self.inner.settle(place, conn, load, said, moment, true)?;
+        let Owed { loads, .. } = owed;
+        match loads {
+            Some(loads) => Ok(self.keep(loads)),
+            None => Ok(None),
+        }
+    }
+
+    /// Gives up a load at the latest moment, by a connection. No loads are requested then.
+    pub fn give_up(&mut self, place: &mut H::Place, conn: Conn, load: u64)
+        requires known { H.knows conn place.old }
+        ensures told { Attempts H.came H.rests conn load place.old [] place.new }
+        ensures loads { self.new.loads.items ≡ self.old.loads.items }
+    {
+        let _ = self.inner.settle(place, conn, load, None, 0, false);
+    }
+
+    /// Gives up loads that went out and for which there is no memory.
+    pub fn give_up_all(&mut self, place: &mut H::Place, conn: Conn, loads: Vec<(LoadId, Bytes)>)
+        requires known { (place : H.Place) → H.knows conn place }
+        ensures each { SettlesEach H.came H.rests conn (times_out loads.items) place.old
+            nothing_held place.new }
+        ensures loads { self.new.loads.items ≡ self.old.loads.items }
+    {
+        for (load, _) in loads {
+            self.give_up(place, conn, load.number);
+        }
     }
 
     /// Gives a connection what it is given, but for the loads, unless there is no memory to keep them.
     fn set_apart(&mut self, given: Given) -> Given
         ensures { IsGivenApart given result }
     {
-        let Given {
-            held,
+        let Given { held, owed } = given;
+        let Owed {
             replies,
             loads,
             closing,
             waits,
-        } = given;
+        } = owed;
         let loads = match loads {
             Some(loads) => self.keep(loads),
             None => None,
         };
-        Given {
-            held,
+        let owed = Owed {
             replies,
             loads,
             closing,
             waits,
-        }
+        };
+        Given { held, owed }
     }
 }
 

@@ -156,14 +156,6 @@ impl<S: Steward> Hall<S> {
         self.note_settled(crew, settled);
     }
 
-    /// Has the loads given up that were asked for and not settled.
-    pub fn give_up_loads(&mut self, steward: &mut S, crew: &Crew)
-        requires { S.rests_on }
-    {
-        let settled = steward.give_up_loads();
-        self.note_settled(crew, settled);
-    }
-
     /// Notes that so many loads were settled, and tells other loops.
     fn note_settled(&mut self, crew: &Crew, settled: u64) {
         if settled > 0 {

@@ -14,10 +14,12 @@ mod replies;
 mod served;
 mod steward;
 
+pub use apart::Apart;
 pub use asker::{Asked, Asker, Here, Pool};
 pub use counts::{Counts, Departures, TURN_BOUNDS};
 pub use doorway::{Doorway, Stream};
 pub use lines::{HeardLink, LineSteward};
+pub use loading::Loading;
 pub use looping::{Crew, LOADED, Rules, STOP, serve_by};
 pub use replies::Found;
 pub use steward::Steward;

@@ -1,4 +1,5 @@
 //! Connections that speak lines.
+ghost use Rattle.std.specs.Prelude.{◌≡◌, []};
 ghost use Rattle.audit_model.specs.declared.input.Conn.{Conn};
 
 use crate::apart::Apart;
@@ -76,6 +77,8 @@ impl<H: Host, K: Clock + Drop, A: Asker> Steward for LineSteward<'_, '_, H, K, A
     type Link = HeardLink;
 
     ghost rests_on = { (conn : Conn) → (place : H.Place) → H.knows conn place };
+
+    ghost is_settled = { λ steward. steward.loading.pending.items ≡ [] };
 
     fn refusal(&self) -> &'static [u8] {
         b"ERR connections\n"

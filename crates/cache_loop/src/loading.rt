@@ -1,6 +1,7 @@
 //! The loads of a loop, from their going out to their being settled.
-ghost use Rattle.std.specs.Prelude.{◌≡◌};
+ghost use Rattle.std.specs.Prelude.{◌≡◌, ℕ, ◌+◌, ◌<◌, [], true, false, length, slice_index_or, vec_len, IfOk, IfNone, IfSome};
 ghost use Rattle.audit_model.specs.declared.input.Conn.{Conn};
+ghost use Rattle.cache_loop.specs.Loads.{SettlesEach, held, held_in_hand, held_one, once, times_out, times_pending};
 
 use crate::apart::Apart;
 use crate::asker::{Asked, Asker};
@@ -41,7 +42,9 @@ impl<A: Asker> Loading<A> {
         namespace: u64,
         asker: A,
         limit: Option<u64>,
-    ) -> Result<Loading<A>, RunError> {
+    ) -> Result<Loading<A>, RunError>
+        ensures { IfOk result (λ loading. loading.pending.items ≡ []) }
+    {
         let conn = host.open(place, namespace)?;
         Ok(Loading {
             asker,
@@ -59,7 +62,9 @@ impl<A: Asker> Loading<A> {
     }
 
     /// Returns how many loads were settled since the last call.
-    pub fn take_settled(&mut self) -> u64 {
+    pub fn take_settled(&mut self) -> u64
+        ensures { self.new.pending ≡ self.old.pending }
+    {
         let settled = self.settled;
         self.settled = 0;
         settled
@@ -73,15 +78,36 @@ impl<A: Asker> Loading<A> {
         clock: &mut K,
     )
         requires known { (conn : Conn) → (place : H.Place) → H.knows conn place }
+        ensures each { SettlesEach H.came H.rests self.old.conn
+            (held host.old.loads.items self.old.pending.items) place.old
+            (held host.new.loads.items self.new.pending.items) place.new }
+        ensures conn { self.new.conn ≡ self.old.conn }
     {
         for _turn in 0..u64::MAX {
             let loads = host.take_loads();
             if loads.is_empty() {
                 return;
             }
-            for (load, key) in loads {
-                self.ask(host, place, clock, load, key);
-            }
+            self.ask_each(host, place, clock, loads);
+        }
+    }
+
+    /// Asks for loads, and settles those that are answered on the spot.
+    fn ask_each<H: Host, K: Clock>(
+        &mut self,
+        host: &mut Apart<'_, H>,
+        place: &mut H::Place,
+        clock: &mut K,
+        loads: Vec<(LoadId, Bytes)>,
+    )
+        requires known { (conn : Conn) → (place : H.Place) → H.knows conn place }
+        ensures each { SettlesEach H.came H.rests self.old.conn
+            (held_in_hand loads.items host.old.loads.items self.old.pending.items) place.old
+            (held host.new.loads.items self.new.pending.items) place.new }
+        ensures conn { self.new.conn ≡ self.old.conn }
+    {
+        for (load, key) in loads {
+            self.ask(host, place, clock, load, key);
         }
     }
 
@@ -95,6 +121,10 @@ impl<A: Asker> Loading<A> {
         key: Bytes,
     )
         requires known { (conn : Conn) → (place : H.Place) → H.knows conn place }
+        ensures each { SettlesEach H.came H.rests self.old.conn
+            (held_one load.number host.old.loads.items self.old.pending.items) place.old
+            (held host.new.loads.items self.new.pending.items) place.new }
+        ensures conn { self.new.conn ≡ self.old.conn }
     {
         let number = load.number;
         let moment = clock.now();
@@ -106,9 +136,17 @@ impl<A: Asker> Loading<A> {
         match self.asker.ask(load, key) {
             Asked::Now(said) => self.settle(host, place, moment, number, said),
             Asked::Later => {
-                let due = self.limit.map(|limit| moment.saturating_add(limit));
-                let _ = self.pending.push(Pending { number, due });
+                let due = self.due_from(moment);
+                self.pending.push_reserved(Pending { number, due });
             }
+        }
+    }
+
+    /// The moment from which on a load is given up that is asked for at this one.
+    fn due_from(&self, moment: u64) -> Option<u64> {
+        match self.limit {
+            Some(limit) => Some(moment.saturating_add(limit)),
+            None => None,
         }
     }
 
@@ -120,32 +158,84 @@ impl<A: Asker> Loading<A> {
         clock: &mut K,
     )
         requires known { (conn : Conn) → (place : H.Place) → H.knows conn place }
+        ensures each { SettlesEach H.came H.rests self.old.conn
+            (held host.old.loads.items self.old.pending.items) place.old
+            (held host.new.loads.items self.new.pending.items) place.new }
+        ensures conn { self.new.conn ≡ self.old.conn }
     {
-        for _answer in 0..u64::MAX {
-            let Some((load, said)) = self.asker.next() else {
-                break;
-            };
-            if self.forget(load.number) {
-                let moment = clock.now();
-                self.settle(host, place, moment, load.number, said);
-            }
-        }
+        self.settle_answered(host, place, clock);
         self.give_up_late(host, place, clock);
     }
 
+    /// Settles the loads that were answered since the last call.
+    fn settle_answered<H: Host, K: Clock>(
+        &mut self,
+        host: &mut Apart<'_, H>,
+        place: &mut H::Place,
+        clock: &mut K,
+    )
+        requires known { (conn : Conn) → (place : H.Place) → H.knows conn place }
+        ensures each { SettlesEach H.came H.rests self.old.conn
+            (held host.old.loads.items self.old.pending.items) place.old
+            (held host.new.loads.items self.new.pending.items) place.new }
+        ensures conn { self.new.conn ≡ self.old.conn }
+    {
+        for _answer in 0..u64::MAX {
+            let Some((load, said)) = self.asker.next() else {
+                return;
+            };
+            self.settle_pending(host, place, clock, load.number, said);
+        }
+    }
+
+    /// Settles a load by its outcome, if it is pending: it may have been given up.
+    fn settle_pending<H: Host, K: Clock>(
+        &mut self,
+        host: &mut Apart<'_, H>,
+        place: &mut H::Place,
+        clock: &mut K,
+        number: u64,
+        said: Option<Outcome>,
+    )
+        requires known { (conn : Conn) → (place : H.Place) → H.knows conn place }
+        ensures each { SettlesEach H.came H.rests self.old.conn
+            (held host.old.loads.items self.old.pending.items) place.old
+            (held host.new.loads.items self.new.pending.items) place.new }
+        ensures conn { self.new.conn ≡ self.old.conn }
+    {
+        if self.forget(number) {
+            let moment = clock.now();
+            self.settle(host, place, moment, number, said);
+        }
+    }
+
     /// Forgets a load that was asked for. Returns whether it was there: it may have been given up.
-    fn forget(&mut self, number: u64) -> bool {
-        let place = self
-            .pending
-            .iter()
-            .position(|pending| pending.number == number);
-        match place {
-            Some(place) if place < self.pending.len() => {
-                let _ = self.pending.swap_remove(place);
+    fn forget(&mut self, number: u64) -> bool
+        ensures one { result ≡ true → (load : ℕ) → times_pending self.old.pending.items load
+            ≡ times_pending self.new.pending.items load + once number load }
+        ensures none { result ≡ false → (times_pending self.old.pending.items number ≡ 0)
+            × (self.new.pending.items ≡ self.old.pending.items) }
+        ensures conn { self.new.conn ≡ self.old.conn }
+    {
+        match place_of(&self.pending, number) {
+            Some(index) => {
+                let _number = self.forget_at(index);
                 true
             }
-            _ => false,
+            None => false,
         }
+    }
+
+    /// Forgets the load at a place. Returns its number.
+    fn forget_at(&mut self, index: usize) -> u64
+        requires { index < vec_len self.old.pending }
+        ensures one { (load : ℕ) → times_pending self.old.pending.items load
+            ≡ times_pending self.new.pending.items load + once result load }
+        ensures which { (d : Pending) → result
+            ≡ (slice_index_or self.old.pending.items index d).number }
+        ensures conn { self.new.conn ≡ self.old.conn }
+    {
+        self.pending.swap_remove(index).number
     }
 
     /// Gives up the loads whose time is over.
@@ -156,28 +246,23 @@ impl<A: Asker> Loading<A> {
         clock: &mut K,
     )
         requires known { (conn : Conn) → (place : H.Place) → H.knows conn place }
+        ensures each { SettlesEach H.came H.rests self.old.conn
+            (held host.old.loads.items self.old.pending.items) place.old
+            (held host.new.loads.items self.new.pending.items) place.new }
+        ensures conn { self.new.conn ≡ self.old.conn }
     {
         if self.limit.is_none() || self.pending.is_empty() {
             return;
         }
         let moment = clock.now();
         for _late in 0..self.pending.len() {
-            let Some(number) = self.late(moment) else {
+            let Some(index) = late_among(&self.pending, moment) else {
                 return;
             };
-            let _ = self.forget(number);
+            let number = self.forget_at(index);
             self.asker.cancel(number);
             self.settle(host, place, moment, number, None);
         }
-    }
-
-    /// A load whose time is over at a moment.
-    fn late(&self, moment: u64) -> Option<u64> {
-        let late = self
-            .pending
-            .iter()
-            .find(|pending| pending.due.is_some_and(|due| due <= moment))?;
-        Some(late.number)
     }
 
     /// Returns in how many nanoseconds the time of a load is over, or `None` if no load has such a time.
@@ -201,53 +286,43 @@ impl<A: Asker> Loading<A> {
         said: Option<Outcome>,
     )
         requires known { (conn : Conn) → (place : H.Place) → H.knows conn place }
+        ensures each { SettlesEach H.came H.rests self.old.conn
+            (held_one number host.old.loads.items self.old.pending.items) place.old
+            (held host.new.loads.items self.new.pending.items) place.new }
+        ensures kept { (self.new.conn ≡ self.old.conn)
+            × (self.new.pending.items ≡ self.old.pending.items) }
     {
         self.settled = self.settled.saturating_add(1);
-        match host.settle(place, self.conn, number, said, moment, true) {
-            Ok(given) => self.give_up_all(host, place, given.loads),
-            Err(_) => self.give_up(host, place, number),
+        match host.settle_load(place, self.conn, number, said, moment) {
+            Ok(Some(left)) => host.give_up_all(place, self.conn, left),
+            Ok(None) => {}
+            Err(_) => host.give_up(place, self.conn, number),
         }
-    }
-
-    /// Gives up loads that went out and for which there is no memory.
-    fn give_up_all<H: Host>(
-        &mut self,
-        host: &mut Apart<'_, H>,
-        place: &mut H::Place,
-        loads: Option<Vec<(LoadId, Bytes)>>,
-    )
-        requires known { (conn : Conn) → (place : H.Place) → H.knows conn place }
-    {
-        if let Some(loads) = loads {
-            for (load, _) in loads {
-                self.give_up(host, place, load.number);
-            }
-        }
-    }
-
-    /// Gives up a load at the latest moment.
-    fn give_up<H: Host>(&mut self, host: &mut Apart<'_, H>, place: &mut H::Place, number: u64)
-        requires known { (conn : Conn) → (place : H.Place) → H.knows conn place }
-    {
-        let _ = host.settle(place, self.conn, number, None, 0, false);
     }
 
     /// Gives up the loads that were asked for and not settled.
     pub fn give_up_pending<H: Host>(&mut self, host: &mut Apart<'_, H>, place: &mut H::Place)
         requires known { (conn : Conn) → (place : H.Place) → H.knows conn place }
+        ensures each { SettlesEach H.came H.rests self.old.conn
+            (held host.old.loads.items self.old.pending.items) place.old
+            (held host.new.loads.items self.new.pending.items) place.new }
+        ensures none { self.new.pending.items ≡ [] }
+        ensures kept { (self.new.conn ≡ self.old.conn)
+            × (host.new.loads.items ≡ host.old.loads.items) }
     {
-        for _load in 0..self.pending.len() {
-            let Some(load) = self.pending.pop() else {
-                return;
-            };
+        let conn = self.conn;
+        while let Some(load) = self.pending.pop() {
             self.settled = self.settled.saturating_add(1);
-            self.give_up(host, place, load.number);
+            host.give_up(place, conn, load.number);
         }
     }
 
     /// Gives up the loads that were asked for and not settled, and closes the connection. Returns whoever was asked.
     pub fn end<H: Host>(self, host: &mut Apart<'_, H>, place: &mut H::Place) -> A
         requires known { (conn : Conn) → (place : H.Place) → H.knows conn place }
+        ensures { (m : H.Place) × SettlesEach H.came H.rests self.conn
+            (held host.old.loads.items self.pending.items) place.old
+            (times_out host.old.loads.items) m × H.closes self.conn m place.new }
     {
         let mut loading = self;
         loading.give_up_pending(host, place);
@@ -255,6 +330,32 @@ impl<A: Asker> Loading<A> {
         host.close(place, conn);
         asker
     }
+}
+
+/// The place of a load among pending ones.
+fn place_of(pending: &[Pending], number: u64) -> Option<usize>
+    ensures there { IfSome result (λ index. (index < length pending.now)
+        × ((d : Pending) → (slice_index_or pending.now index d).number ≡ number)) }
+    ensures none { IfNone result (times_pending pending.now number ≡ 0) }
+{
+    for index in 0..pending.len() {
+        if pending[index].number == number {
+            return Some(index);
+        }
+    }
+    None
+}
+
+/// The place of a load whose time is over at a moment.
+fn late_among(pending: &[Pending], moment: u64) -> Option<usize>
+    ensures { IfSome result (λ index. index < length pending.now) }
+{
+    for index in 0..pending.len() {
+        if matches!(pending[index].due, Some(due) if due <= moment) {
+            return Some(index);
+        }
+    }
+    None
 }
 
 /// The earlier of two moments.

@@ -96,9 +96,27 @@ impl Seconds {
     }
 }
 
-/// Serves the connections that come in at a doorway, until it is stopped. The connections are closed when the call returns. Returns an
-/// error if waiting for events fails, or if there is no memory for the first of them.
+/// Serves the connections that come in at a doorway, until it is stopped. The connections are closed when the call returns, and no load
+/// that was asked for is pending. Returns an error if waiting for events fails, or if there is no memory for the first of them.
 pub fn serve_by<S: Steward, R: Wait + time::Clock>(
+    rt: &R,
+    steward: &mut S,
+    poll: &mut Poll,
+    doorway: Doorway,
+    crew: &Crew,
+) -> io::Result<()>
+    requires { S.rests_on }
+    ensures { S.is_settled steward.new }
+{
+    let ended = serve_all(rt, steward, poll, doorway, crew);
+    if steward.give_up_loads() > 0 {
+        crew.tell_others();
+    }
+    ended
+}
+
+/// Serves connections until the loop is stopped, and closes them.
+fn serve_all<S: Steward, R: Wait + time::Clock>(
     rt: &R,
     steward: &mut S,
     poll: &mut Poll,
@@ -114,7 +132,6 @@ pub fn serve_by<S: Steward, R: Wait + time::Clock>(
     let waiting = (poll, &mut events);
     let ended = turn_round(rt, steward, waiting, &mut hall, crew);
     hall.end_all(steward, crew);
-    hall.give_up_loads(steward, crew);
     let counts = hall.counts(steward);
     *crew.counts.lock(rt) = counts;
     ended

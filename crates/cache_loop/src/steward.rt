@@ -14,6 +14,9 @@ pub trait Steward: Drop {
     /// What is known of those that it serves by.
     ghost rests_on: { Type 0 };
 
+    /// No load that was asked for is pending: each was settled or given up.
+    ghost is_settled: { Self → Type 0 };
+
     /// Returns what is written to a connection for which there is no place.
     fn refusal(&self) -> &'static [u8];
 
@@ -47,9 +50,10 @@ pub trait Steward: Drop {
     fn take_answers(&mut self) -> u64
         requires { rests_on };
 
-    /// Gives up the loads that were asked for and not settled. Returns how many there were.
+    /// Gives up the loads that were asked for and not settled. Returns how many loads were settled, for which others may wait.
     fn give_up_loads(&mut self) -> u64
-        requires { rests_on };
+        requires { rests_on }
+        ensures { is_settled self.new };
 
     /// Returns how long it is until the time of a load is over, or `None` if no load has such a time.
     fn patience(&mut self) -> Option<Duration>;

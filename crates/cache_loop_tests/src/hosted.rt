@@ -7,7 +7,7 @@ use std::alloc::{AllocError, Global};
 
 /// A file that says all that there is to say.
 const FULL: &str =
-    "[metrics]\nport = 9411\n[[namespace]]\nname = \"a\"\nport = 1\nbind = \"::1\"\nmode = \"604\"\nloops = 3\nmax_connections = 5\nidle_s = 6\nnotices = \"off\"\n";
+    "[metrics]\nport = 9411\n[[namespace]]\nname = \"a\"\nport = 1\nbind = \"::1\"\nmode = \"604\"\nloops = 3\nmax_connections = 5\nidle_s = 6\nnotices = \"off\"\nload_ms = 7\n";
 
 /// One that says as little as it can.
 const BARE: &str = "[[namespace]]\nname = \"a\"\nport = 1\n";
@@ -35,7 +35,7 @@ fn has_one(hosted: &Hosted, wanted: &Hosting) -> bool {
             found.bind.as_str() == wanted.bind.as_str()
                 && (found.mode, found.loops) == (wanted.mode, wanted.loops)
                 && (found.connections, found.idle) == (wanted.connections, wanted.idle)
-                && found.notices == wanted.notices
+                && (found.notices, found.load_ms) == (wanted.notices, wanted.load_ms)
                 && found.protocol == wanted.protocol
         }
         _ => false,
@@ -51,6 +51,7 @@ fn bare_hosting(alloc: Global, protocol: Protocol) -> Result<Hosting, AllocError
         connections: 10_000,
         idle: None,
         notices: Notices::Values,
+        load_ms: None,
         protocol,
     })
 }
@@ -81,6 +82,7 @@ fn are_read(alloc: Global) -> Result<bool, AllocError> {
         connections: 5,
         idle: Some(6),
         notices: Notices::Off,
+        load_ms: Some(7),
         protocol: Protocol::Lines,
     };
     let bare = bare_hosting(alloc, Protocol::Lines)?;
@@ -100,8 +102,8 @@ fn files_of_items_are_read(rt: HostRuntime) {
 /// Files with a fault in each line, and what is said of each.
 const FAULTY: &[(&str, &str)] = &[
     (
-        "[metrics]\nport = 0\n[[namespace]]\nname = \"a\"\nport = 1\nbind = \"b\"\nmode = \"8\"\nloops = 65\nmax_connections = 0\nidle_s = 0\nnotices = true\nnotice = 1\n",
-        "1: metrics is a table with a port, a number from 1 to 65535, and nothing else\n6: bind is an IP address, or a path that begins with / and has at most 107 bytes\n7: mode is a text of three digits from 0 to 7\n8: loops is a number from 1 to 64\n9: max_connections is a number from 1 to 1000000\n10: idle_s is a number of seconds from 1 to 86400000\n11: notices is \"values\", \"keys\" or \"off\"\n12: unknown key notice: did you mean `notices`?\n",
+        "[metrics]\nport = 0\n[[namespace]]\nname = \"a\"\nport = 1\nbind = \"b\"\nmode = \"8\"\nloops = 65\nmax_connections = 0\nidle_s = 0\nnotices = true\nnotice = 1\nload_ms = 86400001\n",
+        "1: metrics is a table with a port, a number from 1 to 65535, and nothing else\n6: bind is an IP address, or a path that begins with / and has at most 107 bytes\n7: mode is a text of three digits from 0 to 7\n8: loops is a number from 1 to 64\n9: max_connections is a number from 1 to 1000000\n10: idle_s is a number of seconds from 1 to 86400000\n11: notices is \"values\", \"keys\" or \"off\"\n12: unknown key notice: did you mean `notices`?\n13: load_ms is a number of milliseconds from 1 to 86400000\n",
     ),
     // A protocol that is not known, and a key of another one.
     (
@@ -110,8 +112,8 @@ const FAULTY: &[(&str, &str)] = &[
     ),
     // Keys that do not go with the memcache protocol.
     (
-        "[[namespace]]\nname = \"a\"\nport = 1\nprotocol = \"memcache\"\ncapacity = 1\nparts = 2\nweight = \"bytes\"\nlive_ms = 1\nidle_ms = 1\ndeadlines = false\nloops = 1\nnotices = \"off\"\nitem_size = 0\n[namespace.loads]\n",
-        "1: loads does not go with the memcache protocol\n6: parts does not go with the memcache protocol\n7: weight does not go with the memcache protocol\n8: live_ms does not go with the memcache protocol\n9: idle_ms does not go with the memcache protocol\n10: deadlines does not go with the memcache protocol\n11: loops does not go with the memcache protocol\n12: notices does not go with the memcache protocol\n13: item_size is a number of bytes from 1 to 134217728\n",
+        "[[namespace]]\nname = \"a\"\nport = 1\nprotocol = \"memcache\"\ncapacity = 1\nparts = 2\nweight = \"bytes\"\nlive_ms = 1\nidle_ms = 1\ndeadlines = false\nloops = 1\nnotices = \"off\"\nitem_size = 0\nload_ms = 1\n[namespace.loads]\n",
+        "1: loads does not go with the memcache protocol\n6: parts does not go with the memcache protocol\n7: weight does not go with the memcache protocol\n8: live_ms does not go with the memcache protocol\n9: idle_ms does not go with the memcache protocol\n10: deadlines does not go with the memcache protocol\n11: loops does not go with the memcache protocol\n12: notices does not go with the memcache protocol\n13: item_size is a number of bytes from 1 to 134217728\n14: load_ms does not go with the memcache protocol\n",
     ),
     // No capacity.
     (

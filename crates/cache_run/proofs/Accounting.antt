@@ -17,16 +17,16 @@ use Rattle.audit_laws.specs.Waiting.Sending.{IsSettlingOf, are_all, is_under_way
 use Rattle.cache_commands.specs.Loads.Keys.{are_in_turn}
 use Rattle.cache_core.specs.Settling.{answering, giving_up}
 use Rattle.cache_core.specs.Turned.{SendsBehind, Turned, is_sent, feeding}
-use Rattle.cache_spaces.specs.Services.{BareSpace, bare_tape, IsSound}
+use Rattle.cache_spaces.specs.Services.{BareSpace, bare_tape, IsSoundSpace}
 use Rattle.cache_spaces.specs.Calls.{ServesEvent, Settled, TakesLoads, TakesOutput}
 use Rattle.cache_spaces.specs.Spaces.{StandsFor, config_of, outgoing_of, place_of, taken_of, shown_of}
 use Rattle.cache_run.proofs.Happening.{pending-is, sent-is, IsPlain, quiet-steps, happened-so}
-use Rattle.cache_run.specs.Loading.{AddsNoLoads, UnderWay, is_left, pending_of}
+use Rattle.cache_run.specs.Loading.{AddsNoLoads, IsUnderWay, is_left, loads_under_way_in}
 use Rattle.cache_run.specs.Connected.{HasSituation}
 use Rattle.cache_run.specs.Driver.Drives.{IsOfHand}
-use Rattle.cache_run.specs.Driver.Exchanges.{Doing, EachOut, Keeps, Outs, asks_of, load_number, settling_asking, Exchange, Hands, IsLastOf, Leaves}
+use Rattle.cache_run.specs.Driver.Exchanges.{Doing, EachOut, Keeps, Outs, asks_of, load_number, settling_asking, Exchange, Hands, IsLastInHand, LeavesInHand}
 use Rattle.cache_run.specs.Happened.{AreSent, AskForSent, Picks}
-use Rattle.cache_run.specs.Lent.{MayGiveLoads, Comes, Does}
+use Rattle.cache_run.specs.Lent.{MayGiveLoads, ExchangeCame, WasDone}
 use Rattle.cache_spaces.specs.Calls as served
 use Rattle.cache_run.specs.Driver.Exchanges as did
 
@@ -60,7 +60,7 @@ sent-none s = record { place = 0; in_turn = refl; count = omega arith; keys = re
 -- ---- the hand
 
 -- the last load in hand is taken out of those that went out
-pub takes-last : (hand outs rest : Outs) (load : ℕ) (key : List ℕ) → IsLastOf hand load key rest → Picks load key (hand ++ outs) (rest ++ outs)
+pub takes-last : (hand outs rest : Outs) (load : ℕ) (key : List ℕ) → IsLastInHand hand load key rest → Picks load key (hand ++ outs) (rest ++ outs)
 takes-last hand outs rest load key last = record {
   front = rest;
   back = outs;
@@ -91,10 +91,10 @@ gone-same was is (Some loads) rest after t keeps = grind (arith, append-nil)
 
 -- each load under way was so before
 abbrev pub AddsNone : BareSpace → BareSpace → Type 0
-AddsNone was is = (n : ℕ) → UnderWay is n → UnderWay was n
+AddsNone was is = (n : ℕ) → IsUnderWay is n → IsUnderWay was n
 
 pub adds-no-loads : (was is : BareSpace) → AddsNone was is → AddsNoLoads was is
-adds-no-loads was is adds = all-own (λ n. is_under_way n (pending_of was)) (pending_of is) adds
+adds-no-loads was is adds = all-own (λ n. is_under_way n (loads_under_way_in was)) (loads_under_way_in is) adds
 
 -- no load was taken, and none was added
 pub record KeepsLoads (was is : BareSpace) : Type 0 where
@@ -104,12 +104,12 @@ pub record KeepsLoads (was is : BareSpace) : Type 0 where
 -- no load was taken, and each that is under way was so before, or has not been taken
 pub record SendsLater (was is : BareSpace) : Type 0 where
   pub taken : taken_of is ≡ taken_of was
-  pub loads : (n : ℕ) → UnderWay is n → UnderWay was n ⊎ (taken_of was < n)
+  pub loads : (n : ℕ) → IsUnderWay is n → IsUnderWay was n ⊎ (taken_of was < n)
 
 -- and a load that was taken before is not under way
 pub record SettlesLoad (number : ℕ) (was is : BareSpace) : Type 0 where
   pub later : SendsLater was is
-  pub settled : number ≤ taken_of was → UnderWay is number → ⊥
+  pub settled : number ≤ taken_of was → IsUnderWay is number → ⊥
 
 pub later-kept : (was is : BareSpace) → KeepsLoads was is → SendsLater was is
 later-kept was is k = record { taken = k.taken; loads = λ n under. inl (k.adds n under) }
@@ -161,7 +161,7 @@ unfound number (load ∷ loads) none under = grind (arith, unfound number loads)
 -- Those in hand were taken, and each that is under way was so in the first namespace, or is in hand, or has not been taken.
 pub record Accounted (first x : BareSpace) (hand : Outs) : Type 0 where
   pub taken : (n : ℕ) → is_left n hand ≡ true → n ≤ taken_of x
-  pub loads : (n : ℕ) → UnderWay x n → UnderWay first n ⊎ (is_left n hand ≡ true) ⊎ (taken_of x < n)
+  pub loads : (n : ℕ) → IsUnderWay x n → IsUnderWay first n ⊎ (is_left n hand ≡ true) ⊎ (taken_of x < n)
 
 -- that stays so: none is lost
 abbrev pub Accounts : BareSpace → BareSpace → Outs → Outs → Type 0
@@ -178,7 +178,7 @@ accounts-later was is hand l first a =
     record {
       taken = λ n left. let few = a.taken n left in omega (arith, few, same);
       loads = λ n under.
-          elim (l.loads n under) [ inl before ↦ subst (λ (t : ℕ). UnderWay first n ⊎ (is_left n hand ≡ true) ⊎ (t < n)) (sym same) (a.loads n before) | inr later ↦ inr (inr (omega (arith, later, same))) ];
+          elim (l.loads n under) [ inl before ↦ subst (λ (t : ℕ). IsUnderWay first n ⊎ (is_left n hand ≡ true) ⊎ (t < n)) (sym same) (a.loads n before) | inr later ↦ inr (inr (omega (arith, later, same))) ];
     }
 
 accounts-none : (was is : BareSpace) (hand rest : Outs) → is ≡ was → rest ≡ hand → Accounts was is hand rest
@@ -195,33 +195,33 @@ in-turn-few place before [] n turn left = let no : false ≡ true = left in cc
 in-turn-few place before (out ∷ outs) n turn left = grind (arith, in-turn-next, or_cases, eqb-true, in-turn-few place (suc before) outs n)
 
 -- a load under way was sent
-pub sent-under : (x : BareSpace) (n : ℕ) → IsSound bare_tape x → UnderWay x n → n ≤ x.sent
-sent-under x n sound under = leb-true n x.sent (one-of (λ m. nat_le m x.sent) n (pending_of x) sound.suits.sent under)
+pub sent-under : (x : BareSpace) (n : ℕ) → IsSoundSpace bare_tape x → IsUnderWay x n → n ≤ x.sent
+sent-under x n sound under = leb-true n x.sent (one-of (λ m. nat_le m x.sent) n (loads_under_way_in x) sound.suits.sent under)
 
 -- those that were taken are the last that were sent
-pub taken-count : (was is : BareSpace) (loads : Outs) → IsSound bare_tape was → TakesLoads was is loads → taken_of was + length loads ≡ was.sent
+pub taken-count : (was is : BareSpace) (loads : Outs) → IsSoundSpace bare_tape was → TakesLoads was is loads → taken_of was + length loads ≡ was.sent
 taken-count was is loads sound t = let count = ap length t.taken in let few = sound.suits.fewer in omega (arith, count, few)
 
 -- so one under way was taken before, or is one of them
-pub taken-or-left : (was is : BareSpace) (loads : Outs) (n : ℕ) → IsSound bare_tape was → TakesLoads was is loads → UnderWay was n → taken_of was < n → is_left n loads ≡ true
+pub taken-or-left : (was is : BareSpace) (loads : Outs) (n : ℕ) → IsSoundSpace bare_tape was → TakesLoads was is loads → IsUnderWay was n → taken_of was < n → is_left n loads ≡ true
 taken-or-left was is loads n sound t under above = grind (arith, taken-count, sent-under, in-turn-has)
 
-pub loads-same : (was is : BareSpace) (loads : Outs) → TakesLoads was is loads → pending_of is ≡ pending_of was
-loads-same was is loads t = ap pending_of t.rest
+pub loads-same : (was is : BareSpace) (loads : Outs) → TakesLoads was is loads → loads_under_way_in is ≡ loads_under_way_in was
+loads-same was is loads t = ap loads_under_way_in t.rest
 
-accounts-taken : (was is : BareSpace) (loads : Outs) → IsSound bare_tape was → TakesLoads was is loads → Accounts was is [] loads
+accounts-taken : (was is : BareSpace) (loads : Outs) → IsSoundSpace bare_tape was → TakesLoads was is loads → Accounts was is [] loads
 accounts-taken was is loads sound t first a =
     let count = taken-count was is loads sound t in
     let now : taken_of is ≡ was.sent - 0 = ap taken_of t.rest in
     record {
       taken = λ n left. let few = in-turn-few (place_of was) (taken_of was) loads n t.in_turn left in omega (arith, few, count, now);
       loads = λ n under.
-          let before : UnderWay was n = ap (is_under_way n) (sym (loads-same was is loads t)) ∙ under in
+          let before : IsUnderWay was n = ap (is_under_way n) (sym (loads-same was is loads t)) ∙ under in
           elim (a.loads n before) [ inl known ↦ inl known | inr (inl left) ↦ (let no : false ≡ true = left in cc) | inr (inr above) ↦ inr (inl (taken-or-left was is loads n sound t before above)) ];
     }
 
 -- where none is in hand and none is to be taken, each that is under way was so at first
-pub adds-none : (first x : BareSpace) → IsSound bare_tape x → outgoing_of x ≡ [] → Accounted first x [] → AddsNone first x
+pub adds-none : (first x : BareSpace) → IsSoundSpace bare_tape x → outgoing_of x ≡ [] → Accounted first x [] → AddsNone first x
 adds-none first x sound out a n under = elim (a.loads n under) [
   | inl before ↦ before
   | inr (inl left) ↦ (let no : false ≡ true = left in cc)
@@ -248,11 +248,11 @@ keeps-quiet was is happened held quiet idle plain begun takes =
 -- ---- what becomes of them
 
 -- the last one is in hand, and the rest
-in-hand : (hand : Outs) (load : ℕ) (key : List ℕ) (rest : Outs) (n : ℕ) → IsLastOf hand load key rest → is_left n hand ≡ (is_left n rest || (load == n || false))
+in-hand : (hand : Outs) (load : ℕ) (key : List ℕ) (rest : Outs) (n : ℕ) → IsLastInHand hand load key rest → is_left n hand ≡ (is_left n rest || (load == n || false))
 in-hand hand load key rest n last = grind (arith, list_any-append)
 
 -- the last of them is settled
-accounts-out : (was is : BareSpace) (hand : Outs) (load : ℕ) (key : List ℕ) (rest : Outs) → IsLastOf hand load key rest → SettlesLoad load was is → Accounts was is hand rest
+accounts-out : (was is : BareSpace) (hand : Outs) (load : ℕ) (key : List ℕ) (rest : Outs) → IsLastInHand hand load key rest → SettlesLoad load was is → Accounts was is hand rest
 accounts-out was is hand load key rest last s first a =
     let same = s.later.taken in
     let more : (n : ℕ) → (is_left n rest || (load == n || false)) ≡ true → n ≤ taken_of was = λ n left. a.taken n (in-hand hand load key rest n last ∙ left) in
@@ -264,7 +264,7 @@ accounts-out was is hand load key rest last s first a =
           | inl known ↦ inl known
           | inr (inl left) ↦ elim (or_cases (is_left n rest) (load == n || false) (sym (in-hand hand load key rest n last) ∙ left)) [
             | inl still ↦ inr (inl still)
-            | inr last ↦ elim (or_cases (load == n) false last) [ inl it ↦ absurd (s.settled own (subst (UnderWay is) (sym (eqb-true load n it)) under)) | inr never ↦ (let no : false ≡ true = never in cc) ]
+            | inr last ↦ elim (or_cases (load == n) false last) [ inl it ↦ absurd (s.settled own (subst (IsUnderWay is) (sym (eqb-true load n it)) under)) | inr never ↦ (let no : false ≡ true = never in cc) ]
           ]
           | inr (inr later) ↦ inr (inr (omega (arith, later, same)))
         ]
@@ -272,7 +272,7 @@ accounts-out was is hand load key rest last s first a =
       ];
     }
 
-accounts-done : (number : ℕ) (was is : BareSpace) (doing : Doing) (hand rest : Outs) → HasSituation was → Leaves doing hand rest → Does number doing was is → Accounts was is hand rest
+accounts-done : (number : ℕ) (was is : BareSpace) (doing : Doing) (hand rest : Outs) → HasSituation was → LeavesInHand doing hand rest → WasDone number doing was is → Accounts was is hand rest
 accounts-done number was is (did.Fed piece moment held) hand rest begun leaves d =
     subst (λ outs. Accounts was is hand outs) (sym leaves) (accounts-later was is hand (later-happened was is (feeding number piece moment) begun (happened-so was is (feeding number piece moment) held d)))
 accounts-done number was is (did.Settled (did.Answered load key outcome) moment) hand rest begun leaves d =
@@ -280,7 +280,7 @@ accounts-done number was is (did.Settled (did.Answered load key outcome) moment)
 accounts-done number was is (did.Settled (did.GivenUp load asking) moment) hand rest begun leaves d =
     accounts-out was is hand load asking.key rest leaves (settles-load load was is (giving_up load moment) refl begun d.0)
 accounts-done number was is (did.Settled (did.Dropped load asking) moment) hand rest begun leaves d =
-    accounts-out was is hand load asking.key rest leaves (subst (SettlesLoad load was) (sym d.0) (record { later = later-same was; settled = λ taken. unfound load (pending_of was) d.1 }))
+    accounts-out was is hand load asking.key rest leaves (subst (SettlesLoad load was) (sym d.0) (record { later = later-same was; settled = λ taken. unfound load (loads_under_way_in was) d.1 }))
 accounts-done number was is did.Looked hand rest begun leaves d = accounts-none was is hand rest d leaves
 
 accounts-given : (was is : BareSpace) (loads : Option Outs) (rest after : Outs) → MayGiveLoads loads was is → Keeps loads rest after → Accounts was is rest after
@@ -288,7 +288,7 @@ accounts-given was is None rest after same keeps = accounts-none was is rest aft
 accounts-given was is (Some loads) rest after t keeps = subst (λ outs. Accounts was is outs after) (sym keeps.0) (subst (λ outs. Accounts was is [] outs) (sym keeps.1) (accounts-taken was is loads t.0 t.1))
 
 -- over an exchange
-pub accounts-behind : (number : ℕ) (was is : BareSpace) (exchange : Exchange) (hand after : Outs) → HasSituation was → Comes number was exchange is → Hands exchange hand after → Accounts was is hand after
+pub accounts-behind : (number : ℕ) (was is : BareSpace) (exchange : Exchange) (hand after : Outs) → HasSituation was → ExchangeCame number was exchange is → Hands exchange hand after → Accounts was is hand after
 accounts-behind number was is exchange hand after begun c h first a =
     accounts-given c.told is exchange.loads h.rest after c.gives h.keeps first
     (accounts-later c.done c.told h.rest (later-output c.done c.told number c.text c.replies) first (accounts-done number was c.done exchange.doing hand h.rest begun h.leaves c.does first a))

@@ -1,9 +1,9 @@
 -- One connection, from its opening to its closing, and what a driver answers for gives what `run` promises.
-use Rattle.std.proofs.Common.{◌≡◌, ◌≢◌, ℕ, ◌≤◌, ◌^◌, ◌||◌, not, nat_lt, nat_le, Bool, true, false, List, [], ◌∷◌, length, Option, Some, None, is_some, if◌then◌else◌, refl, sym, ap, ◌∙◌, subst, arith, inl, inr, ◌++◌, ◌⊎◌, is_none, Result, Ok, Err, IfErr, IfOk, IsErrOf, MatchResult, OnOk}
+use Rattle.std.proofs.Common.{◌≡◌, ◌≢◌, ℕ, ◌≤◌, ◌^◌, ◌||◌, not, nat_lt, nat_le, Bool, true, false, List, [], ◌∷◌, length, Option, Some, None, is_some, if◌then◌else◌, refl, sym, ap, ◌∙◌, subst, arith, inl, inr, ◌++◌, ◌⊎◌, is_none, Result, Ok, Err, IfErr, IfOk, IsErrOf, MatchResult, OnOk, Vec, Global}
 use Rattle.std.proofs.lemmas.Bool.{and_from, eq-eqb, le-leb, lt-ltb, ne_eqb}
-use Rattle.std.proofs.lemmas.List.{append-nil, nil_from_length}
+use Rattle.std.proofs.lemmas.List.{append-nil, length-set, nil_from_length}
 use Rattle.std.proofs.lemmas.List.Elements.{All-nil}
-use Rattle.std.proofs.lemmas.Option.{none-some, same_Some}
+use Rattle.std.proofs.lemmas.Option.{none-some}
 use Rattle.std.specs.Io.KnownBytes.{IsAtEnd}
 use Rattle.std.specs.List.{flat_map, slice_get}
 use Rattle.std.specs.Option.{option_or, option_map, option_map_or}
@@ -25,28 +25,30 @@ use Rattle.audit_laws.proofs.waiting.Steps.{alone-without}
 use Rattle.audit_laws.specs.Waiting.Alone.{WaitsAlone}
 use Rattle.audit_laws.specs.Waiting.Keys.{IsKnown}
 use Rattle.cache_core.specs.Turned.{closing_behind, notes_in, reason_of, replies_to}
-use Rattle.cache_spaces.proofs.Placing.{at-is, at-map, at-was, at-same, at-more, at-unmoved}
-use Rattle.cache_spaces.specs.Services.{BareSpace, bare_tape, IsSound}
-use Rattle.cache_spaces.specs.Calls.{IsOpened, OpensNext, ServesEvent, At, InSpace, IsUnknown, TakesOutput}
-use Rattle.cache_spaces.specs.Spaces.{closing_of, config_of, known_of, notices_of, outgoing_of, untaken_output}
+use Rattle.cache_core.specs.Owing.{GivesWanted, without_output}
+use Rattle.cache_core.specs.declared.owing.Owed.{Owed}
+use Rattle.cache_spaces.proofs.Placing.{at-given, at-is, at-map, at-was, at-same, at-more, at-unmoved}
+use Rattle.cache_spaces.specs.Services.{BareSpace, bare_tape, IsSoundSpace}
+use Rattle.cache_spaces.specs.Calls.{IsOpened, OpensNext, ServesEvent, At, InSpace, IsUnknown}
+use Rattle.cache_spaces.specs.Spaces.{closing_of, config_of, known_of, untaken_notes, outgoing_of, untaken_output}
 use Rattle.cache_run.proofs.Accounting.{Accounts, AddsNone, KeepsLoads, accounted-none, accounts-later, adds-no-loads, keeps-quiet, later-kept, asked-refused}
 use Rattle.cache_run.proofs.Dropping.{goes-more, goes-still, kept-behind, nobody-behind, taken-same, none-behind}
 use Rattle.cache_run.proofs.Happening.{happened-so, listed-is, none-past, opened-is, same-closing, sent-is, situation-of, stays-opened, IsPlain, found-behind, found-last, found-none, plain-steps, quiet-steps, none-of, IsSoundAt, none-where}
 use Rattle.cache_run.proofs.Leading.{Stands, Leads, chain-adds-none, chain-closed, chain-leads}
 use Rattle.cache_run.proofs.Led.{carried-close, carried-drops, carried-still, Led, carried-led}
 use Rattle.cache_run.proofs.driver.Exchanges.{because-map, asking_then, underway-stopped}
-use Rattle.cache_run.specs.Loading.{pending_of, OnlyGivesUp, GivesLoads, AreKnown}
-use Rattle.cache_run.specs.Worlds.{Broken, Carried, Left, nothing_left, world, Goes}
+use Rattle.cache_run.specs.Loading.{loads_under_way_in, OnlyGivesUp, GivesLoads, AreKnown}
+use Rattle.cache_run.specs.Worlds.{Broken, Carried, Left, nothing_left, world, LeadsOnAlone}
 use Rattle.cache_run.specs.Connected.{HasTakenReplies, IsEnded, IsFed, IsOpenOrEnded}
 use Rattle.cache_run.specs.Devices.Sources.{Askings}
 use Rattle.cache_run.specs.Driver.Causes.{Because, outcome_by}
-use Rattle.cache_run.specs.Driver.Driven.{ClosesAfter, ComesTo, Finished, Stopped, around}
-use Rattle.cache_run.specs.Driver.Drives.{Outside, Rest, Talks, asked_of, late_of, lost_of}
-use Rattle.cache_run.specs.Driver.Exchanges.{Outs, Answered, Doing, Dropped, GivenUp, Settled, Chain, Exchange, HaveClosed, askings_in, moments_in, pieces_in, replies_in, told_of}
-use Rattle.cache_run.specs.Driver.Hosting.{SettlesBy, Suits, exchange_of}
+use Rattle.cache_run.specs.Driver.Driven.{ClosesAfter, ComesToProgress, Finished, Stopped, around}
+use Rattle.cache_run.specs.Driver.Drives.{Outside, LeftUndone, Talks, asked_of, late_of, lost_of}
+use Rattle.cache_run.specs.Driver.Exchanges.{Outs, Answered, Doing, Dropped, GivenUp, Settled, Chain, Exchange, HaveClosed, askings_in, moments_in, pieces_in, replies_in, readings_of}
+use Rattle.cache_run.specs.Driver.Hosting.{SettlesBy, SuitsRequest, exchange_of}
 use Rattle.cache_run.specs.Happened.{record_of, IsGivenUpFor}
-use Rattle.cache_run.specs.Lent.{DropsBoth, IsClosedBefore, AnswersOr, Comes, Does, Gives, GivesUpOr, MayGiveLoads, SettlesAt, ClosesAt, ClosesIt, ComesAt, DropsAt, OpensAt}
-use Rattle.cache_run.specs.Runs.{Closes, EndsRun, Quiet, ServesPartly, ServesWhole, Unfed, RunsPartly, RunsWhole}
+use Rattle.cache_run.specs.Lent.{DropsBoth, IsClosedBefore, AnswersOr, ExchangeCame, WasDone, WereGiven, GivesUpOr, MayGiveLoads, SettlesAt, ClosesAt, ClosesIt, ComesAt, DropsAt, OpensAt}
+use Rattle.cache_run.specs.Runs.{Closes, EndsConnection, Quiet, ServesPartly, ServesWhole, Unfed, RunsPartly, RunsWhole}
 use Rattle.cache_run.specs.declared.devices.errors.RunError.{RunError}
 use Rattle.cache_run.specs.declared.devices.errors.RunError.TheVariants.{Moment, Read, Write, OutOfMemory, UsedUp}
 use Rattle.cache_run.specs.declared.devices.watched.Watched.{Watched}
@@ -62,7 +64,7 @@ use Rattle.cache_spaces.specs.Calls as served
 -- nobody begins to wait as a connection opens or closes, and no other is touched
 goes-quiet : (number : ℕ) (was is : BareSpace) (happened : Event) (held : Bool) → ((s : Situation) → WaitsAlone number s.pending → WaitsAlone number (after_event happened s).pending) → ((s : Situation) → tasks_in s happened ≡ []) → IsPlain happened
     → ((s : Situation) (other : ℕ) → other ≢ number → connection_in other (after_event happened s) ≡ connection_in other s) → ServesEvent bare_tape was is happened held
-    → Goes number was is (λ s t. Quiet (config_of was) happened s t (notices_of was) (notices_of is))
+    → LeadsOnAlone number was is (λ s t. Quiet (config_of was) happened s t (untaken_notes was) (untaken_notes is))
 goes-quiet number was is happened held calm idle plain apart takes = record {
   each = λ s stands alone.
       let x = takes.turned s stands in
@@ -73,7 +75,7 @@ goes-quiet number was is happened held calm idle plain apart takes = record {
         alone = subst (λ (t : Situation). WaitsAlone number t.pending) (sym law.1) (calm s alone);
         fact = record {
           follows = subst (λ e. Follows (config_of was) s e x.2.next) law.0 x.2.follows;
-          notices = x.2.notes ∙ ap (λ e. notices_of was ++ notes_in e) law.0 ∙ untold happened plain (notices_of was);
+          notices = x.2.notes ∙ ap (λ e. untaken_notes was ++ notes_in e) law.0 ∙ untold happened plain (untaken_notes was);
         };
         others = λ other ne. (
           x.2.outputs other ∙ ap (λ e. untaken_output was other ++ replies_to other e.steps) law.0 ∙ append-nil (untaken_output was other),
@@ -89,8 +91,8 @@ goes-quiet number was is happened held calm idle plain apart takes = record {
 
 -- ---- the opening
 
-module _ (was is : BareSpace) (number : ℕ) (sound : IsSound bare_tape was) (opens : OpensNext bare_tape was is number) where
-  pub opens-quiet : Goes number was is (λ s t. Quiet (config_of was) (event.Open number) s t (notices_of was) (notices_of is))
+module _ (was is : BareSpace) (number : ℕ) (sound : IsSoundSpace bare_tape was) (opens : OpensNext bare_tape was is number) where
+  pub opens-quiet : LeadsOnAlone number was is (λ s t. Quiet (config_of was) (event.Open number) s t (untaken_notes was) (untaken_notes is))
   opens-quiet =
       goes-quiet number was is (event.Open number) false (λ s alone. alone) (λ s. refl) tt
       (λ s other ne. found-behind (record { number = number; unread = []; standing = Ready; waited = 0 }) other s.connections (ne_eqb number other (λ e. ne (sym e)))) opens.0
@@ -151,7 +153,7 @@ pub record Closed (number : ℕ) (was is : BareSpace) : Type 0 where
   pub keeps : KeepsLoads was is
   pub opened : IsOpened is number
 
-module _ (was is : BareSpace) (number : ℕ) (sound : IsSound bare_tape was) (s : Stands IsFed number was) where
+module _ (was is : BareSpace) (number : ℕ) (sound : IsSoundSpace bare_tape was) (s : Stands IsFed number was) where
   closes-now : ServesEvent bare_tape was is (event.Close number) false → Closed number was is
   closes-now p =
       let x = p.turned sound.some sound.stands in
@@ -198,7 +200,7 @@ module _ (was is : BareSpace) (number : ℕ) (sound : IsSound bare_tape was) (s 
   closed-so (inr refused) =
       subst (Closed number was) (sym refused.0)
       (record {
-        closes = inr (closed-before refused.1 refused.2, refl, goes-still number was (λ s t. Unfed s t (notices_of was) (notices_of was)) (λ s stands. record { same = refl; notices = refl }));
+        closes = inr (closed-before refused.1 refused.2, refl, goes-still number was (λ s t. Unfed s t (untaken_notes was) (untaken_notes was)) (λ s stands. record { same = refl; notices = refl }));
         keeps = record { taken = refl; adds = λ n under. under };
         opened = s.opened;
       })
@@ -209,14 +211,14 @@ module _ {C L : Type 0} (reads : C → ℕ → C → Type 0) (loads : L → List
   -- it was closed, or had closed
   record Ended (x z w : BareSpace) (left : Left) : Type 0 where
     closes : Bool
-    goes : Goes number x w (λ s t. Carried (config_of x) number reads loads (world x s before) (world w t after) true closes [] left)
-    ends : IsAtEnd after.remaining ⊎ (closing_of z number ≢ None) → EndsRun closes (closing_of w number) after.remaining
+    goes : LeadsOnAlone number x w (λ s t. Carried (config_of x) number reads loads (world x s before) (world w t after) true closes [] left)
+    ends : IsAtEnd after.remaining ⊎ (closing_of z number ≢ None) → EndsConnection closes (closing_of w number) after.remaining
     closed : closing_of w number ≢ None
 
-  carried-ended : (x z w : BareSpace) (left : Left) → Goes number x z (λ s t. Carried (config_of x) number reads loads (world x s before) (world z t after) true false [] left) → Closes number z w → Ended x z w left
+  carried-ended : (x z w : BareSpace) (left : Left) → LeadsOnAlone number x z (λ s t. Carried (config_of x) number reads loads (world x s before) (world z t after) true false [] left) → Closes number z w → Ended x z w left
   carried-ended x z w left g (inl closes) = record {
     closes = true;
-    goes = goes-more number x z w (λ s t. Carried (config_of x) number reads loads (world x s before) (world z t after) true false [] left) (λ s t. Quiet (config_of z) (event.Close number) s t (notices_of z) (notices_of w))
+    goes = goes-more number x z w (λ s t. Carried (config_of x) number reads loads (world x s before) (world z t after) true false [] left) (λ s t. Quiet (config_of z) (event.Close number) s t (untaken_notes z) (untaken_notes w))
         (λ s t. Carried (config_of x) number reads loads (world x s before) (world w t after) true true [] left) g closes.2
         (λ s t u f q. carried-close (config_of x) number reads loads (world x s before) (world z t after) w u true left f (subst (λ k. Follows k t (record_of (event.Close number) []) u) g.config q.follows) q.notices);
     ends = λ over. (closes.1, at-end over);
@@ -228,7 +230,7 @@ module _ {C L : Type 0} (reads : C → ℕ → C → Type 0) (loads : L → List
       at-end (inr closed) = absurd (closed closes.0)
   carried-ended x z w left g (inr closes) = record {
     closes = false;
-    goes = goes-more number x z w (λ s t. Carried (config_of x) number reads loads (world x s before) (world z t after) true false [] left) (λ s t. Unfed s t (notices_of z) (notices_of w))
+    goes = goes-more number x z w (λ s t. Carried (config_of x) number reads loads (world x s before) (world z t after) true false [] left) (λ s t. Unfed s t (untaken_notes z) (untaken_notes w))
         (λ s t. Carried (config_of x) number reads loads (world x s before) (world w t after) true false [] left) g closes.2
         (λ s t u f q. carried-still (config_of x) number reads loads (world x s before) (world z t after) w u true false left f q.same q.notices);
     ends = λ over. subst IsEnded (sym closes.1) closes.0;
@@ -236,7 +238,7 @@ module _ {C L : Type 0} (reads : C → ℕ → C → Type 0) (loads : L → List
   }
 
   -- a connection was opened in a sound namespace, that was carried and these loads are left, and it was closed, or had closed
-  module _ (x y z w : BareSpace) (sound : IsSound bare_tape x) (opens : OpensNext bare_tape x y number) (left : Left) (goes : Goes number x z (λ s t. Carried (config_of x) number reads loads (world x s before) (world z t after) true false [] left)) (closing : Closed number z w) where
+  module _ (x y z w : BareSpace) (sound : IsSoundSpace bare_tape x) (opens : OpensNext bare_tape x y number) (left : Left) (goes : LeadsOnAlone number x z (λ s t. Carried (config_of x) number reads loads (world x s before) (world z t after) true false [] left)) (closing : Closed number z w) where
     ended : Ended x z w left
     ended = carried-ended x z w left goes closing.closes
 
@@ -246,20 +248,20 @@ module _ {C L : Type 0} (reads : C → ℕ → C → Type 0) (loads : L → List
       number = number;
       next = opens.1;
       closes = ended.closes;
-      goes = subst (λ l. Goes number x w (λ s t. Carried (config_of x) number reads loads (world x s before) (world w t after) true ended.closes [] l)) none ended.goes;
+      goes = subst (λ l. LeadsOnAlone number x w (λ s t. Carried (config_of x) number reads loads (world x s before) (world w t after) true ended.closes [] l)) none ended.goes;
       ends = ended.ends over;
       settled = adds-no-loads x w (λ n under. (opens-keeps x y number sound opens).adds n (adds n (closing.keeps.adds n under)));
     }
 
     -- loads were dropped then
-    pub partly-so : (v : BareSpace) (e : RunError) (hand : List (LoadId × List ℕ)) → (e ≡ Moment → (t : ℕ) × (2 ^ 63 ≤ t) × (left.late ≡ t ∷ [])) → IsSound bare_tape w → Accounts y z [] hand → DropsBoth number hand w v → ServesPartly reads loads x v before after e
+    pub partly-so : (v : BareSpace) (e : RunError) (hand : List (LoadId × List ℕ)) → (e ≡ Moment → (t : ℕ) × (2 ^ 63 ≤ t) × (left.late ≡ t ∷ [])) → IsSoundSpace bare_tape w → Accounts y z [] hand → DropsBoth number hand w v → ServesPartly reads loads x v before after e
     partly-so v e hand late behind accounted dropped =
         let why = closed-why (closing_of v number) (dropped.gives.1 ended.closed) in
         record {
           number = number;
           next = opens.1;
           closes = ended.closes;
-          goes = goes-more number x w v (λ s t. Carried (config_of x) number reads loads (world x s before) (world w t after) true ended.closes [] left) (λ s t. OnlyGivesUp (config_of w) s t (notices_of w) (notices_of v))
+          goes = goes-more number x w v (λ s t. Carried (config_of x) number reads loads (world x s before) (world w t after) true ended.closes [] left) (λ s t. OnlyGivesUp (config_of w) s t (untaken_notes w) (untaken_notes v))
               (λ s t. (drops : List Record) × Broken (config_of x) number reads loads (world x s before) (world v t after) true ended.closes drops e) ended.goes dropped.gives.0
               (λ s t u f q. (
                 q.drops,
@@ -292,10 +294,6 @@ known-by F old new n number a keep i = record {
   fact = keep a.was a.is a.at a.fact (subst (λ x. IsOpened x number) (sym (at-was F old new n a i.space i.at)) i.fact);
 }
 
--- where replies were taken
-pub known-told : (old new : List BareSpace) (n number : ℕ) (text : List ℕ) → At old new n (λ was is. TakesOutput was is number text) → InSpace old n (λ space. IsOpened space number) → InSpace new n (λ space. IsOpened space number)
-known-told old new n number text a i = known-by (λ was is. TakesOutput was is number text) old new n number a (λ x y at t opened. subst (λ z. IsOpened z number) (sym t.rest) opened) i
-
 -- where loads were taken
 pub known-given : (old new : List BareSpace) (n number : ℕ) (loads : Outs) → At old new n (GivesLoads loads) → InSpace old n (λ space. IsOpened space number) → InSpace new n (λ space. IsOpened space number)
 known-given old new n number loads a i = known-by (GivesLoads loads) old new n number a (λ x y at t opened. subst (λ z. IsOpened z number) (sym (taken-same x y loads t.1)) opened) i
@@ -310,10 +308,10 @@ known-served old new n number happened held sound a i =
     known-settled old new n number happened sound (at-map (λ was is. ServesEvent bare_tape was is happened held) (λ was is. served.Settled bare_tape was is happened) old new n a (λ x y h. happened-so x y happened held h)) i
 
 -- one that was opened is there
-pub known-opened : (old new : List BareSpace) (n m number : ℕ) → m ≡ n → At old new n (λ was is. IsSound bare_tape was × OpensNext bare_tape was is number) → InSpace new m (λ space. IsOpened space number)
+pub known-opened : (old new : List BareSpace) (n m number : ℕ) → m ≡ n → At old new n (λ was is. IsSoundSpace bare_tape was × OpensNext bare_tape was is number) → InSpace new m (λ space. IsOpened space number)
 known-opened old new n m number same a =
     subst (λ k. InSpace new k (λ space. IsOpened space number)) (sym same)
-    (record { space = a.is; at = at-is (λ was is. IsSound bare_tape was × OpensNext bare_tape was is number) old new n a; fact = (opens-stands a.was a.is number a.fact.0 a.fact.1).opened })
+    (record { space = a.is; at = at-is (λ was is. IsSoundSpace bare_tape was × OpensNext bare_tape was is number) old new n a; fact = (opens-stands a.was a.is number a.fact.0 a.fact.1).opened })
 
 -- nothing was taken
 pub none-given : (spaces : List BareSpace) (n number : ℕ) → InSpace spaces n (λ space. IsOpened space number) → At spaces spaces n (λ was is. is ≡ was)
@@ -328,33 +326,75 @@ not-unknown space number e opened unknown = let h : true ≡ false = sym opened 
 
 -- ---- what is done and given
 
--- its replies were taken, then loads, and it is seen why it has closed
-pub at-gives : (old told new : List BareSpace) (n number : ℕ) (given : Given) (text : List ℕ) → option_map (λ t. t.items) given.replies ≡ Some text → At old told n (λ was is. TakesOutput was is number text)
-    → At told new n (MayGiveLoads (option_map (λ l. l.items) given.loads)) → InSpace new n (λ space. given.closing ≡ closing_of space number) → At old new n (Gives number given)
-at-gives old told new n number given text texts a b i =
-    let closing = subst (λ y. given.closing ≡ closing_of y number) (same_Some i.space b.is (sym i.at ∙ at-is (MayGiveLoads (option_map (λ l. l.items) given.loads)) told new n b)) i.fact in
-    at-more (λ was is. TakesOutput was is number text) (λ was is. MayGiveLoads (option_map (λ l. l.items) given.loads) was is × (given.closing ≡ closing_of is number)) (Gives number given) old told new n a
-    (record { was = b.was; is = b.is; at = b.at; set = b.set; fact = (b.fact, closing) })
-    (λ x y z p q. record { told = y; text = text; texts = texts; replies = p; gives = q.0; closing = q.1 })
+-- a namespace is sound also without the replies of a connection
+sound-told : (was : BareSpace) (number : ℕ) → IsSoundSpace bare_tape was → IsSoundSpace bare_tape (without_output number was)
+sound-told was number s = record {
+  some = s.some;
+  stands = record { held = s.stands.held; stands = s.stands.stands; is = s.stands.is };
+  order = record {
+    in_time = s.order.in_time;
+    moment = s.order.moment;
+    rests = s.order.rests;
+    untaken = s.order.untaken;
+    outputs = λ kept n. let no : false ≡ true = kept in cc;
+    tidy = s.order.tidy;
+    reads = s.order.reads;
+  };
+  suits = record { listed = s.suits.listed; counted = length-set was.outputs _ [] ∙ s.suits.counted; sent = s.suits.sent; fewer = s.suits.fewer };
+}
 
-pub suits-so : (wants : Bool) (given : Given) → is_some given.loads ≡ wants → given.waits ≡ false → Suits true wants given
+-- loads that were moved out of a sound namespace, if they were requested
+gives-wanted : (was is : BareSpace) (loads : Option Outs) → IsSoundSpace bare_tape was → GivesWanted was is loads → MayGiveLoads loads was is
+gives-wanted was is None sound same = same
+gives-wanted was is (Some loads) sound gives = (sound, record { taken = gives.taken; rest = gives.rest; in_turn = gives.in_turn; keys = gives.keys })
+
+closing-kept : (was is : BareSpace) (number : ℕ) (loads : Option Outs) → GivesWanted was is loads → closing_of is number ≡ closing_of was number
+closing-kept was is number None same = ap (λ (s : BareSpace). closing_of s number) same
+closing-kept was is number (Some loads) gives = ap (λ (s : BareSpace). closing_of s number) gives.rest
+
+opened-kept : (was is : BareSpace) (number : ℕ) (loads : Option Outs) → GivesWanted was is loads → IsOpened was number → IsOpened is number
+opened-kept was is number None same opened = subst (λ z. IsOpened z number) (sym same) opened
+opened-kept was is number (Some loads) gives opened = subst (λ z. IsOpened z number) (sym gives.rest) opened
+
+-- what a connection was owed was moved out, and is given
+pub at-gives : (old new : List BareSpace) (n number : ℕ) (wants : Bool) (owed : Owed) (given : Given) → IsSoundAt old n → At old new n (λ was is. served.GivesConnectionOwed was is number wants owed)
+    → given.owed.replies ≡ owed.replies → given.owed.loads ≡ owed.loads → given.owed.closing ≡ owed.closing → At old new n (WereGiven number given)
+at-gives old new n number wants owed given sound a replies loads closing =
+    at-given (λ was is. served.GivesConnectionOwed was is number wants owed) (WereGiven number given) old new n a (λ x y at behind g.
+    let told = without_output number x in
+    let outs = option_map (λ l. l.items) owed.loads in
+    record {
+      told = told;
+      text = untaken_output x number;
+      texts = ap (option_map (λ (t : Vec ℕ Global). t.items)) replies ∙ g.1.replies;
+      replies = record { opened = g.0; taken = refl; rest = refl };
+      gives = subst (λ (o : Option (Vec (LoadId × List ℕ) Global)). MayGiveLoads (option_map (λ l. l.items) o) told y) (sym loads) (gives-wanted told y outs (sound-told x number (sound x at)) g.1.loads);
+      closing = closing ∙ g.1.closing ∙ sym (closing-kept told y number outs g.1.loads);
+    })
+
+pub known-owed : (old new : List BareSpace) (n number : ℕ) (wants : Bool) (owed : Owed) → At old new n (λ was is. served.GivesConnectionOwed was is number wants owed) → InSpace old n (λ space. IsOpened space number) → InSpace new n (λ space. IsOpened space number)
+known-owed old new n number wants owed a i =
+    known-by (λ was is. served.GivesConnectionOwed was is number wants owed) old new n number a
+    (λ x y at g opened. opened-kept (without_output number x) y number (option_map (λ l. l.items) owed.loads) g.1.loads opened) i
+
+pub suits-so : (wants : Bool) (given : Given) → is_some given.owed.loads ≡ wants → given.owed.waits ≡ false → SuitsRequest true wants given
 suits-so wants given some waits = record {
-  unwanted = λ no. none-where given.loads (some ∙ no);
+  unwanted = λ no. none-where given.owed.loads (some ∙ no);
   wanted = λ lent yes. some ∙ yes;
   waits = λ lent. waits;
 }
 
 -- that was done, and that was given: an exchange came
-pub at-comes : (old mid new : List BareSpace) (n number : ℕ) (doing : Doing) (given : Given) → At old mid n (Does number doing) → At mid new n (Gives number given) → At old new n (λ was is. Comes number was (exchange_of doing given) is)
+pub at-comes : (old mid new : List BareSpace) (n number : ℕ) (doing : Doing) (given : Given) → At old mid n (WasDone number doing) → At mid new n (WereGiven number given) → At old new n (λ was is. ExchangeCame number was (exchange_of doing given) is)
 at-comes old mid new n number doing given a b =
-    at-more (Does number doing) (Gives number given) (λ was is. Comes number was (exchange_of doing given) is) old mid new n a b
+    at-more (WasDone number doing) (WereGiven number given) (λ was is. ExchangeCame number was (exchange_of doing given) is) old mid new n a b
     (λ x y z d g. record { done = y; told = g.told; text = g.text; does = d; texts = g.texts; replies = g.replies; gives = g.gives; closing = g.closing })
 
 -- ---- what settled a load
 
 -- it was not under way
 settled-unknown : {F : BareSpace → BareSpace → Type 0} (conn : Conn) (load moment : ℕ) (said : Option Outcome) (key : List ℕ) (old new : List BareSpace) (a : At old new conn.namespace F) → (a.is ≡ a.was) × ((known_of a.was).is_under_way load ≡ false)
-    → (doing : Doing) × SettlesBy load moment (record { key = key; answer = said }) doing × At old new conn.namespace (Does conn.number doing)
+    → (doing : Doing) × SettlesBy load moment (record { key = key; answer = said }) doing × At old new conn.namespace (WasDone conn.number doing)
 settled-unknown conn load moment said key old new a unknown = (
   Settled (Dropped load (record { key = key; answer = said })) moment,
   record { settling = Dropped load (record { key = key; answer = said }); of = refl; numbered = refl; done = refl },
@@ -365,7 +405,7 @@ settled-unknown conn load moment said key old new a unknown = (
 pub by-answer : (conn : Conn) (load : ℕ) (outcome : Outcome) (moment : ℕ) (said : Option Outcome) (old new : List BareSpace) → said ≡ Some outcome → At old new conn.namespace (AnswersOr load outcome moment) → SettlesAt conn load said moment old new
 by-answer conn load outcome moment said old new is a key = go a.fact
   where
-    go : AnswersOr load outcome moment a.was a.is → (doing : Doing) × SettlesBy load moment (record { key = key; answer = said }) doing × At old new conn.namespace (Does conn.number doing)
+    go : AnswersOr load outcome moment a.was a.is → (doing : Doing) × SettlesBy load moment (record { key = key; answer = said }) doing × At old new conn.namespace (WasDone conn.number doing)
     go (inl h) = (
       Settled (Answered load key outcome) moment,
       record { settling = Answered load key outcome; of = ap (λ (o : Option Outcome). record { key = key; answer = o }) (sym is); numbered = refl; done = refl },
@@ -377,7 +417,7 @@ by-answer conn load outcome moment said old new is a key = go a.fact
 pub by-give-up : (conn : Conn) (load moment : ℕ) (said : Option Outcome) (old new : List BareSpace) → ((x : BareSpace) → slice_get old conn.namespace ≡ Some x → IsGivenUpFor (config_of x) said) → At old new conn.namespace (GivesUpOr load moment) → SettlesAt conn load said moment old new
 by-give-up conn load moment said old new may a key = go a.fact
   where
-    go : GivesUpOr load moment a.was a.is → (doing : Doing) × SettlesBy load moment (record { key = key; answer = said }) doing × At old new conn.namespace (Does conn.number doing)
+    go : GivesUpOr load moment a.was a.is → (doing : Doing) × SettlesBy load moment (record { key = key; answer = said }) doing × At old new conn.namespace (WasDone conn.number doing)
     go (inl h) = (
       Settled (GivenUp load (record { key = key; answer = said })) moment,
       record { settling = GivenUp load (record { key = key; answer = said }); of = refl; numbered = refl; done = refl },
@@ -388,53 +428,53 @@ by-give-up conn load moment said old new may a key = go a.fact
 -- What a driver answers for to whom a service is lent gives what `run` promises.
 
 -- what stays undone
-abbrev left_of : Rest → Left
+abbrev left_of : LeftUndone → Left
 left_of rest = record { late = late_of rest; lost = lost_of rest; asked = asked_of rest; unsent = rest.unsent }
 
 -- ---- of a service
 
 -- exchanges of a service are exchanges of the namespace
 chain-at : (conn : Conn) (old : List BareSpace) (hand : Outs) (exchanges : List Exchange) (new : List BareSpace) (after : Outs) (x : BareSpace) → slice_get old conn.namespace ≡ Some x → Chain (ComesAt conn) old hand exchanges new after
-    → At old new conn.namespace (λ was is. Chain (Comes conn.number) was hand exchanges is after)
-chain-at conn old hand [] new after x at c = at-unmoved old new c.0 (at-same (λ was is. Chain (Comes conn.number) was hand [] is after) old conn.namespace x at (refl, c.1))
+    → At old new conn.namespace (λ was is. Chain (ExchangeCame conn.number) was hand exchanges is after)
+chain-at conn old hand [] new after x at c = at-unmoved old new c.0 (at-same (λ was is. Chain (ExchangeCame conn.number) was hand [] is after) old conn.namespace x at (refl, c.1))
 chain-at conn old hand (exchange ∷ exchanges) new after x at c =
     let n = conn.namespace in
-    at-more (λ was is. Comes conn.number was exchange is) (λ was is. Chain (Comes conn.number) was c.1 exchanges is after) (λ was is. Chain (Comes conn.number) was hand (exchange ∷ exchanges) is after) old c.0 new n c.2
-    (chain-at conn c.0 c.1 exchanges new after c.2.is (at-is (λ was is. Comes conn.number was exchange is) old c.0 n c.2) c.4) (λ u v w p q. (v, c.1, p, c.3, q))
+    at-more (λ was is. ExchangeCame conn.number was exchange is) (λ was is. Chain (ExchangeCame conn.number) was c.1 exchanges is after) (λ was is. Chain (ExchangeCame conn.number) was hand (exchange ∷ exchanges) is after) old c.0 new n c.2
+    (chain-at conn c.0 c.1 exchanges new after c.2.is (at-is (λ was is. ExchangeCame conn.number was exchange is) old c.0 n c.2) c.4) (λ u v w p q. (v, c.1, p, c.3, q))
 
 -- an opening, exchanges and a closing, one behind the other
 record Between (conn : Conn) (exchanges : List Exchange) (hand : Outs) (x w : BareSpace) : Type 0 where
   opened : BareSpace
   left : BareSpace
-  opens : IsSound bare_tape x × OpensNext bare_tape x opened conn.number
-  chain : Chain (Comes conn.number) opened [] exchanges left hand
+  opens : IsSoundSpace bare_tape x × OpensNext bare_tape x opened conn.number
+  chain : Chain (ExchangeCame conn.number) opened [] exchanges left hand
   closes : ClosesIt conn.number left w
 
 between : (namespace : ℕ) (conn : Conn) (old opened left new : List BareSpace) (exchanges : List Exchange) (hand : Outs) → OpensAt namespace conn old opened → Chain (ComesAt conn) opened [] exchanges left hand → ClosesAt conn left new
     → At old new conn.namespace (Between conn exchanges hand)
 between namespace conn old opened left new exchanges hand opens chain closes =
     let n = conn.namespace in
-    let Opens : BareSpace → BareSpace → Type 0 = λ x y. IsSound bare_tape x × OpensNext bare_tape x y conn.number in
-    let Rest : BareSpace → BareSpace → Type 0 = λ y w. (z : BareSpace) × Chain (Comes conn.number) y [] exchanges z hand × ClosesIt conn.number z w in
+    let Opens : BareSpace → BareSpace → Type 0 = λ x y. IsSoundSpace bare_tape x × OpensNext bare_tape x y conn.number in
+    let LeftUndone : BareSpace → BareSpace → Type 0 = λ y w. (z : BareSpace) × Chain (ExchangeCame conn.number) y [] exchanges z hand × ClosesIt conn.number z w in
     let first : At old opened n Opens = subst (λ k. At old opened k Opens) (sym opens.0) opens.1 in
     let second = chain-at conn opened [] exchanges left hand first.is (at-is Opens old opened n first) chain in
-    at-more Opens Rest (Between conn exchanges hand) old opened new n first
-    (at-more (λ y z. Chain (Comes conn.number) y [] exchanges z hand) (ClosesIt conn.number) Rest opened left new n second closes (λ y z w p q. (z, p, q))) (λ x y w o q. record { opened = y; left = q.0; opens = o; chain = q.1; closes = q.2 })
+    at-more Opens LeftUndone (Between conn exchanges hand) old opened new n first
+    (at-more (λ y z. Chain (ExchangeCame conn.number) y [] exchanges z hand) (ClosesIt conn.number) LeftUndone opened left new n second closes (λ y z w p q. (z, p, q))) (λ x y w o q. record { opened = y; left = q.0; opens = o; chain = q.1; closes = q.2 })
 
 module _ {C L : Type 0} (reads : C → ℕ → C → Type 0) (loads : L → List ℕ → Option Outcome → L → Type 0) (namespace : ℕ) (old new : List BareSpace) (a b : Outside C L) where
   -- what was talked between an opening and a closing
-  module _ (conn : Conn) (h k : List BareSpace) (hand : Outs) (rest : Rest) (t : Talks (ComesAt conn) reads loads h k a b [] hand rest) (x w : BareSpace) (r : Between conn t.exchanges hand x w) where
+  module _ (conn : Conn) (h k : List BareSpace) (hand : Outs) (rest : LeftUndone) (t : Talks (ComesAt conn) reads loads h k a b [] hand rest) (x w : BareSpace) (r : Between conn t.exchanges hand x w) where
     leads : Leads conn.number r.opened r.left [] hand t.exchanges
     leads = chain-leads conn.number r.opened [] t.exchanges r.left hand (opens-stands x r.opened conn.number r.opens.0 r.opens.1) r.chain
 
-    goes : Goes conn.number x r.left (λ s u. Carried (config_of x) conn.number reads loads (world x s a) (world r.left u b) true false [] (left_of rest))
+    goes : LeadsOnAlone conn.number x r.left (λ s u. Carried (config_of x) conn.number reads loads (world x s a) (world r.left u b) true false [] (left_of rest))
     goes =
         let first = opens-quiet x r.opened conn.number r.opens.0 r.opens.1 in
-        goes-more conn.number x r.opened r.left (λ s m. Quiet (config_of x) (event.Open conn.number) s m (notices_of x) (notices_of r.opened))
-        (λ m u. AreKnown [] m → Led (config_of r.opened) conn.number m u (notices_of r.opened) (notices_of r.left) (pieces_in t.exchanges) (moments_in t.exchanges) (askings_in t.exchanges) (replies_in t.exchanges) (outgoing_of r.opened) (hand ++ outgoing_of r.left) × AreKnown hand u)
+        goes-more conn.number x r.opened r.left (λ s m. Quiet (config_of x) (event.Open conn.number) s m (untaken_notes x) (untaken_notes r.opened))
+        (λ m u. AreKnown [] m → Led (config_of r.opened) conn.number m u (untaken_notes r.opened) (untaken_notes r.left) (pieces_in t.exchanges) (moments_in t.exchanges) (askings_in t.exchanges) (replies_in t.exchanges) (outgoing_of r.opened) (hand ++ outgoing_of r.left) × AreKnown hand u)
         (λ s u. Carried (config_of x) conn.number reads loads (world x s a) (world r.left u b) true false [] (left_of rest)) first leads.goes
         (λ s m u f g.
-        let led = subst (λ k. Led k conn.number m u (notices_of r.opened) (notices_of r.left) (pieces_in t.exchanges) (moments_in t.exchanges) (askings_in t.exchanges) (replies_in t.exchanges) (outgoing_of r.opened) (hand ++ outgoing_of r.left)) first.config (g (All-nil (λ (o : LoadId × List ℕ). IsKnown o.0.number o.1 m))).0 in
+        let led = subst (λ k. Led k conn.number m u (untaken_notes r.opened) (untaken_notes r.left) (pieces_in t.exchanges) (moments_in t.exchanges) (askings_in t.exchanges) (replies_in t.exchanges) (outgoing_of r.opened) (hand ++ outgoing_of r.left)) first.config (g (All-nil (λ (o : LoadId × List ℕ). IsKnown o.0.number o.1 m))).0 in
         carried-led reads loads (config_of x) conn.number x r.opened r.left s m u a b (pieces_in t.exchanges) (moments_in t.exchanges) (askings_in t.exchanges) (replies_in t.exchanges) (outgoing_of r.opened) (hand ++ outgoing_of r.left) (left_of rest) t.sent f led
         (opens-outgoing x r.opened conn.number r.opens.0 r.opens.1) (asked-refused hand (outgoing_of r.left) rest.refused t.refused) t.read t.wrote t.replies t.clock t.loader)
 
@@ -453,7 +493,7 @@ module _ {C L : Type 0} (reads : C → ℕ → C → Type 0) (loads : L → List
       over : (x w : BareSpace) (r : Between s.conn f.talks.exchanges [] x w) → IsAtEnd b.remaining ⊎ HaveClosed f.talks.exchanges ⊎ (f.rest.refused ≢ None) → IsAtEnd b.remaining ⊎ (closing_of r.left s.conn.number ≢ None)
       over x w r (inl end) = inl end
       over x w r (inr (inl have)) = inr (chain-closed s.conn.number r.opened [] f.talks.exchanges r.left [] r.chain have)
-      over x w r (inr (inr refused)) = absurd (refused (ap (λ (r : Rest). r.refused) (f.whole refl)))
+      over x w r (inr (inr refused)) = absurd (refused (ap (λ (r : LeftUndone). r.refused) (f.whole refl)))
 
   -- one that came to an error was served partly
   lent-partly : (s : Session) (start m : List BareSpace) (middle : L) (e : RunError) → OpensAt namespace s.conn old start → Stopped true ComesAt ClosesAt reads loads start a s m (asking_then b middle) e → ClosesAfter ClosesAt DropsAt loads (Err e) s m new middle b.loader
@@ -467,23 +507,23 @@ module _ {C L : Type 0} (reads : C → ℕ → C → Type 0) (loads : L → List
       (between namespace s.conn old start f.stopped closes.0 t.exchanges hand opens t.chain (f.behind closes.0 closes.2)) closes.3.0
       (λ x w v r p.
       partly-so reads loads s.conn.number a b x r.opened r.left w r.opens.0 r.opens.1 (left_of f.rest) (goes s.conn start f.stopped hand f.rest t x w r) (closing s.conn start f.stopped hand f.rest t x w r) v e hand
-      (λ is. let l = f.late is in (l.moment, l.late, ap (λ (o : Option Doing). option_map_or told_of o []) l.refused ∙ l.told)) r.closes.behind (leads s.conn start f.stopped hand f.rest t x w r).accounted p))
+      (λ is. let l = f.late is in (l.moment, l.late, ap (λ (o : Option Doing). option_map_or readings_of o []) l.refused ∙ l.told)) r.closes.behind (leads s.conn start f.stopped hand f.rest t x w r).accounted p))
 
   abbrev pub Served : Result (Unit {0}) RunError → Type 0
   Served outcome = MatchResult outcome (λ done. At old new namespace (λ was is. ServesWhole reads loads was is a b)) (λ e. At old new namespace (λ was is. ServesPartly reads loads was is a b e))
 
   -- whatever it came to
-  pub lent-served : (s : Session) (start m : List BareSpace) (middle : L) (result : Result Progress RunError) → OpensAt namespace s.conn old start → ComesTo true ComesAt ClosesAt reads loads start a result s m (asking_then b middle)
+  pub lent-served : (s : Session) (start m : List BareSpace) (middle : L) (result : Result Progress RunError) → OpensAt namespace s.conn old start → ComesToProgress true ComesAt ClosesAt reads loads start a result s m (asking_then b middle)
       → ClosesAfter ClosesAt DropsAt loads (outcome_by result) s m new middle b.loader → Served (outcome_by result)
   lent-served s start m middle (Ok More) opens comes closes = lent-partly s start m middle UsedUp opens (underway-stopped true ComesAt ClosesAt reads loads start a s m (asking_then b middle) comes) closes
   lent-served s start m middle (Ok Over) opens comes closes = lent-whole s start m opens (subst (λ (l : L). Finished true ComesAt ClosesAt reads loads start a s m (asking_then b l)) (sym closes.1) comes) closes.0
   lent-served s start m middle (Err e) opens comes closes = lent-partly s start m middle e opens comes closes
 
   -- however it ended, no load is under way where none was before
-  pub lent-none : (outcome : Result (Unit {0}) RunError) → Served outcome → At old new namespace (λ was is. pending_of was ≡ [] → pending_of is ≡ [])
-  lent-none (Ok done) d = at-map (λ was is. ServesWhole reads loads was is a b) (λ was is. pending_of was ≡ [] → pending_of is ≡ []) old new namespace d (λ x y w none. none-behind x y w.settled none)
+  pub lent-none : (outcome : Result (Unit {0}) RunError) → Served outcome → At old new namespace (λ was is. loads_under_way_in was ≡ [] → loads_under_way_in is ≡ [])
+  lent-none (Ok done) d = at-map (λ was is. ServesWhole reads loads was is a b) (λ was is. loads_under_way_in was ≡ [] → loads_under_way_in is ≡ []) old new namespace d (λ x y w none. none-behind x y w.settled none)
   lent-none (Err e) d =
-      at-map (λ was is. ServesPartly reads loads was is a b e) (λ was is. pending_of was ≡ [] → pending_of is ≡ []) old new namespace d (λ x y q none. none-behind x y (q.settled (subst (WaitsAlone q.number) (sym none) tt)) none)
+      at-map (λ was is. ServesPartly reads loads was is a b e) (λ was is. loads_under_way_in was ≡ [] → loads_under_way_in is ≡ []) old new namespace d (λ x y q none. none-behind x y (q.settled (subst (WaitsAlone q.number) (sym none) tt)) none)
 
 -- ---- why it stopped
 

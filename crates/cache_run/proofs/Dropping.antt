@@ -1,5 +1,6 @@
 -- How a namespace goes on by several calls, and by loads that are given up behind a closing.
 use Rattle.std.proofs.Common.{◌≡◌, ◌≢◌, ℕ, zero, suc, ◌-◌, ◌<◌, nat_lt, nat_le, List, [], ◌∷◌, ◌++◌, length, refl, sym, ap, ◌∙◌, subst, arith, slice_set, unwrap_or, ◌≤◌, ◌+◌, Bool, true, false, not, ◌&&◌, ◌||◌, ◌==◌, Some, append_assoc, Option, None, inl, inr, is_none}
+use Rattle.std.proofs.lemmas.Bool.Decides.{nat_tests}
 use Rattle.std.proofs.lemmas.Bool.{and_parts, ltb-true, cases_Bool, eq-eqb, and_from, cases_lt, ne_eqb, not-true, or_from, or_left, or_right}
 use Rattle.std.proofs.lemmas.Grind.{flat_map-append}
 use Rattle.std.proofs.lemmas.List.{append-nil}
@@ -29,22 +30,22 @@ use Rattle.cache_core.proofs.connections.Getting.{at-other}
 use Rattle.cache_core.specs.Settling.{giving_up}
 use Rattle.cache_core.specs.State.{at_number, situation_with}
 use Rattle.cache_core.specs.Turned.{feeding, notes_in}
-use Rattle.cache_spaces.specs.Services.{BareSpace, bare_tape, IsSound}
+use Rattle.cache_spaces.specs.Services.{BareSpace, bare_tape, IsSoundSpace}
 use Rattle.cache_spaces.specs.Calls.{IsOpened, TakesOutput, TakesLoads}
-use Rattle.cache_spaces.specs.Spaces.{StandsFor, closing_of, config_of, untaken_output, notices_of, outgoing_of, place_of, taken_of, known_of, shown_of}
+use Rattle.cache_spaces.specs.Spaces.{StandsFor, closing_of, config_of, untaken_output, untaken_notes, outgoing_of, place_of, taken_of, known_of, shown_of}
 use Rattle.cache_run.proofs.Accounting.{Accounted, adds-no-loads, loads-same, taken-count, taken-or-left, unfound, in-turn-next}
 use Rattle.cache_run.proofs.Happening.{IsPlain, plain-record, goes-by, pending-is, sent-is, stays-closed, listed-is, none-where, give-up-first}
 use Rattle.cache_run.proofs.Led.{record-one, Led, led-turn, records-more}
-use Rattle.cache_run.specs.Loading.{AddsNoLoads, DropsAll, DropsUnwaited, UnderWay, is_left, pending_of, SameButLoads, AreKnown, GivesLoads, OnlyGivesUp, GivesUpLoads}
+use Rattle.cache_run.specs.Loading.{AddsNoLoads, DropsAll, DropsUnwaited, IsUnderWay, is_left, loads_under_way_in, SameButLoads, AreKnown, GivesLoads, OnlyGivesUp, GivesUpLoads}
 use Rattle.cache_run.specs.Connected.{HasSituation}
 use Rattle.cache_run.specs.Driver.Exchanges.{Outs}
-use Rattle.cache_run.specs.Worlds.{Goes}
+use Rattle.cache_run.specs.Worlds.{LeadsOnAlone}
 use Rattle.cache_run.specs.Happened.{Fed, AreSent, record_of, AreDrops}
 use Rattle.cache_run.specs.Lent.{Drops, DropsBoth}
 use Rattle.cache_spaces.specs.Calls as served
 
 -- one after another
-pub goes-more : (number : ℕ) (x y z : BareSpace) (F G H : Situation → Situation → Type 0) → Goes number x y F → Goes number y z G → ((s t u : Situation) → F s t → G t u → H s u) → Goes number x z H
+pub goes-more : (number : ℕ) (x y z : BareSpace) (F G H : Situation → Situation → Type 0) → LeadsOnAlone number x y F → LeadsOnAlone number y z G → ((s t u : Situation) → F s t → G t u → H s u) → LeadsOnAlone number x z H
 goes-more number x y z F G H a b h = record {
   each = λ s stands alone.
       let first = a.each s stands alone in
@@ -97,18 +98,18 @@ module _ (was is : BareSpace) (number : ℕ) (text : List ℕ) (t : TakesOutput 
   output-none = ap (λ x. untaken_output x number) t.rest ∙ set-own was.outputs number
 
 -- a namespace of which only loads were taken
-pub goes-same : (number : ℕ) (was is : BareSpace) (F : Situation → Situation → Type 0) → SameButLoads was is → ((s : Situation) → StandsFor was s → F s s) → Goes number was is F
+pub goes-same : (number : ℕ) (was is : BareSpace) (F : Situation → Situation → Type 0) → SameButLoads was is → ((s : Situation) → StandsFor was s → F s s) → LeadsOnAlone number was is F
 goes-same number was is F same h = record {
   each = λ s stands alone. record { next = s; stands = still-stands was is s same stands; alone = alone; fact = h s stands; others = λ other ne. (ap (λ x. untaken_output x other) same, ap (λ x. closing_of x other) same) };
   config = ap config_of same;
 }
 
 -- nothing changed
-pub goes-still : (number : ℕ) (x : BareSpace) (F : Situation → Situation → Type 0) → ((s : Situation) → StandsFor x s → F s s) → Goes number x x F
+pub goes-still : (number : ℕ) (x : BareSpace) (F : Situation → Situation → Type 0) → ((s : Situation) → StandsFor x s → F s s) → LeadsOnAlone number x x F
 goes-still number x F h = goes-same number x x F refl h
 
 -- replies are taken behind it
-pub goes-output : (number : ℕ) (x y z : BareSpace) (text : List ℕ) (F : Situation → Situation → Type 0) → TakesOutput y z number text → Goes number x y F → Goes number x z F
+pub goes-output : (number : ℕ) (x y z : BareSpace) (text : List ℕ) (F : Situation → Situation → Type 0) → TakesOutput y z number text → LeadsOnAlone number x y F → LeadsOnAlone number x z F
 goes-output number x y z text F taken goes = record {
   each = λ s stands alone.
       let first = goes.each s stands alone in
@@ -160,11 +161,8 @@ key-out : (out : LoadId × List ℕ) (loads : List PendingLoad) → list_all (ag
 key-out out [] e = tt
 key-out out (load ∷ loads) e =
     let parts = and_parts (agrees_on out load) (list_all (agrees_on out) loads) e in
-    (λ is. go (load.number == out.0.number) (eq-eqb load.number out.0.number is) parts.0, key-out out loads parts.1)
-  where
-    go : (b : Bool) → b ≡ true → (not b || same load.key out.1) ≡ true → load.key ≡ out.1
-    go true is h = same-true load.key out.1 h
-    go false is h = let no : false ≡ true = is in cc
+    let own = same-true load.key out.1 in
+    (λ is. grind (arith, nat_tests, parts, own), key-out out loads parts.1)
 
 known-taken : (place before : ℕ) (outs : List (LoadId × List ℕ)) (s : Situation) → are_in_turn place before outs ≡ true → before + length outs ≤ s.sent → have_their_keys s.pending outs ≡ true → AreKnown outs s
 known-taken place before [] s turn few have = All-nil (λ (o : LoadId × List ℕ). IsKnown o.0.number o.1 s)
@@ -184,27 +182,27 @@ known-given was is loads s t stands =
 -- nothing was given up
 pub drops-none : (number : ℕ) (was is : BareSpace) → SameButLoads was is → GivesUpLoads number was is
 drops-none number was is same = (
-  goes-same number was is (λ s t. OnlyGivesUp (config_of was) s t (notices_of was) (notices_of is)) same (λ s stands. given-none (config_of was) s s (notices_of was) (notices_of is) refl (ap notices_of same)),
+  goes-same number was is (λ s t. OnlyGivesUp (config_of was) s t (untaken_notes was) (untaken_notes is)) same (λ s stands. given-none (config_of was) s s (untaken_notes was) (untaken_notes is) refl (ap untaken_notes same)),
   λ closed is_open. closed (sym (ap (λ x. closing_of x number) same) ∙ is_open),
 )
 
 -- one after another
 pub drops-again : (number : ℕ) (x y z : BareSpace) → GivesUpLoads number x y → GivesUpLoads number y z → GivesUpLoads number x z
 drops-again number x y z a b = (
-  goes-more number x y z (λ s t. OnlyGivesUp (config_of x) s t (notices_of x) (notices_of y)) (λ s t. OnlyGivesUp (config_of y) s t (notices_of y) (notices_of z)) (λ s t. OnlyGivesUp (config_of x) s t (notices_of x) (notices_of z)) a.0 b.0
-      (λ s t u f g. given-more (config_of x) s t u (notices_of x) (notices_of y) (notices_of z) f (subst (λ k. OnlyGivesUp k t u (notices_of y) (notices_of z)) a.0.config g)),
+  goes-more number x y z (λ s t. OnlyGivesUp (config_of x) s t (untaken_notes x) (untaken_notes y)) (λ s t. OnlyGivesUp (config_of y) s t (untaken_notes y) (untaken_notes z)) (λ s t. OnlyGivesUp (config_of x) s t (untaken_notes x) (untaken_notes z)) a.0 b.0
+      (λ s t u f g. given-more (config_of x) s t u (untaken_notes x) (untaken_notes y) (untaken_notes z) f (subst (λ k. OnlyGivesUp k t u (untaken_notes y) (untaken_notes z)) a.0.config g)),
   λ closed. b.1 (a.1 closed),
 )
 
 -- one load was given up
 pub drops-one : (number : ℕ) (was is : BareSpace) (load : ℕ) → HasSituation was → served.Settled bare_tape was is (giving_up load 0) → GivesUpLoads number was is
 drops-one number was is load begun settled = (
-  goes-by was is (giving_up load 0) settled number tt (λ s t. OnlyGivesUp (config_of was) s t (notices_of was) (notices_of is))
+  goes-by was is (giving_up load 0) settled number tt (λ s t. OnlyGivesUp (config_of was) s t (untaken_notes was) (untaken_notes is))
       (λ s t entry event turned follows own stands. record {
         drops = entry ∷ [];
         dropped = ((load, event), tt);
         follows = record-one (config_of was) s entry t follows;
-        notices = turned.notes ∙ ap (λ l. notices_of was ++ l) (sym (append-nil (notes_in entry)));
+        notices = turned.notes ∙ ap (λ l. untaken_notes was ++ l) (sym (append-nil (notes_in entry)));
       }),
   λ closed is_open. closed (sym (stays-closed was is (giving_up load 0) settled number begun closed) ∙ is_open),
 )
@@ -220,8 +218,8 @@ tidy-with : (x : BareSpace) (held : List HeldValue) → Tidy [] (situation_with 
 tidy-with x held t = record { once = t.once; keys = t.keys }
 
 -- where no other connection waits, and this one has closed, nobody does
-pub nobody-behind : (number : ℕ) (x w : BareSpace) (F : Situation → Situation → Type 0) → HasSituation x → IsSound bare_tape w → IsOpened w number → Goes number x w F → closing_of w number ≢ None → WaitsAlone number (pending_of x)
-    → NobodyWaits (pending_of w)
+pub nobody-behind : (number : ℕ) (x w : BareSpace) (F : Situation → Situation → Type 0) → HasSituation x → IsSoundSpace bare_tape w → IsOpened w number → LeadsOnAlone number x w F → closing_of w number ≢ None → WaitsAlone number (loads_under_way_in x)
+    → NobodyWaits (loads_under_way_in w)
 nobody-behind number x w F before after opened goes closes alone =
     let g = goes.each before.some before.stands (subst (WaitsAlone number) (sym (pending-is x before.some before.stands)) alone) in
     let tidy = subst (Tidy []) (sym g.stands.is) (tidy-with w g.stands.held after.order.tidy) in
@@ -243,7 +241,7 @@ drops-settled was is load begun settled none =
       nobody = subst NobodyWaits (pending-is is x.2.next x.2.stands) law.2;
       loads = λ n under.
           let left = ap (λ (t : Situation). t.pending) (sym law.1) ∙ pending-is is x.2.next x.2.stands in
-          let parts = and_parts (is_under_way n s.pending) (not (n == load)) (one-of p n (pending_of is) (ap (are_all p) (sym left) ∙ all-but p load s.pending own) under) in
+          let parts = and_parts (is_under_way n s.pending) (not (n == load)) (one-of p n (loads_under_way_in is) (ap (are_all p) (sym left) ∙ all-but p load s.pending own) under) in
           (ap (is_under_way n) (sym (pending-is was s begun.stands)) ∙ parts.0, not-true (n == load) parts.1);
     }
 
@@ -264,7 +262,7 @@ not-left : (outs : List (LoadId × List ℕ)) (out : LoadId × List ℕ) (n : �
 not-left outs out n a b = grind (arith, ne_eqb, eq-eqb, list_any-append, or_from)
 
 -- those that were taken are given up, then the rest are taken and given up
-drops-all : (outs loads : List (LoadId × List ℕ)) (x y z w : BareSpace) → IsSound bare_tape y → DropsUnwaited (λ n. is_left n outs) x y → TakesLoads y z loads → DropsUnwaited (λ n. is_left n loads) z w → DropsAll outs x w
+drops-all : (outs loads : List (LoadId × List ℕ)) (x y z w : BareSpace) → IsSoundSpace bare_tape y → DropsUnwaited (λ n. is_left n outs) x y → TakesLoads y z loads → DropsUnwaited (λ n. is_left n loads) z w → DropsAll outs x w
 drops-all outs loads x y z w sound p t q none n under =
     let a = p none in
     let b = q (subst NobodyWaits (sym (loads-same y z loads t)) a.nobody) in
@@ -278,7 +276,7 @@ drops-all outs loads x y z w sound p t q none n under =
     )
 
 -- each that is under way was kept
-pub kept-behind : (x w v : BareSpace) (outs : List (LoadId × List ℕ)) → Accounted x w outs → DropsAll outs w v → NobodyWaits (pending_of w) → AddsNoLoads x v
+pub kept-behind : (x w v : BareSpace) (outs : List (LoadId × List ℕ)) → Accounted x w outs → DropsAll outs w v → NobodyWaits (loads_under_way_in w) → AddsNoLoads x v
 kept-behind x w v outs a d none =
     adds-no-loads x v
     (λ n under.
@@ -287,8 +285,8 @@ kept-behind x w v outs a d none =
     elim (a.loads n left.0) [ inl before ↦ before | inr (inl in_hand) ↦ (let no : true ≡ false = sym in_hand ∙ left.1 in cc) | inr (inr above) ↦ absurd (omega (arith, above, few)) ])
 
 -- where none was under way, none is
-pub none-behind : (x v : BareSpace) → AddsNoLoads x v → pending_of x ≡ [] → pending_of v ≡ []
-none-behind x v adds none = go (pending_of v) (ap (λ l. are_all (λ n. is_under_way n l) (pending_of v)) (sym none) ∙ adds)
+pub none-behind : (x v : BareSpace) → AddsNoLoads x v → loads_under_way_in x ≡ [] → loads_under_way_in v ≡ []
+none-behind x v adds none = go (loads_under_way_in v) (ap (λ l. are_all (λ n. is_under_way n l) (loads_under_way_in v)) (sym none) ∙ adds)
   where
     go : (loads : List PendingLoad) → are_all (λ n. is_under_way n []) loads ≡ true → loads ≡ []
     go [] e = refl
@@ -308,7 +306,7 @@ module _ (number : ℕ) where
     gone = λ none. record {
       taken = refl;
       nobody = none;
-      loads = λ n under. (under, ne_eqb n load (λ e. unfound load (pending_of x) (give-up-first (config_of x) (known_of x) load _ refused) (subst (UnderWay x) e under)));
+      loads = λ n under. (under, ne_eqb n load (λ e. unfound load (loads_under_way_in x) (give-up-first (config_of x) (known_of x) load _ refused) (subst (IsUnderWay x) e under)));
     };
   }
 

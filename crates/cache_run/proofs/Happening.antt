@@ -31,11 +31,11 @@ use Rattle.cache_core.specs.Settling.{answering, giving_up}
 use Rattle.cache_core.specs.State.{at_number}
 use Rattle.cache_core.specs.Turned.{Turned, closing_behind, is_waiting_in, own_steps, reason_of, replies_to}
 use Rattle.cache_spaces.proofs.Gaining.{record-opens}
-use Rattle.cache_spaces.specs.Services.{BareSpace, bare_tape, IsSound}
+use Rattle.cache_spaces.specs.Services.{BareSpace, bare_tape, IsSoundSpace}
 use Rattle.cache_spaces.specs.Calls.{IsOpened, ServesEvent, Settled, RefusedFor}
 use Rattle.cache_spaces.specs.Spaces.{StandsFor, closing_of, config_of, untaken_output, known_of, shown_of}
 use Rattle.cache_run.specs.Connected.{HasSituation, IsEnded, IsOpenOrEnded}
-use Rattle.cache_run.specs.Worlds.{Goes}
+use Rattle.cache_run.specs.Worlds.{LeadsOnAlone}
 use Rattle.cache_run.specs.Happened.{record_of}
 use Rattle.audit_model.specs.declared.event.Event.TheVariants as event
 use Rattle.audit_model.specs.declared.command.Closing.TheVariants as by
@@ -139,16 +139,16 @@ pub opened-is : (x : BareSpace) (s : Situation) → StandsFor x s → s.opened �
 opened-is x s stands = ap (λ (t : Situation). t.opened) stands.is
 
 -- a connection is listed just while it has not closed
-pub listed-is : (x : BareSpace) (s : Situation) (number : ℕ) → IsSound bare_tape x → StandsFor x s → IsOpened x number → is_some (connection_in number s) ≡ is_none (closing_of x number)
+pub listed-is : (x : BareSpace) (s : Situation) (number : ℕ) → IsSoundSpace bare_tape x → StandsFor x s → IsOpened x number → is_some (connection_in number s) ≡ is_none (closing_of x number)
 listed-is x s number sound stands opened = ap (λ (t : Situation). is_some (connection_in number t)) stands.is ∙ sound.suits.listed number opened
 
 -- a sound one stands for a situation
-pub situation-of : (x : BareSpace) → IsSound bare_tape x → HasSituation x
+pub situation-of : (x : BareSpace) → IsSoundSpace bare_tape x → HasSituation x
 situation-of x sound = record { some = sound.some; stands = sound.stands }
 
 -- each namespace of that number is sound
 abbrev pub IsSoundAt : List BareSpace → ℕ → Type 0
-IsSoundAt spaces n = (x : BareSpace) → slice_get spaces n ≡ Some x → IsSound bare_tape x
+IsSoundAt spaces n = (x : BareSpace) → slice_get spaces n ≡ Some x → IsSoundSpace bare_tape x
 
 -- ---- an event
 
@@ -230,7 +230,7 @@ module _ (was is : BareSpace) (happened : Event) (h : Settled bare_tape was is h
 
   -- where no other connection waits, the namespace goes on by steps of this one
   pub goes-by : (number : ℕ) → IsTurnOf number happened → (F : Situation → Situation → Type 0)
-      → ((s t : Situation) (entry : Record) → entry.event ≡ happened → Turned shown_of bare_tape was is s entry → Follows (config_of was) s entry t → StepsOf number entry.steps → StandsFor was s → F s t) → Goes number was is F
+      → ((s t : Situation) (entry : Record) → entry.event ≡ happened → Turned shown_of bare_tape was is s entry → Follows (config_of was) s entry t → StepsOf number entry.steps → StandsFor was s → F s t) → LeadsOnAlone number was is F
   goes-by number turn F f = record {
     each = λ s stands alone.
         let x = h.turned s stands in

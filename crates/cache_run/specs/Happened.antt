@@ -26,44 +26,44 @@ record_of happened steps = record { event = happened; own = None; notices = []; 
 
 -- a piece was fed at a moment, and these steps ran; or the loader was asked, and at this moment the load was settled by this record; or the
 -- load with this number was no longer under way, and what the loader returned was dropped
-pub data Turn : Type 0 where
-  Fed : (piece : List ℕ) → (moment : ℕ) → (steps : List Step) → Turn
-  Settled : (asking : Asking) → (moment : ℕ) → (entry : Record) → Turn
-  Dropped : (asking : Asking) → (moment : ℕ) → (load : ℕ) → Turn
+pub data HostTurn : Type 0 where
+  Fed : (piece : List ℕ) → (moment : ℕ) → (steps : List Step) → HostTurn
+  Settled : (asking : Asking) → (moment : ℕ) → (entry : Record) → HostTurn
+  Dropped : (asking : Asking) → (moment : ℕ) → (load : ℕ) → HostTurn
 
 -- the bytes that were read for it
-abbrev pub piece_in : Turn → List ℕ
+abbrev pub piece_in : HostTurn → List ℕ
 piece_in (Fed piece moment steps) = piece
 piece_in (Settled asking moment entry) = []
 piece_in (Dropped asking moment load) = []
 
 -- the clock's reading
-abbrev pub moment_in : Turn → ℕ
+abbrev pub moment_in : HostTurn → ℕ
 moment_in (Fed piece moment steps) = moment
 moment_in (Settled asking moment entry) = moment
 moment_in (Dropped asking moment load) = moment
 
 -- the request to the loader
-abbrev pub asked_in : Turn → List Asking
+abbrev pub asked_in : HostTurn → List Asking
 asked_in (Fed piece moment steps) = []
 asked_in (Settled asking moment entry) = asking ∷ []
 asked_in (Dropped asking moment load) = asking ∷ []
 
 -- its record, if there is one
-abbrev pub records_in : ℕ → Turn → List Record
-records_in number (Fed piece moment steps) = record_of (feeding number piece moment) steps ∷ []
-records_in number (Settled asking moment entry) = entry ∷ []
-records_in number (Dropped asking moment load) = []
+abbrev pub records_of_turn : ℕ → HostTurn → List Record
+records_of_turn number (Fed piece moment steps) = record_of (feeding number piece moment) steps ∷ []
+records_of_turn number (Settled asking moment entry) = entry ∷ []
+records_of_turn number (Dropped asking moment load) = []
 
 -- the replies of a record's connections
 abbrev pub record_replies : Record → List ℕ
 record_replies entry = flat_map reply_in entry.steps
 
-abbrev pub replies_in : ℕ → Turn → List ℕ
-replies_in number turn = flat_map record_replies (records_in number turn)
+abbrev pub replies_in : ℕ → HostTurn → List ℕ
+replies_in number turn = flat_map record_replies (records_of_turn number turn)
 
-abbrev pub turn_notes : ℕ → Turn → List Note
-turn_notes number turn = flat_map notes_in (records_in number turn)
+abbrev pub turn_notes : ℕ → HostTurn → List Note
+turn_notes number turn = flat_map notes_in (records_of_turn number turn)
 
 -- a load is given up only if the loader returned nothing, or an outcome that is refused for its bytes or its time
 abbrev pub IsGivenUpFor : Config → Option Outcome → Type 0
@@ -77,12 +77,12 @@ IsSettledBy config answer moment happened =
     × (happened ≡ answering load outcome moment))
     ⊎ ((load : ℕ) × (happened ≡ giving_up load moment) × IsGivenUpFor config answer)
 
-abbrev pub IsRight : Config → Turn → Type 0
+abbrev pub IsRight : Config → HostTurn → Type 0
 IsRight config (Fed piece moment steps) = Unit {0}
 IsRight config (Settled asking moment entry) = IsSettledBy config asking.answer moment entry.event
 IsRight config (Dropped asking moment load) = Unit {0}
 
-abbrev pub AreRight : Config → List Turn → Type 0
+abbrev pub AreRight : Config → List HostTurn → Type 0
 AreRight config [] = Unit {0}
 AreRight config (turn ∷ turns) = IsRight config turn × AreRight config turns
 
@@ -119,7 +119,7 @@ AskForSent (asking ∷ askings) outs =
 -- In the situation before it, the key that the loader is asked for is that of the load that is settled; what it returned is dropped only
 -- for a load that is not under way. Either way it is one of the loads that were sent and for which the loader was not asked, with its key;
 -- the others are left.
-abbrev pub IsInPlace : Outs → Situation → Turn → Outs → Type 0
+abbrev pub IsInPlace : Outs → Situation → HostTurn → Outs → Type 0
 IsInPlace outs s (Fed piece moment steps) left = left ≡ outs
 IsInPlace outs s (Settled asking moment entry) left =
     IsKeyOf s entry.event asking.key
@@ -129,11 +129,11 @@ IsInPlace outs s (Dropped asking moment load) left =
 
 -- Each turn is like this in the situation to which the turns before it lead: the loads for which the loader may be asked are these, without
 -- those for which it was, and those that were sent since. And that is true of those that are left at the end.
-abbrev pub AreInPlace : Config → ℕ → (Outs → Type 0) → Outs → Situation → List Turn → Type 0
+abbrev pub AreInPlace : Config → ℕ → (Outs → Type 0) → Outs → Situation → List HostTurn → Type 0
 AreInPlace config number End outs s [] = End outs
 AreInPlace config number End outs s (turn ∷ turns) =
     (left : Outs) × IsInPlace outs s turn left
-    × ((t : Situation) → after_records config s (records_in number turn) ≡ Some t
+    × ((t : Situation) → after_records config s (records_of_turn number turn) ≡ Some t
     → (more : Outs) × AreSent s t more × AreInPlace config number End (left ++ more) t turns)
 
 -- loads given up at moment 0, which counts as the latest

@@ -13,12 +13,12 @@ use Rattle.audit_model.specs.declared.transcript.Record.{Record}
 use Rattle.cache_run.specs.Devices.Watched.{device}
 use Rattle.cache_run.specs.declared.devices.watched.Watched.{Watched}
 use Rattle.cache_spaces.specs.Calls.{At}
-use Rattle.cache_spaces.specs.Spaces.{closing_of, config_of, notices_of}
+use Rattle.cache_spaces.specs.Spaces.{closing_of, config_of, untaken_notes}
 use Rattle.audit_model.specs.declared.event.Outcome.{Outcome}
 use Rattle.audit_laws.specs.Waiting.Alone.{WaitsAlone}
-use Rattle.cache_run.specs.Loading.{AddsNoLoads, pending_of}
+use Rattle.cache_run.specs.Loading.{AddsNoLoads, loads_under_way_in}
 use Rattle.cache_spaces.specs.Services.{BareSpace}
-use Rattle.cache_run.specs.Worlds.{Broken, Carried, nothing_left, outside, world, Goes}
+use Rattle.cache_run.specs.Worlds.{Broken, Carried, nothing_left, outside, world, LeadsOnAlone}
 use Rattle.cache_run.specs.Connected.{IsEnded}
 use Rattle.cache_run.specs.Happened.{record_of}
 use Rattle.cache_run.specs.Driver.Drives.{Outside}
@@ -43,16 +43,16 @@ pub record Unfed (s t : Situation) (before after : List Note) : Type 0 where
 -- an open connection is closed as requested, and one that was closed by what it was fed stays so
 abbrev pub Closes : ℕ → BareSpace → BareSpace → Type 0
 Closes number was is =
-    ((closing_of was number ≡ None) × (closing_of is number ≡ Some by.Asked) × Goes number was is
-    (λ s t. Quiet (config_of was) (event.Close number) s t (notices_of was) (notices_of is)))
+    ((closing_of was number ≡ None) × (closing_of is number ≡ Some by.Asked) × LeadsOnAlone number was is
+    (λ s t. Quiet (config_of was) (event.Close number) s t (untaken_notes was) (untaken_notes is)))
     ⊎ (IsEnded (closing_of was number) × (closing_of is number ≡ closing_of was number)
-    × Goes number was is (λ s t. Unfed s t (notices_of was) (notices_of is)))
+    × LeadsOnAlone number was is (λ s t. Unfed s t (untaken_notes was) (untaken_notes is)))
 
 -- it was closed as requested at the end of the input, or by what it was fed: a line that is too long, a `QUIT`, or too many bytes after a
 -- `LOAD` that waits
-abbrev pub EndsRun : Bool → Option Closing → Option (List ℕ) → Type 0
-EndsRun true closing remaining = (closing ≡ Some by.Asked) × IsAtEnd remaining
-EndsRun false closing remaining = IsEnded closing
+abbrev pub EndsConnection : Bool → Option Closing → Option (List ℕ) → Type 0
+EndsConnection true closing remaining = (closing ≡ Some by.Asked) × IsAtEnd remaining
+EndsConnection false closing remaining = IsEnded closing
 
 -- One connection was opened, fed with all that was read, and closed; the bytes written are its replies.
 pub record ServesWhole {C L : Type 0} (reads : C → ℕ → C → Type 0)
@@ -61,9 +61,9 @@ pub record ServesWhole {C L : Type 0} (reads : C → ℕ → C → Type 0)
   pub number : ℕ
   pub next : number ≡ next_number was
   pub closes : Bool
-  pub goes : Goes number was is (λ s t. Carried (config_of was) number reads loads
+  pub goes : LeadsOnAlone number was is (λ s t. Carried (config_of was) number reads loads
       (world was s before) (world is t after) true closes [] nothing_left)
-  pub ends : EndsRun closes (closing_of is number) after.remaining
+  pub ends : EndsConnection closes (closing_of is number) after.remaining
   -- each load under way afterwards was under way before
   pub settled : AddsNoLoads was is
 
@@ -74,12 +74,12 @@ pub record ServesPartly {C L : Type 0} (reads : C → ℕ → C → Type 0)
   pub number : ℕ
   pub next : number ≡ next_number was
   pub closes : Bool
-  pub goes : Goes number was is (λ s t. (drops : List Record) × Broken (config_of was) number reads
+  pub goes : LeadsOnAlone number was is (λ s t. (drops : List Record) × Broken (config_of was) number reads
       loads (world was s before) (world is t after) true closes drops e)
   pub why : Closing
   pub closed : closing_of is number ≡ Some why
   -- if no other connection waits for a load, each load under way afterwards was under way before
-  pub settled : WaitsAlone number (pending_of was) → AddsNoLoads was is
+  pub settled : WaitsAlone number (loads_under_way_in was) → AddsNoLoads was is
 
 -- ---- over devices
 

@@ -12,10 +12,10 @@ use Rattle.audit_model.specs.declared.transcript.Record.{Record}
 use Rattle.audit_laws.specs.Waiting.Alone.{WaitsAlone}
 use Rattle.cache_core.specs.Turned.{notes_in}
 use Rattle.cache_spaces.specs.Services.{BareSpace}
-use Rattle.cache_spaces.specs.Spaces.{StandsFor, config_of, untaken_output, closing_of, notices_of, outgoing_of}
+use Rattle.cache_spaces.specs.Spaces.{StandsFor, config_of, untaken_output, closing_of, untaken_notes, outgoing_of}
 use Rattle.cache_run.specs.Devices.Sources.{Asking, Askings, Readings}
 use Rattle.cache_run.specs.Driver.Drives.{Outside}
-use Rattle.cache_run.specs.Happened.{Turn, AreDrops, AreInPlace, AreRight, AskForSent, asked_in, moment_in, turn_notes, record_of, piece_in, records_in, replies_in}
+use Rattle.cache_run.specs.Happened.{HostTurn, AreDrops, AreInPlace, AreRight, AskForSent, asked_in, moment_in, turn_notes, record_of, piece_in, records_of_turn, replies_in}
 use Rattle.cache_run.specs.declared.devices.errors.RunError.{RunError}
 use Rattle.cache_run.specs.declared.devices.errors.RunError.TheVariants.{Moment}
 use Rattle.audit_model.specs.declared.event.Event.TheVariants as event
@@ -30,7 +30,7 @@ pub record GoesOn (number : ℕ) (was is : BareSpace) (Fact : Situation → Type
       × (closing_of is other ≡ closing_of was other)
 
 -- each situation that the namespace stood for, and in which no other connection waits for a load, leads to one that it stands for
-pub record Goes (number : ℕ) (was is : BareSpace) (Fact : Situation → Situation → Type 0) :
+pub record LeadsOnAlone (number : ℕ) (was is : BareSpace) (Fact : Situation → Situation → Type 0) :
     Type 0 where
   pub each : (s : Situation) → StandsFor was s → WaitsAlone number s.pending
       → GoesOn number was is (Fact s)
@@ -54,7 +54,7 @@ world space s around =
     record {
       situation = s;
       outgoing = outgoing_of space;
-      notices = notices_of space;
+      notices = untaken_notes space;
       outside = around;
     }
 
@@ -67,9 +67,9 @@ abbrev pub close_records : ℕ → Bool → List Record
 close_records number closes = if closes then record_of (event.Close number) [] ∷ [] else []
 
 -- the records of a connection: it opens or not, has these turns, closes or not, and then loads are given up
-abbrev pub records_of : ℕ → Bool → List Turn → Bool → List Record → List Record
+abbrev pub records_of : ℕ → Bool → List HostTurn → Bool → List Record → List Record
 records_of number opens turns closes drops =
-    (open_records number opens ++ flat_map (records_in number) turns)
+    (open_records number opens ++ flat_map (records_of_turn number) turns)
     ++ (close_records number closes ++ drops)
 
 -- what an error leaves after the last turn: the clock read `late`, `lost` was read, the loader was asked, and `unsent` was not written
@@ -89,7 +89,7 @@ nothing_left = record { late = []; lost = []; asked = []; unsent = [] }
 pub record Carried {C L : Type 0} (config : Config) (number : ℕ) (reads : C → ℕ → C → Type 0)
     (loads : L → List ℕ → Option Outcome → L → Type 0) (a b : World C L) (opens closes : Bool)
     (drops : List Record) (left : Left) : Type 0 where
-  pub turns : List Turn
+  pub turns : List HostTurn
   pub right : AreRight config turns
   pub placed : (s : Situation) → after_records config a.situation (open_records number opens)
       ≡ Some s → AreInPlace config number (AskForSent left.asked) a.outgoing s turns

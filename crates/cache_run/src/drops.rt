@@ -2,7 +2,7 @@
 ghost use Rattle.std.specs.Prelude.{◌==◌};
 ghost use Rattle.cache_spaces.specs.Calls.{At};
 ghost use Rattle.cache_run.specs.Loading.{is_left};
-ghost use Rattle.cache_run.specs.Lent.{ClosesAt, Drops, DropsBoth, IsThere};
+ghost use Rattle.cache_run.specs.Lent.{ClosesAt, Drops, DropsBoth, IsConnection};
 
 use crate::giving::take_sent;
 use audit_model::{Bytes, Conn, Instant, LoadId};
@@ -10,9 +10,9 @@ use cache_spaces::Service;
 
 /// Closes a connection, unless it has closed.
 pub fn close_if_open(service: &mut Service, conn: Conn)
-    requires known { IsThere conn service.old }
+    requires known { IsConnection conn service.old }
     ensures closes { ClosesAt conn service.old service.new }
-    ensures known { IsThere conn service.new }
+    ensures known { IsConnection conn service.new }
 {
     service.sound(conn.namespace);
     let done = service.close(conn);
@@ -26,10 +26,10 @@ pub fn close_if_open(service: &mut Service, conn: Conn)
 
 /// Gives up a load at moment 0, which counts as the latest. One that is not under way stays settled.
 fn drop_load(service: &mut Service, conn: Conn, load: u64)
-    requires known { IsThere conn service.old }
+    requires known { IsConnection conn service.old }
     ensures dropped { At service.old service.new conn.namespace
         (Drops conn.number (λ n. n == load)) }
-    ensures known { IsThere conn service.new }
+    ensures known { IsConnection conn service.new }
 {
     service.sound(conn.namespace);
     let id = LoadId {
@@ -45,10 +45,10 @@ fn drop_load(service: &mut Service, conn: Conn, load: u64)
 
 /// Gives up these loads.
 fn drop_all(service: &mut Service, conn: Conn, loads: &[(LoadId, Bytes)])
-    requires known { IsThere conn service.old }
+    requires known { IsConnection conn service.old }
     ensures dropped { At service.old service.new conn.namespace
         (Drops conn.number (λ n. is_left n loads.now)) }
-    ensures known { IsThere conn service.new }
+    ensures known { IsConnection conn service.new }
 {
     for (load, _key) in loads {
         drop_load(service, conn, load.number);
@@ -57,7 +57,7 @@ fn drop_all(service: &mut Service, conn: Conn, loads: &[(LoadId, Bytes)])
 
 /// Gives up the loads of a connection that has closed: those in hand, and then those that have gone out.
 pub fn drop_loads(service: &mut Service, conn: Conn, hand: &[(LoadId, Bytes)])
-    requires known { IsThere conn service.old }
+    requires known { IsConnection conn service.old }
     ensures { At service.old service.new conn.namespace (DropsBoth conn.number hand.now) }
 {
     drop_all(service, conn, hand);

@@ -1,16 +1,14 @@
 //! Feeding pieces, and what a connection is given.
-ghost use Rattle.std.specs.Prelude.{◌≡◌, ◌≤◌, ◌^◌, true, is_some, IfErr, IfOk, OnErr};
-ghost use Rattle.std.specs.Option.{option_map};
+ghost use Rattle.std.specs.Prelude.{◌≡◌, ◌≤◌, ◌^◌, true, IfErr, IfOk, OnErr};
 ghost use Rattle.cache_run.specs.Driver.Exchanges as did;
-ghost use Rattle.cache_run.specs.Driver.Hosting.{Stops, Suits};
-ghost use Rattle.cache_spaces.specs.Calls.{At, InSpace, TakesOutput};
-ghost use Rattle.cache_spaces.specs.Spaces.{closing_of};
-ghost use Rattle.cache_run.specs.Lent.{Does, Gives, IsThere, MayGiveLoads};
+ghost use Rattle.cache_run.specs.Driver.Hosting.{Stops, SuitsRequest};
+ghost use Rattle.cache_spaces.specs.Calls.{At};
+ghost use Rattle.cache_run.specs.Lent.{WasDone, WereGiven, IsConnection};
 ghost use Rattle.cache_run.specs.Loading.{GivesLoads};
 
 use crate::devices::RunError;
 use crate::driver::Given;
-use audit_model::{Bytes, Closing, Conn, Instant, LoadId, ServiceError};
+use audit_model::{Bytes, Conn, Instant, LoadId, ServiceError};
 use cache_spaces::{Fed, Service};
 
 /// Feeds a piece, and returns whether a command is held back for lack of memory. Returns `Moment` if the moment is above 2^63 - 1
@@ -21,10 +19,10 @@ pub fn feed_piece(
     piece: &[u8],
     moment: u64,
 ) -> Result<bool, RunError>
-    requires known { IsThere conn service.old }
+    requires known { IsConnection conn service.old }
     ensures fed { IfOk result (λ held. At service.old service.new conn.namespace
-        (Does conn.number (did.Fed piece.now moment held))) }
-    ensures known { IsThere conn service.new }
+        (WasDone conn.number (did.Fed piece.now moment held))) }
+    ensures known { IsConnection conn service.new }
     ensures unchanged { OnErr result (service.new ≡ service.old) }
     ensures why { IfErr result (Stops ⊥ (2 ^ 63 ≤ moment)) }
 {
@@ -37,24 +35,11 @@ pub fn feed_piece(
     }
 }
 
-/// Takes the replies of a connection.
-fn take_replies(service: &mut Service, conn: Conn) -> Vec<u8>
-    requires known { IsThere conn service.old }
-    ensures taken { At service.old service.new conn.namespace
-        (λ was is. TakesOutput was is conn.number result.items) }
-    ensures known { IsThere conn service.new }
-{
-    match service.take_output(conn) {
-        Ok(text) => text,
-        Err(_) => unreachable!(),
-    }
-}
-
 /// Takes the loads of the connection's namespace that have gone out.
 pub fn take_sent(service: &mut Service, conn: Conn) -> Vec<(LoadId, Bytes)>
-    requires known { IsThere conn service.old }
+    requires known { IsConnection conn service.old }
     ensures taken { At service.old service.new conn.namespace (GivesLoads result.items) }
-    ensures known { IsThere conn service.new }
+    ensures known { IsConnection conn service.new }
 {
     service.sound(conn.namespace);
     match service.take_loads(conn.namespace) {
@@ -63,46 +48,19 @@ pub fn take_sent(service: &mut Service, conn: Conn) -> Vec<(LoadId, Bytes)>
     }
 }
 
-/// The same, if they are requested.
-fn take_loads(service: &mut Service, conn: Conn, wanted: bool) -> Option<Vec<(LoadId, Bytes)>>
-    requires known { IsThere conn service.old }
-    ensures taken { At service.old service.new conn.namespace
-        (MayGiveLoads (option_map (λ loads. loads.items) result)) }
-    ensures wanted { is_some result ≡ wanted }
-    ensures known { IsThere conn service.new }
-{
-    if !wanted {
-        return None;
-    }
-    Some(take_sent(service, conn))
-}
-
-/// Why a connection has closed, if it has.
-fn closing_in(service: &Service, conn: Conn) -> Option<Closing>
-    requires known { IsThere conn service.now }
-    ensures { InSpace service.now conn.namespace (λ space. result ≡ closing_of space conn.number) }
-{
-    match service.closed(conn) {
-        Ok(closing) => closing,
-        Err(_) => unreachable!(),
-    }
-}
-
-/// Takes what a connection is owed.
+/// Takes what a connection is owed. No `LOAD` waits for another connection's loader.
 pub fn give(service: &mut Service, conn: Conn, held: bool, wants_loads: bool) -> Given
-    requires known { IsThere conn service.old }
-    ensures gives { At service.old service.new conn.namespace (Gives conn.number result) }
-    ensures suits { Suits true wants_loads result × (result.held ≡ held) }
-    ensures known { IsThere conn service.new }
+    requires known { IsConnection conn service.old }
+    ensures gives { At service.old service.new conn.namespace (WereGiven conn.number result) }
+    ensures suits { SuitsRequest true wants_loads result × (result.held ≡ held) }
+    ensures known { IsConnection conn service.new }
 {
-    let replies = take_replies(service, conn);
-    let loads = take_loads(service, conn, wants_loads);
-    let closing = closing_in(service, conn);
-    Given {
-        held,
-        replies: Some(replies),
-        loads,
-        closing,
-        waits: false,
+    service.sound(conn.namespace);
+    match service.owed(conn, wants_loads) {
+        Ok(mut owed) => {
+            owed.waits = false;
+            Given { held, owed }
+        }
+        Err(_) => unreachable!(),
     }
 }

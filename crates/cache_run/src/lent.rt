@@ -1,7 +1,7 @@
 //! The host of a connection of a lent service.
 ghost use Rattle.std.specs.Prelude.{◌≡◌, true};
 ghost use Rattle.std.proofs.Common.{subst};
-ghost use Rattle.cache_run.specs.Lent.{ClosesAt, ComesAt, DropsAt, IsThere, OpensAt};
+ghost use Rattle.cache_run.specs.Lent.{ClosesAt, ComesAt, DropsAt, IsConnection, OpensAt};
 
 use crate::devices::{Loader, RunError};
 use crate::driver::{Given, Host};
@@ -22,7 +22,7 @@ impl Host for Lent {
 
     ghost opens = { OpensAt };
 
-    ghost knows = { IsThere };
+    ghost knows = { IsConnection };
 
     ghost fits = { λ piece. Unit {0} };
 

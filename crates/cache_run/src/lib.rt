@@ -9,6 +9,7 @@ mod lent;
 mod loads;
 mod serving;
 
+pub use cache_spaces::Owed;
 pub use devices::{Clock, Loader, RunError, Watched, send};
 pub use driver::{
     Footing, Given, Host, Inbox, Progress, Session, close, converse, feed_piece, open, outcome_of,

@@ -2,7 +2,7 @@
 ghost use Rattle.std.specs.Prelude.{◌≡◌, ◌≤◌, ◌^◌, true, false, IfOk, IfErr, OnOk, OnErr};
 ghost use Rattle.cache_run.specs.Driver.Hosting.{Stops};
 ghost use Rattle.cache_spaces.specs.Calls.{At};
-ghost use Rattle.cache_run.specs.Lent.{AnswersOr, GivesUpOr, IsThere, RefusesOutcome, SettlesAt};
+ghost use Rattle.cache_run.specs.Lent.{AnswersOr, GivesUpOr, IsConnection, RefusesOutcome, SettlesAt};
 
 use crate::devices::RunError;
 use audit_model::{Conn, Instant, LoadId, Outcome, ServiceError};
@@ -10,9 +10,9 @@ use cache_spaces::Service;
 
 /// Gives up a load. One that is not under way stays settled.
 fn give_up(service: &mut Service, conn: Conn, load: u64, moment: u64) -> Result<(), RunError>
-    requires known { IsThere conn service.old }
+    requires known { IsConnection conn service.old }
     ensures ok { OnOk result (At service.old service.new conn.namespace (GivesUpOr load moment)) }
-    ensures known { IsThere conn service.new }
+    ensures known { IsConnection conn service.new }
     ensures unchanged { OnErr result (service.new ≡ service.old) }
     ensures why { IfErr result (Stops ⊥ (2 ^ 63 ≤ moment)) }
 {
@@ -41,12 +41,12 @@ fn answer(
     outcome: Outcome,
     moment: u64,
 ) -> Result<bool, RunError>
-    requires known { IsThere conn service.old }
+    requires known { IsConnection conn service.old }
     ensures settled { IfOk result (λ settled. settled ≡ true
         → At service.old service.new conn.namespace (AnswersOr load outcome moment)) }
     ensures refused { IfOk result
         (λ settled. settled ≡ false → RefusesOutcome conn outcome service.old service.new) }
-    ensures known { IsThere conn service.new }
+    ensures known { IsConnection conn service.new }
     ensures unchanged { OnErr result (service.new ≡ service.old) }
     ensures why { IfErr result (Stops ⊥ (2 ^ 63 ≤ moment)) }
 {
@@ -77,9 +77,9 @@ pub fn settle(
     said: Option<Outcome>,
     moment: u64,
 ) -> Result<(), RunError>
-    requires known { IsThere conn service.old }
+    requires known { IsConnection conn service.old }
     ensures ok { OnOk result (SettlesAt conn load said moment service.old service.new) }
-    ensures known { IsThere conn service.new }
+    ensures known { IsConnection conn service.new }
     ensures unchanged { OnErr result (service.new ≡ service.old) }
     ensures why { IfErr result (Stops ⊥ (2 ^ 63 ≤ moment)) }
 {

@@ -3,7 +3,7 @@ ghost use Rattle.std.specs.Prelude.{◌≡◌, ◌<◌, [], length, IfErr, OnOk,
 ghost use Rattle.cache_run.specs.Devices.Sources.{HasToldLate};
 ghost use Rattle.cache_run.specs.Driver.Causes.{Fails, RunsOut};
 ghost use Rattle.cache_spaces.specs.Calls.{At};
-ghost use Rattle.cache_run.specs.Loading.{pending_of};
+ghost use Rattle.cache_run.specs.Loading.{loads_under_way_in};
 ghost use Rattle.cache_run.specs.Runs.{RunsPartly, RunsWhole};
 
 use crate::devices::{Clock, Loader, RunError, Watched};
@@ -50,7 +50,7 @@ pub fn run<R: Read, W: Write, C: Clock, L: Loader>(
 
     // However it ends, no load is under way afterwards if none was before.
     ensures none { At service.old service.new namespace
-        (λ was is. pending_of was ≡ [] → pending_of is ≡ []) }
+        (λ was is. loads_under_way_in was ≡ [] → loads_under_way_in is ≡ []) }
     ensures read { IsErrOf result RunError.Read → Fails reader.old reader.new }
     ensures write { IsErrOf result RunError.Write → Fails writer.old writer.new }
     ensures moment { IsErrOf result RunError.Moment → HasToldLate C.reads clock.new }

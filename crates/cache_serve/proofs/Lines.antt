@@ -2,17 +2,17 @@
 use Rattle.std.proofs.Common.{◌≡◌, ◌≢◌, ◌⊎◌, ◌<◌, ◌≤◌, ◌+◌, ◌-◌, ℕ, List, take, drop, length, false, slice_index, arith, ap, sym, ◌∙◌, inl, inr, subst₂}
 use Rattle.std.proofs.lemmas.Bool.{cases_lt, false≢true}
 use Rattle.std.proofs.lemmas.List.{get_or-take, length-take-le, take-append-le, take-append-drop, drop-take}
-use Rattle.cache_serve.specs.Cutting.{IsLine, IsQuickToItsEnd, may_take_long}
+use Rattle.cache_serve.specs.Cutting.{IsLineOfPiece, IsQuickToItsEnd, may_take_long}
 
 -- the last line began at `start`, none ends from there up to `place`, and those that end before are quick
 pub record IsScanned (xs : List ℕ) (start place : ℕ) : Type 0 where
   pub begun : start ≤ place
   pub behind : (start ≡ 0) ⊎ (slice_index xs (start - 1) ≡ 10)
   pub none : (k : ℕ) → start ≤ k → k < place → slice_index xs k ≢ 10
-  pub quick : (i j : ℕ) → IsLine xs i j → j < start → may_take_long (drop i (take j xs)) ≡ false
+  pub quick : (i j : ℕ) → IsLineOfPiece xs i j → j < start → may_take_long (drop i (take j xs)) ≡ false
 
 -- a line of a front is one of the list
-line-of-front : (xs : List ℕ) (n i j : ℕ) → n ≤ length xs → IsLine (take n xs) i j → IsLine xs i j
+line-of-front : (xs : List ℕ) (n i j : ℕ) → n ≤ length xs → IsLineOfPiece (take n xs) i j → IsLineOfPiece xs i j
 line-of-front xs n i j within line =
     record {
       begins = begun line.begins;
@@ -40,7 +40,7 @@ text-of-front xs n i j to within =
 
 module _ (xs : List ℕ) (start place : ℕ) (scanned : IsScanned xs start place) where
   -- a line that ends at the place is the last one
-  last-line : (i j : ℕ) → IsLine xs i j → start ≤ j → j ≤ place → (i ≡ start) × (j ≡ place)
+  last-line : (i j : ℕ) → IsLineOfPiece xs i j → start ≤ j → j ≤ place → (i ≡ start) × (j ≡ place)
   last-line i j line above under =
       (omega (arith, low scanned.behind, high line.begins), omega (arith, under, ended))
     where
@@ -67,7 +67,7 @@ module _ (xs : List ℕ) (start place : ℕ) (scanned : IsScanned xs start place
       len : length (take (place + 1) xs) ≡ place + 1
       len = length-take-le (place + 1) xs (omega (arith, inside))
 
-      own : IsLine xs i j
+      own : IsLineOfPiece xs i j
       own = line-of-front xs (place + 1) i j (omega (arith, inside)) line
 
       text : drop i (take j (take (place + 1) xs)) ≡ drop i (take j xs)

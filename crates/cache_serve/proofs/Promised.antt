@@ -18,17 +18,17 @@ use Rattle.cache_run.specs.Devices.Sources.{Asking, Askings, Readings}
 use Rattle.cache_run.specs.declared.devices.errors.RunError.{RunError}
 use Rattle.cache_run.specs.declared.devices.watched.Watched.{Watched}
 use Rattle.cache_run.proofs.devices.Sending.{askings_more, same_appends}
-use Rattle.cache_run.specs.Driver.Drives.{IsOfHand, Outside, Rest, Talks, asked_of, late_of, lost_of}
+use Rattle.cache_run.specs.Driver.Drives.{IsOfHand, Outside, LeftUndone, Talks, asked_of, late_of, lost_of}
 use Rattle.cache_run.proofs.driver.Exchanges.{because-map, each-last, asking_then, underway-stopped}
 use Rattle.cache_run.specs.Driver.Causes.{Because, outcome_by}
-use Rattle.cache_run.specs.Driver.Driven.{ClosesAfter, ComesTo, Finished, Stopped, around}
+use Rattle.cache_run.specs.Driver.Driven.{ClosesAfter, ComesToProgress, Finished, Stopped, around}
 use Rattle.cache_run.specs.declared.devices.errors.RunError.TheVariants.{UsedUp}
 use Rattle.cache_run.specs.declared.driver.driving.Progress.{Progress}
 use Rattle.cache_run.specs.declared.driver.driving.Progress.TheVariants.{More, Over}
 use Rattle.cache_run.specs.declared.driver.session.Session.{Session}
 use Rattle.cache_run.specs.Driver.Exchanges as did
 use Rattle.cache_run.specs.Driver.Exchanges.{Doing, EachOut, Exchange, Outs, Settling, askings_in, load_number, moments_in, pieces_in, settling_asking}
-use Rattle.cache_serve.specs.Asked.{Asks, AsksOrNot, HasAskedSome, IsOfLoad, IsShort, MayBeGivenUp, Opens, ServesConnection, ServesConnectionOrNot, closing_inputs, inputs_of, settling_inputs, settlings_of}
+use Rattle.cache_serve.specs.Asked.{Asks, AsksOrNot, HasAskedSome, IsOfLoad, IsShort, MayBeGivenUp, OpensConnection, ServesConnection, ServesConnectionOrNot, closing_inputs, inputs_of, settling_inputs, settlings_of}
 use Rattle.cache_serve.specs.Served.{HadGoneOut, AsksAll, BeginsOrIdles, BeginsWith, WritesAll}
 use Rattle.cache_serve.specs.Sitting as sitting
 use Rattle.cache_serve.specs.Sitting.{SeatRests, tally}
@@ -49,8 +49,8 @@ module _ (keeps : Bool) (WentOut : ℕ → ℕ → List ℕ → Type 0) (Unfit :
     deeds : List Doing
     late : List ℕ
     inputs : flat_map (inputs_of conn) deeds ≡ []
-    bytes : flat_map did.bytes_of deeds ≡ []
-    told : flat_map did.told_of deeds ++ late ≡ moments
+    bytes : flat_map did.bytes_fed deeds ≡ []
+    told : flat_map did.readings_of deeds ++ late ≡ moments
     asks : flat_map did.asks_of deeds ≡ askings
     few : length late ≤ 1
     short : All IsShort deeds
@@ -86,7 +86,7 @@ module _ (keeps : Bool) (WentOut : ℕ → ℕ → List ℕ → Type 0) (Unfit :
   }
 
   -- it was of the last load in hand
-  refused-any : (o : Option Doing) (hand : Outs) → IfSome o (IsOfHand hand) → EachOut (WentOut conn.namespace) hand → Refused (option_map_or did.told_of o []) (option_map_or did.asks_of o [])
+  refused-any : (o : Option Doing) (hand : Outs) → IfSome o (IsOfHand hand) → EachOut (WentOut conn.namespace) hand → Refused (option_map_or did.readings_of o []) (option_map_or did.asks_of o [])
   refused-any None hand of out = refused-none [] (omega arith)
   refused-any (Some (did.Fed piece moment held)) hand of out = refused-none (moment ∷ []) (omega arith)
   refused-any (Some (did.Settled settling moment)) hand of out =
@@ -121,7 +121,7 @@ module _ {H C D : Type 0} (keeps : Bool) (WentOut : ℕ → ℕ → List ℕ →
     closed : H
     opens : Opened namespace conn h opened
     hand : Outs
-    rest : Rest
+    rest : LeftUndone
     asked : D
     talks : Talks (Came conn) reads loads opened stopped a (record { remaining = b.remaining; contents = b.contents; clock = b.clock; loader = asked }) [] hand rest
     few : rest.untaken ≤ 1
@@ -173,7 +173,7 @@ module _ {H C D : Type 0} (keeps : Bool) (WentOut : ℕ → ℕ → List ℕ →
   abbrev Driven : Result (Unit {0}) RunError → Type 0
   Driven outcome = MatchResult outcome (λ x. (d : Drove []) × (d.rest.unsent ≡ [])) (λ e. (drops : List Settling) × Drove drops)
 
-  driven : (s : Session) (start m : H) (middle : D) (result : Result Progress RunError) → Opened namespace s.conn h start → ComesTo false Came Closed reads loads start a result s m (asking_then b middle) → ClosesAfter Closed Dropped loads (outcome_by result) s m k middle b.loader → Driven (outcome_by result)
+  driven : (s : Session) (start m : H) (middle : D) (result : Result Progress RunError) → Opened namespace s.conn h start → ComesToProgress false Came Closed reads loads start a result s m (asking_then b middle) → ClosesAfter Closed Dropped loads (outcome_by result) s m k middle b.loader → Driven (outcome_by result)
   driven s start m middle (Ok More) opens comes closes = (closes.3.drops, drove-partly s start m middle UsedUp opens (underway-stopped false Came Closed reads loads start a s m (asking_then b middle) comes) closes)
   driven s start m middle (Ok Over) opens comes closes =
       let f = subst (λ (l : D). Finished false Came Closed reads loads start a s m (asking_then b l)) (sym closes.1) comes in (drove-whole s start m opens f closes.0, f.sent.0)
@@ -196,12 +196,12 @@ module _ {H C D : Type 0} (keeps : Bool) (WentOut : ℕ → ℕ → List ℕ →
     deeds-in : {A : Type 0} (f : Doing → List A) → flat_map f deeds ≡ flat_map (λ (x : Exchange). f x.doing) d.talks.exchanges ++ flat_map f refused.deeds
     deeds-in f = flat_map-append f own refused.deeds ∙ ap (λ l. l ++ flat_map f refused.deeds) (flat_map-map f (λ (x : Exchange). x.doing) d.talks.exchanges)
 
-    deeds-read : flat_map did.bytes_of deeds ++ lost_of d.rest ≡ pieces_in d.talks.exchanges ++ lost_of d.rest
-    deeds-read = ap (λ l. l ++ lost_of d.rest) (deeds-in did.bytes_of ∙ ap (λ l. pieces_in d.talks.exchanges ++ l) refused.bytes ∙ append-nil (pieces_in d.talks.exchanges))
+    deeds-read : flat_map did.bytes_fed deeds ++ lost_of d.rest ≡ pieces_in d.talks.exchanges ++ lost_of d.rest
+    deeds-read = ap (λ l. l ++ lost_of d.rest) (deeds-in did.bytes_fed ∙ ap (λ l. pieces_in d.talks.exchanges ++ l) refused.bytes ∙ append-nil (pieces_in d.talks.exchanges))
 
-    deeds-told : flat_map did.told_of deeds ++ refused.late ≡ moments_in d.talks.exchanges ++ late_of d.rest
+    deeds-told : flat_map did.readings_of deeds ++ refused.late ≡ moments_in d.talks.exchanges ++ late_of d.rest
     deeds-told =
-        ap (λ l. l ++ refused.late) (deeds-in did.told_of) ∙ append_assoc (moments_in d.talks.exchanges) (flat_map did.told_of refused.deeds) refused.late
+        ap (λ l. l ++ refused.late) (deeds-in did.readings_of) ∙ append_assoc (moments_in d.talks.exchanges) (flat_map did.readings_of refused.deeds) refused.late
         ∙ ap (λ l. moments_in d.talks.exchanges ++ l) refused.told
 
     deeds-asked : flat_map did.asks_of deeds ≡ askings_in d.talks.exchanges ++ asked_of d.rest
@@ -227,8 +227,8 @@ module _ {H C D : Type 0} (keeps : Bool) (WentOut : ℕ → ℕ → List ℕ →
               (asks-more n (tally d.opened).receipts (tally d.stopped).receipts (tally d.closed).receipts inputs (closing_inputs d.conn close.0) done close.1) (d.asks kept),
         )
 
-    opened-there : keeps ≡ true → Opens d.conn.namespace (tally h).receipts (tally d.opened).receipts d.conn
-    opened-there kept = subst (λ n. Opens n (tally h).receipts (tally d.opened).receipts d.conn) (sym d.opens.here) (d.opens.asks kept)
+    opened-there : keeps ≡ true → OpensConnection d.conn.namespace (tally h).receipts (tally d.opened).receipts d.conn
+    opened-there kept = subst (λ n. OpensConnection n (tally h).receipts (tally d.opened).receipts d.conn) (sym d.opens.here) (d.opens.asks kept)
 
     -- each receipt is of what was done for the connection
     serves-connection : keeps ≡ true → ServesConnection WentOut Unfit reads loads (tally h).receipts (tally k).receipts a.remaining b.remaining a.clock b.clock a.loader b.loader namespace d.conn drops
@@ -351,7 +351,7 @@ module _ {C L R W K D : Type 0} {G : Ledgers L} (configs : List Config) (spaces 
 
   -- it was opened, it came to an end or an error, and was closed
   pub attended : (s t : Session) (start m : Seat L G) (middle : D) (ended : Result Progress RunError) (outcome result : Result (Unit {0}) RunError) → sitting.Opens configs spaces untaken keeps namespace s.conn p start → t.conn ≡ s.conn
-      → ComesTo false (sitting.Comes configs spaces untaken keeps) (sitting.Closes configs spaces untaken keeps) reads loads start (around remaining contents reader writer clock loader) ended t m (around remaining contents reader' writer' clock' middle)
+      → ComesToProgress false (sitting.Comes configs spaces untaken keeps) (sitting.Closes configs spaces untaken keeps) reads loads start (around remaining contents reader writer clock loader) ended t m (around remaining contents reader' writer' clock' middle)
       → outcome ≡ outcome_by ended → ClosesAfter (sitting.Closes configs spaces untaken keeps) (sitting.Drops configs spaces untaken keeps) loads outcome t m q middle loader' → result ≡ outcome → Promises result
   attended s t start m middle ended outcome result opened same comes is closes so =
       let a = around remaining contents reader writer clock loader in

@@ -17,14 +17,14 @@ use Rattle.cache_spaces.specs.Spaces.{Shown}
 use Rattle.cache_run.proofs.devices.Sending.{askings_more}
 use Rattle.cache_run.proofs.driver.Exchanges.{each-kept, each-last, each-rest}
 use Rattle.cache_run.specs.Devices.Sources.{Asking, Askings}
-use Rattle.cache_run.specs.Driver.Exchanges.{Answered, Dropped, GivenUp, Settling, Doing, EachOut, Outs, Settled, load_number, settling_asking, Chain, Exchange, Hands, Leaves, replies_in, untaken_in}
-use Rattle.cache_run.specs.Driver.Hosting.{SettlesBy, Suits, exchange_of}
+use Rattle.cache_run.specs.Driver.Exchanges.{Answered, Dropped, GivenUp, Settling, Doing, EachOut, Outs, Settled, load_number, settling_asking, Chain, Exchange, Hands, LeavesInHand, replies_in, untaken_among}
+use Rattle.cache_run.specs.Driver.Hosting.{SettlesBy, SuitsRequest, exchange_of}
 use Rattle.cache_run.specs.declared.driver.host.Given.{Given}
 use Rattle.cache_shared.specs.Events.{IsUnfit}
 use Rattle.cache_shared.specs.Seats.{Counts, SameReceipts, receipt_for, receipts_at}
 use Rattle.cache_serve.specs.Asked.{Asks, Grows, settling_inputs, IsOfLoad, MayBeGivenUp, answer_input, give_up_input, IsShort, inputs_of, settlings_of, SeatCloses, SeatComes, SeatDrops, SeatSettles, Tally}
 use Rattle.cache_serve.specs.Served.{HadGoneOut}
-use Rattle.cache_serve.specs.Sitting.{Gives, IsReply, SeatRests, SeatTakes, TakesIfGiven, asks-behind}
+use Rattle.cache_serve.specs.Sitting.{GivesDue, IsReply, SeatRests, SeatTakes, TakesIfGiven, asks-behind}
 use Rattle.audit_model.specs.declared.input.Input.TheVariants as input
 use Rattle.cache_run.specs.Driver.Exchanges as did
 
@@ -207,7 +207,7 @@ module _ {keeps : Bool} {WentOut : ℕ → ℕ → List ℕ → Type 0} {Unfit :
 
 module _ {C : Type 0} {configs : List Config} {spaces : C → List Shown} {untaken : C → Conn → List ℕ} {keeps : Bool} where
   -- a load was settled
-  pub comes-settled : {conn : Conn} {wants : Bool} {given : Given} {h k : Tally} (load moment : ℕ) (asking : Asking) → SeatSettles keeps (HadGoneOut configs spaces) IsUnfit (IsReply configs spaces untaken) conn.namespace moment load asking h k → Gives configs spaces untaken conn wants given
+  pub comes-settled : {conn : Conn} {wants : Bool} {given : Given} {h k : Tally} (load moment : ℕ) (asking : Asking) → SeatSettles keeps (HadGoneOut configs spaces) IsUnfit (IsReply configs spaces untaken) conn.namespace moment load asking h k → GivesDue configs spaces untaken conn wants given
       → (doing : Doing) × SettlesBy load moment asking doing × SeatComes keeps (HadGoneOut configs spaces) IsUnfit (IsReply configs spaces untaken) conn h (exchange_of doing given) k
   comes-settled load moment asking s gives = (
     Settled s.settling moment,
@@ -216,7 +216,7 @@ module _ {C : Type 0} {configs : List Config} {spaces : C → List Shown} {untak
   )
 
 -- loads come only where they were wanted, where the service is shared
-pub suits-shared : {wants : Bool} {given : Given} → (wants ≡ false → given.loads ≡ None) → Suits false wants given
+pub suits-shared : {wants : Bool} {given : Given} → (wants ≡ false → given.owed.loads ≡ None) → SuitsRequest false wants given
 suits-shared unwanted = record { unwanted = unwanted; wanted = λ lent. absurd (let h : false ≡ true = lent in cc); waits = λ lent. absurd (let h : false ≡ true = lent in cc) }
 
 -- What exchanges come to for a seat.
@@ -254,11 +254,11 @@ module _ (keeps : Bool) (WentOut : ℕ → ℕ → List ℕ → Type 0) (Unfit :
     pub out : All (IsOfLoad WentOut conn.namespace) (flat_map settlings_of (deeds_in xs))
     pub fit : All (MayBeGivenUp Unfit) (flat_map settlings_of (deeds_in xs))
     pub taken : All (IsTaken conn) (texts_in xs)
-    pub few : k.count ≤ h.count + length (texts_in xs) + untaken_in xs
+    pub few : k.count ≤ h.count + length (texts_in xs) + untaken_among xs
     pub hand : Out after
 
   -- each that is settled is of a load in hand
-  of-done : (doing : Doing) (hand rest : Outs) → Leaves doing hand rest → Out hand → All (IsOfLoad WentOut conn.namespace) (settlings_of doing)
+  of-done : (doing : Doing) (hand rest : Outs) → LeavesInHand doing hand rest → Out hand → All (IsOfLoad WentOut conn.namespace) (settlings_of doing)
   of-done (did.Fed piece moment held) hand rest leaves out = All-nil (IsOfLoad WentOut conn.namespace)
   of-done (did.Settled settling moment) hand rest leaves out =
       All-cons (IsOfLoad WentOut conn.namespace) settling [] (each-last (WentOut conn.namespace) hand (load_number settling) (settling_asking settling).key rest leaves out).1 (All-nil (IsOfLoad WentOut conn.namespace))
@@ -272,10 +272,10 @@ module _ (keeps : Bool) (WentOut : ℕ → ℕ → List ℕ → Type 0) (Unfit :
   one-input did.Looked = omega arith
 
   -- each has a text, or it was not taken
-  counts-more : (x : Exchange) (xs : List Exchange) → length (texts_in (x ∷ xs)) + untaken_in (x ∷ xs) ≡ 1 + length (texts_in xs) + untaken_in xs
+  counts-more : (x : Exchange) (xs : List Exchange) → length (texts_in (x ∷ xs)) + untaken_among (x ∷ xs) ≡ 1 + length (texts_in xs) + untaken_among xs
   counts-more x xs = ap (λ n. length (text_of x.text ++ texts_in xs) + n) (sum_by-cons (λ (e : Exchange). cond (is_none e.text) 1 0) x xs) ∙ go x.text
     where
-      go : (o : Option (List ℕ)) → length (text_of o ++ texts_in xs) + (cond (is_none o) 1 0 + untaken_in xs) ≡ 1 + length (texts_in xs) + untaken_in xs
+      go : (o : Option (List ℕ)) → length (text_of o ++ texts_in xs) + (cond (is_none o) 1 0 + untaken_among xs) ≡ 1 + length (texts_in xs) + untaken_among xs
       go None = omega arith
       go (Some text) = omega arith
 

@@ -10,7 +10,7 @@ use Rattle.audit_model.specs.declared.input.LoadId.{LoadId}
 use Rattle.audit_laws.specs.declared.receipts.output.Output.TheVariants.{Opened}
 use Rattle.audit_laws.specs.declared.receipts.receipt.Receipt.{Receipt}
 use Rattle.cache_run.specs.Devices.Sources.{Asking, Askings, Readings}
-use Rattle.cache_run.specs.Driver.Exchanges.{Answered, Doing, Dropped, Fed, GivenUp, Looked, Settled, Settling, asks_of, bytes_of, load_number, settling_asking, told_of, EachOut, Exchange, Outs}
+use Rattle.cache_run.specs.Driver.Exchanges.{Answered, Doing, Dropped, Fed, GivenUp, Looked, Settled, Settling, asks_of, bytes_fed, load_number, settling_asking, readings_of, EachOut, Exchange, Outs}
 use Rattle.cache_shared.specs.Seats.{SameReceipts, receipts_at}
 use Rattle.cache_serve.specs.Cutting.{IsShortPiece}
 use Rattle.audit_model.specs.declared.input.Input.TheVariants as input
@@ -93,7 +93,7 @@ module _ (namespace : ℕ) (before after : List (Vec Receipt Global)) where
   AsksOrNot i = Asks [] ⊎ Asks (i ∷ [])
 
   -- by the receipt of an opening whose output is this connection
-  pub record Opens (conn : Conn) : Type 0 where
+  pub record OpensConnection (conn : Conn) : Type 0 where
     pub first : Receipt
     pub asked : first.input ≡ input.Open namespace
     pub opened : first.output ≡ Opened conn
@@ -117,8 +117,8 @@ module _ {K D : Type 0} (WentOut : ℕ → ℕ → List ℕ → Type 0) (Unfit :
         ++ flat_map (settling_inputs namespace 0) drops
     pub lost : List ℕ
     pub late : List ℕ
-    pub read : Consumes remaining later (flat_map bytes_of deeds ++ lost)
-    pub told : Readings reads k (flat_map told_of deeds ++ late) l
+    pub read : Consumes remaining later (flat_map bytes_fed deeds ++ lost)
+    pub told : Readings reads k (flat_map readings_of deeds ++ late) l
     pub few : length late ≤ 1
     pub loaded : Askings loads d (flat_map asks_of deeds ++ map settling_asking drops) e
     pub out : All (IsOfLoad WentOut namespace) (flat_map settlings_of deeds ++ drops)
@@ -147,7 +147,7 @@ module _ (keeps : Bool) (WentOut : ℕ → ℕ → List ℕ → Type 0) (Unfit :
   -- a connection was opened, and the seat counts this
   pub record SeatOpens (namespace : ℕ) (conn : Conn) (h k : Tally) : Type 0 where
     pub here : conn.namespace ≡ namespace
-    pub asks : keeps ≡ true → Opens namespace h.receipts k.receipts conn
+    pub asks : keeps ≡ true → OpensConnection namespace h.receipts k.receipts conn
     pub one : k.count ≡ h.count + 1
 
   -- This was asked of the service, and the seat counts it. A piece has at most 64 lines, of which only the last may take long; a load is given up only if it may be. The text was

@@ -11,7 +11,7 @@ may_take_long line = begins (codes "KEYS") || begins (codes "SYNC") || begins (c
 
 module _ (piece : List ℕ) where
   -- a line of the piece: from a place to that of its line end
-  pub record IsLine (start end : ℕ) : Type 0 where
+  pub record IsLineOfPiece (start end : ℕ) : Type 0 where
     pub begins : (start ≡ 0) ⊎ (slice_index piece (start - 1) ≡ 10)
     pub within : (start ≤ end) × (end < length piece)
     pub ends : slice_index piece end ≡ 10
@@ -19,7 +19,7 @@ module _ (piece : List ℕ) where
 
   -- only its last line may take long
   abbrev pub IsQuickToItsEnd : Type 0
-  IsQuickToItsEnd = (start end : ℕ) → IsLine start end
+  IsQuickToItsEnd = (start end : ℕ) → IsLineOfPiece start end
       → may_take_long (drop start (take end piece)) ≡ true → end + 1 ≡ length piece
 
   -- at most 64 lines, of which only the last may take long

@@ -18,7 +18,7 @@ use Rattle.cache_shared.specs.Looked.{WereUntaken, WereOut}
 use Rattle.cache_shared.specs.Seats.{SameReceipts}
 use Rattle.cache_shared.specs.declared.seat.Seat.{Seat}
 use Rattle.cache_shared.specs.declared.seat.Seating.{Ghosts as Ledgers}
-use Rattle.cache_serve.specs.Asked.{Grows, Opens, ServesConnection, ServesConnectionOrNot}
+use Rattle.cache_serve.specs.Asked.{Grows, OpensConnection, ServesConnection, ServesConnectionOrNot}
 
 module _ {C : Type 0} (configs : List Config) (spaces : C → List Shown)
     (untaken : C → Conn → List ℕ) where
@@ -61,7 +61,7 @@ AreOut configs spaces namespace loads = EachOut (HadGoneOut configs spaces names
 pub record BeginsWith (namespace : ℕ) (before after : List (Vec Receipt Global)) (conn : Conn) :
     Type 0 where
   pub between : List (Vec Receipt Global)
-  pub opens : Opens namespace before between conn
+  pub opens : OpensConnection namespace before between conn
   pub rest : List Receipt
   pub grows : Grows namespace between after rest
 

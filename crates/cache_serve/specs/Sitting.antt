@@ -11,7 +11,7 @@ use Rattle.audit_model.specs.declared.input.Input.TheVariants as input
 use Rattle.audit_laws.specs.declared.receipts.receipt.Receipt.{Receipt}
 use Rattle.cache_run.specs.Devices.Sources.{Asking, Askings}
 use Rattle.cache_run.specs.Driver.Exchanges.{Exchange, Outs}
-use Rattle.cache_run.specs.Driver.Hosting.{Suits}
+use Rattle.cache_run.specs.Driver.Hosting.{SuitsRequest}
 use Rattle.cache_run.specs.declared.driver.host.Given.{Given}
 use Rattle.cache_serve.specs.Asked.{Asks, AsksOrNot, SeatCloses, SeatComes, SeatDrops, SeatOpens, SeatSettles, Tally}
 use Rattle.cache_serve.specs.Cutting.{IsShortPiece}
@@ -52,11 +52,11 @@ module _ {C : Type 0} (configs : List Config) (spaces : C → List Shown)
   IsReply conn text = ∥ WereUntaken configs spaces untaken conn text ∥₁
 
   -- The texts were replies of the connection, and the loads had been sent; they are given only if they were requested.
-  pub record Gives (conn : Conn) (wants_loads : Bool) (given : Given) : Type 0 where
-    pub text : IfSome (option_map (λ text. text.items) given.replies) (IsReply conn)
-    pub out : IfSome (option_map (λ loads. loads.items) given.loads)
+  pub record GivesDue (conn : Conn) (wants_loads : Bool) (given : Given) : Type 0 where
+    pub text : IfSome (option_map (λ text. text.items) given.owed.replies) (IsReply conn)
+    pub out : IfSome (option_map (λ loads. loads.items) given.owed.loads)
         (AreOut configs spaces conn.namespace)
-    pub suits : Suits false wants_loads given
+    pub suits : SuitsRequest false wants_loads given
 
   module _ {L : Type 0} {G : Ledgers L} (keeps : Bool) where
     -- in terms of a seat

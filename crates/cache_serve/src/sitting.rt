@@ -4,8 +4,8 @@ ghost use Rattle.audit_model.specs.declared.input.Conn.{Conn};
 ghost use Rattle.cache_run.specs.Driver.Hosting.{Stops};
 ghost use Rattle.cache_serve.specs.Asked.{give_up_input};
 ghost use Rattle.cache_serve.specs.Cutting.{IsShortPiece};
-ghost use Rattle.cache_serve.specs.Sitting.{Closes, Comes, Drops, DropsBy, DropsOne, Gives, Opens, SeatRests, SeatTakes, Settles, TakesIfGiven, closes-behind, none-short, tally, used-later};
-ghost use Rattle.cache_shared.specs.Events.{IsLate, IsUnfitAnswer, is_of_outcome};
+ghost use Rattle.cache_serve.specs.Sitting.{Closes, Comes, Drops, DropsBy, DropsOne, GivesDue, Opens, SeatRests, SeatTakes, Settles, TakesIfGiven, closes-behind, none-short, tally, used-later};
+ghost use Rattle.cache_shared.specs.Events.{HasLateMoment, IsUnfitAnswer, is_of_outcome};
 ghost use Rattle.cache_shared.specs.Looked.{Owes};
 
 use crate::cutting::{length_of_cut, lines_after};
@@ -13,8 +13,8 @@ use crate::devices::Teller;
 use crate::pausing::pause;
 use audit_model::{Bytes, Conn, Input, Instant, LoadId, Note, Outcome, Seq, ServiceError};
 use cache_run::{Given, Host, Loader, RunError};
-use cache_shared::{Owed, Seat, Seating, Shareable, SharedService};
-use cache_spaces::Output;
+use cache_shared::{Seat, Seating, Shareable, SharedService};
+use cache_spaces::{Output, Owed};
 use std::alloc::{AllocError, Global};
 use std::sync::Wait;
 
@@ -78,18 +78,12 @@ impl<'a, L: Seating, C: Shareable, T: Teller, R: Wait> Sitting<'a, L, C, T, R> {
     fn give(&mut self, owed: Owed, held: bool) -> Given
         ensures { (conn : Conn) (wants_loads : Bool)
             → Owes L.configs C.spaces C.untaken conn wants_loads owed
-            → Gives L.configs C.spaces C.untaken conn wants_loads result }
+            → GivesDue L.configs C.spaces C.untaken conn wants_loads result }
     {
         if let Some(text) = &owed.replies {
             self.replied = self.replied.saturating_add(text.len());
         }
-        Given {
-            held,
-            replies: owed.replies,
-            loads: owed.loads,
-            closing: owed.closing,
-            waits: owed.waits,
-        }
+        Given { held, owed }
     }
 
     /// Takes an input, and gives what the connection is owed afterwards, in one hold of the lock; then notes are reported.
@@ -101,9 +95,9 @@ impl<'a, L: Seating, C: Shareable, T: Teller, R: Wait> Sitting<'a, L, C, T, R> {
         wants_loads: bool,
     ) -> Result<Given, ServiceError>
         ensures taken { OnOk result (SeatTakes C.KEEPS input (tally seat.old) (tally seat.new)) }
-        ensures given { IfOk result (Gives L.configs C.spaces C.untaken conn wants_loads) }
+        ensures given { IfOk result (GivesDue L.configs C.spaces C.untaken conn wants_loads) }
         ensures rests { OnErr result (SeatRests (tally seat.old) (tally seat.new)) }
-        ensures late { IfErr result (λ e. e ≡ ServiceError.Moment → IsLate input) }
+        ensures late { IfErr result (λ e. e ≡ ServiceError.Moment → HasLateMoment input) }
         ensures unfit { IfErr result (λ e. is_of_outcome e ≡ true → IsUnfitAnswer input) }
         ensures used_up { IfErr result
             (λ e. e ≡ ServiceError.UsedUp → seat.old.count ≡ 2 ^ 64 - 1) }
@@ -120,7 +114,7 @@ impl<'a, L: Seating, C: Shareable, T: Teller, R: Wait> Sitting<'a, L, C, T, R> {
 
     /// What a connection is owed; notes are reported.
     fn take_owed(&mut self, conn: Conn, wants_loads: bool) -> Given
-        ensures { Gives L.configs C.spaces C.untaken conn wants_loads result }
+        ensures { GivesDue L.configs C.spaces C.untaken conn wants_loads result }
     {
         let notes = &mut self.notes;
         let owed = self.shared.take_owed(self.rt, conn, wants_loads, notes);
@@ -140,7 +134,7 @@ impl<'a, L: Seating, C: Shareable, T: Teller, R: Wait> Sitting<'a, L, C, T, R> {
         ensures taken { TakesIfGiven C.KEEPS (give_up_input conn.namespace moment load) result
             (tally seat.old) (tally seat.new) }
         ensures given { IfOk result
-            (λ given. IfSome given (Gives L.configs C.spaces C.untaken conn wants_loads)) }
+            (λ given. IfSome given (GivesDue L.configs C.spaces C.untaken conn wants_loads)) }
         ensures why { IfErr result
             (Stops (2 ^ 64 - 1 ≤ seat.new.count) (2 ^ 63 ≤ moment)) }
     {
@@ -179,7 +173,7 @@ impl<'a, L: Seating, C: Shareable, T: Teller, R: Wait> Sitting<'a, L, C, T, R> {
             moment seat.old seat.new }
         ensures rests { OnErr result (SeatRests (tally seat.old) (tally seat.new)) }
         ensures given { IfOk result
-            (λ given. IfSome given (Gives L.configs C.spaces C.untaken conn wants_loads)) }
+            (λ given. IfSome given (GivesDue L.configs C.spaces C.untaken conn wants_loads)) }
         ensures why { IfErr result
             (Stops (2 ^ 64 - 1 ≤ seat.new.count) (2 ^ 63 ≤ moment)) }
     {
@@ -346,7 +340,8 @@ impl<L: Seating, C: Shareable, T: Teller, R: Wait> Host for Sitting<'_, L, C, T,
     ) {
         self.drop_each(place, conn, hand, loader);
         for _turn in 0..u64::MAX {
-            let Given { loads, .. } = self.take_owed(conn, true);
+            let Given { owed, .. } = self.take_owed(conn, true);
+            let Owed { loads, .. } = owed;
             match loads {
                 Some(loads) if !loads.is_empty() => {
                     self.drop_each(place, conn, loads.as_slice(), loader);

@@ -17,7 +17,7 @@ use Rattle.cache_spaces.proofs.Reaching.{asked-is, event_of}
 use Rattle.cache_spaces.specs.Calls.{RefusedInput, Refuses, is_held_for, namespace_of}
 use Rattle.cache_spaces.specs.Spaces.{Shown, config_of, known_of}
 use Rattle.cache_spaces.specs.declared.stepping.Refusal.{Refusal}
-use Rattle.cache_shared.specs.Events.{IsLate, IsUnfitAnswer, RefusesStep, is_of_outcome}
+use Rattle.cache_shared.specs.Events.{HasLateMoment, IsUnfitAnswer, RefusesStep, is_of_outcome}
 use Rattle.cache_shared.specs.Looked.{HeldAtSomeMoment}
 
 -- ---- refusals one after another, the first of which applies
@@ -130,13 +130,13 @@ is_moment error.Moment = true
 is_moment e = false
 
 -- a moment that is too late
-pub late_step : (i : Input) (e : ServiceError) (count : ℕ) (spaces : List Shown) → e ≡ error.Moment → RefusesStep i e count spaces → IsLate i
+pub late_step : (i : Input) (e : ServiceError) (count : ℕ) (spaces : List Shown) → e ≡ error.Moment → RefusesStep i e count spaces → HasLateMoment i
 late_step i e count spaces same refused = let k = kind_step is_moment e (ap is_moment same) refl refl refl refl i count spaces refused in go i k.0 k.1 k.2 k.3
   where
     never : {A : Type 0} (o : Option ServiceError) → IsSo is_moment o ≡ false → IsSo is_moment o ≡ true → A
     never o unlike like = absurd (let no : false ≡ true = sym unlike ∙ like in cc)
 
-    go : (i : Input) (config : Config) (known : Known) (opened : ℕ) → IsSo is_moment (refusal_of config known (event_of opened i)) ≡ true → IsLate i
+    go : (i : Input) (config : Config) (known : Known) (opened : ℕ) → IsSo is_moment (refusal_of config known (event_of opened i)) ≡ true → HasLateMoment i
     go (input.Open n) config known opened like = never None refl like
     go (input.Close conn) config known opened like = never (refusal_of_conn known conn.number) (conn-apart is_moment known conn.number refl refl) like
     go (input.Feed conn piece moment) config known opened like =
@@ -177,7 +177,7 @@ used_up_step i e count spaces same (inr (inr refused)) = let k = kind_refused is
 -- ---- at some moment
 
 module _ {C : Type 0} (configs : List Config) (spaces : C → List Shown) (i : Input) (e : ServiceError) (count : ℕ) (held : HeldAtSomeMoment configs spaces (RefusesStep i e count)) where
-  pub late_held : e ≡ error.Moment → IsLate i
+  pub late_held : e ≡ error.Moment → HasLateMoment i
   late_held same = late_step i e count (spaces held.core) same held.fact
 
   pub unfit_held : is_of_outcome e ≡ true → IsUnfitAnswer i

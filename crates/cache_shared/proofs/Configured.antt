@@ -6,8 +6,8 @@ use Rattle.audit_model.specs.declared.config.Config.{Config}
 use Rattle.cache_core.proofs.connections.Getting.{map-same}
 use Rattle.cache_lines.specs.Tape.Taped.{Taped}
 use Rattle.cache_spaces.specs.Calls.{At}
-use Rattle.cache_spaces.specs.Services.{AreNew}
-use Rattle.cache_spaces.specs.Spaces.{Space, config_of, shown}
+use Rattle.cache_spaces.specs.Services.{AreNewSpaces}
+use Rattle.cache_spaces.specs.Spaces.{Space, config_of, shown_space}
 use Rattle.cache_shared.specs.Events.{configs_of}
 
 module _ {T : Type 0} where
@@ -29,13 +29,13 @@ module _ {T : Type 0} where
   all-same (x ∷ xs) (c ∷ cs) count each = ap (λ k. k ∷ map config_of xs) (each zero c x refl refl) ∙ ap (λ l. c ∷ l) (all-same xs cs (omega (arith, count)) (λ k. each (suc k)))
 
   -- those of a service that was just made
-  pub configs-new : (tape : T → Option Taped) (blank : Option Taped) (spaces : List (Space T)) (configs : List Config) (generator : List ℕ) (made : ℕ) → AreNew tape blank spaces configs generator made → map config_of spaces ≡ configs
+  pub configs-new : (tape : T → Option Taped) (blank : Option Taped) (spaces : List (Space T)) (configs : List Config) (generator : List ℕ) (made : ℕ) → AreNewSpaces tape blank spaces configs generator made → map config_of spaces ≡ configs
   configs-new tape blank spaces configs generator made new = all-same spaces configs new.count (λ k config space c s. (new.each k config space c s).configured)
 
   -- they look the same whatever the tapes are
-  pub configs-shown : (tape : T → Option Taped) (spaces : List (Space T)) → configs_of (map (shown tape) spaces) ≡ map config_of spaces
+  pub configs-shown : (tape : T → Option Taped) (spaces : List (Space T)) → configs_of (map (shown_space tape) spaces) ≡ map config_of spaces
   configs-shown tape [] = refl
   configs-shown tape (x ∷ xs) = ap (λ l. config_of x ∷ l) (configs-shown tape xs)
 
-  pub stay-shown : (tape : T → Option Taped) (old new : List (Space T)) → map config_of new ≡ map config_of old → configs_of (map (shown tape) new) ≡ configs_of (map (shown tape) old)
+  pub stay-shown : (tape : T → Option Taped) (old new : List (Space T)) → map config_of new ≡ map config_of old → configs_of (map (shown_space tape) new) ≡ configs_of (map (shown_space tape) old)
   stay-shown tape old new same = configs-shown tape new ∙ same ∙ sym (configs-shown tape old)

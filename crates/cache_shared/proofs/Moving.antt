@@ -1,12 +1,12 @@
 -- What is moved out of a service, and what an input adds to it.
 use Rattle.std.proofs.Common.{◌&&◌, drop, is_none, ◌≡◌, ◌≢◌, ℕ, zero, suc, ◌-◌, ◌==◌, Bool, true, false, cond, List, [], ◌∷◌, ◌++◌, length, map, Option, None, Some, refl, sym, ap, ◌∙◌, subst, arith, inl, inr, ◌⊎◌, Vec, Global}
-use Rattle.std.specs.Prelude.{slice_set, Result, Ok, Err, OnErr, OnOk, IfOk, MatchOption, if◌then◌else◌, unwrap_or, nat_lt, nat_le}
+use Rattle.std.specs.Prelude.{slice_set, Result, Ok, Err, OnErr, OnOk, IfOk, MatchOption, IfSome, is_some, if◌then◌else◌, unwrap_or, nat_lt, nat_le}
 use Rattle.std.specs.List.{flat_map, slice_get}
-use Rattle.std.specs.Option.{option_map_or, option_to_list}
+use Rattle.std.specs.Option.{option_map, option_map_or, option_to_list}
 use Rattle.std.proofs.Math.Seq.{drop-append_seam}
 use Rattle.std.proofs.lemmas.Bool.{and_parts, cases_eq, eq-eqb, ltb-true, ne_eqb}
-use Rattle.std.proofs.lemmas.List.{append-nil, map-set}
-use Rattle.std.proofs.lemmas.Option.{same_Some}
+use Rattle.std.proofs.lemmas.List.{append-nil, map-set, set-set}
+use Rattle.std.proofs.lemmas.Option.{none-some, same_Some, slice_get_within}
 use Rattle.audit_laws.proofs.Following.{passed}
 use Rattle.audit_laws.specs.declared.receipts.output.Output.{Output}
 use Rattle.audit_model.specs.Belongs.{refusal_of}
@@ -15,6 +15,7 @@ use Rattle.audit_model.specs.Follows.{Follows, after_event, after_steps, known_i
 use Rattle.audit_model.specs.Obeys.{has_right_own_value, is_numbered}
 use Rattle.audit_model.specs.Places.{steps_of}
 use Rattle.audit_model.specs.Situation.{Situation}
+use Rattle.audit_model.specs.declared.command.Closing.{Closing}
 use Rattle.audit_model.specs.declared.config.Config.{Config}
 use Rattle.audit_model.specs.declared.event.Event.{Event}
 use Rattle.audit_model.specs.declared.event.Event.TheVariants as event
@@ -27,26 +28,29 @@ use Rattle.audit_model.specs.declared.transcript.Note.{Note}
 use Rattle.audit_model.specs.declared.transcript.Record.{Record}
 use Rattle.audit_model.specs.declared.transcript.Step.{Step}
 use Rattle.audit_model.specs.declared.transcript.Transcript.{Transcript}
-use Rattle.cache_core.proofs.connections.Getting.{at-mapped, at-other}
+use Rattle.cache_core.proofs.connections.Getting.{at-mapped, at-other, at-replaced}
+use Rattle.cache_core.specs.Owing.{GivesWanted, without_output}
 use Rattle.cache_core.specs.Turned.{notes_in, own_steps, replies_to}
+use Rattle.cache_core.specs.declared.owing.Owed.{Owed}
 use Rattle.cache_lines.specs.Gathered.{reply_in}
 use Rattle.cache_lines.specs.Tape.Taped.{Taped, with_entry}
 use Rattle.cache_spaces.proofs.Journaling.{journal-at}
-use Rattle.cache_spaces.proofs.Placing.{at-is, at-map, at-others}
+use Rattle.cache_spaces.proofs.Placing.{at-is, at-map, at-others, fact-here}
 use Rattle.cache_spaces.proofs.Reaching.{at-shown, performs-shown}
 use Rattle.cache_spaces.proofs.Reading.{same-conn}
-use Rattle.cache_spaces.specs.Calls.{At, Performs, PerformsFrom, TakesLoads, TakesNotice, TakesOutput, namespace_of}
+use Rattle.cache_spaces.specs.Calls as calls
+use Rattle.cache_spaces.specs.Calls.{At, InSpace, IsOpened, Performs, PerformsFrom, TakesLoads, TakesNotice, TakesOutput, namespace_of}
 use Rattle.cache_spaces.specs.Cursors.{lists_joined, lists_of, notes_from, notes_of_records, records_at, replies_for, reply_for, taken_through}
 use Rattle.cache_spaces.specs.Journals.{journals_of, kept_by}
 use Rattle.cache_spaces.specs.Played.{journal_of}
 use Rattle.cache_spaces.specs.Recorded.{GainsRecord, Recorded, TakesNote, TakesReplies, cursor_in, gained_in, records_in, untaken_in, untold_in}
 use Rattle.cache_spaces.specs.Services.{BareSpace, bare_tape}
-use Rattle.cache_spaces.specs.Spaces.{Shown, Space, config_of, notices_of, outgoing_of, shown, shown_tape, untaken_output}
-use Rattle.cache_shared.proofs.Performing.{first-note, loads-leave, no-note}
-use Rattle.cache_shared.specs.Looked.{Moves}
+use Rattle.cache_spaces.specs.Spaces.{Shown, Space, closing_of, config_of, is_waiting_for, untaken_notes, outgoing_of, shown_space, shown_tape, untaken_output}
+use Rattle.cache_shared.proofs.Performing.{first-note, loads-leave, loads-shown, no-note}
+use Rattle.cache_shared.specs.Events.{IsReachedFrom}
+use Rattle.cache_shared.specs.Looked.{HeldAtSomeMoment, IsWhatIsOwed, MovesNotes, Owes, WereOut, WereUntaken}
 use Rattle.cache_shared.specs.Recordings.{bare_spaces, spaces_in, untaken_of, untold_of}
-use Rattle.cache_shared.specs.Taken.{GainsFrom, MovesLoads, MovesNote, MovesNotesOf, MovesOwed, MovesReplies, TakesInput, outgoing_in}
-use Rattle.cache_shared.specs.declared.turning.Owed.{Owed}
+use Rattle.cache_shared.specs.Taken.{GainsFrom, KeepsNotes, MovesAll, MovesLoads, MovesNote, MovesNotesOf, MovesOwed, MovesReplies, TakesInput, outgoing_in}
 
 -- ---- what is seen of the namespace with a number
 
@@ -80,13 +84,17 @@ module _ {X Y : Type 0} (of : X → List Y) where
 
 -- ---- what a connection is owed
 
-own-replies : (text : Option (Vec ℕ Global)) (x y z : List ℕ) → y ≡ x → MatchOption text (z ≡ y) (λ t. (t.items ≡ y) × (z ≡ [])) → MatchOption text (z ≡ x) (λ t. (t.items ≡ x) × (z ≡ []))
-own-replies None x y z same e = e ∙ same
-own-replies (Some t) x y z same e = (e.0 ∙ same, e.1)
+own-moved : {X : Type 0} (given : Option (Vec X Global)) (w x y z : List X) → x ≡ w → z ≡ y → MatchOption given (y ≡ x) (λ l. (l.items ≡ x) × (y ≡ [])) → MatchOption given (z ≡ w) (λ l. (l.items ≡ w) × (z ≡ []))
+own-moved None w x y z before after e = after ∙ e ∙ before
+own-moved (Some l) w x y z before after e = (e.0 ∙ before, after ∙ e.1)
 
-own-loads : (loads : Option (Vec (LoadId × List ℕ) Global)) (w x y z : List (LoadId × List ℕ)) → x ≡ w → z ≡ y → MatchOption loads (y ≡ x) (λ l. (l.items ≡ x) × (y ≡ [])) → MatchOption loads (z ≡ w) (λ l. (l.items ≡ w) × (z ≡ []))
-own-loads None w x y z before after e = after ∙ e ∙ before
-own-loads (Some l) w x y z before after e = (e.0 ∙ before, after ∙ e.1)
+told-of : {X : Type 0} (A B : Type 0) (given : Option (Vec X Global)) (all there : List X) → all ≡ there → MatchOption given A (λ l. (l.items ≡ all) × B) → IfSome given (λ l. l.items ≡ there)
+told-of A B None all there same e = tt
+told-of A B (Some l) all there same e = e.0 ∙ same
+
+none-where : {X : Type 0} (o : Option X) → is_some o ≡ false → o ≡ None
+none-where None e = refl
+none-where (Some x) e = let no : true ≡ false = e in cc
 
 module _ {C : Type 0} (spaces : C → List Shown) (untaken : C → Conn → List ℕ) (untold : C → ℕ → List Note) where
   -- loads, if any are given
@@ -128,27 +136,84 @@ module _ {C : Type 0} (spaces : C → List Shown) (untaken : C → Conn → List
   }
   text-out old new conn (Some t) moved = record { own = (moved.all, moved.none); others = moved.others; notes = moved.notes; loads = moved.loads }
 
-  -- after notes, loads and replies
-  pub moves-owed : (a b c d : C) (conn : Conn) (owed : Owed) → MovesNotesOf spaces untaken untold a b conn.namespace → MatchOption owed.loads (c ≡ b) (λ l. MovesLoads spaces untaken untold b c conn.namespace l.items)
-      → MatchOption owed.replies (d ≡ c) (λ t. MovesReplies spaces untaken untold c d conn t.items) → MovesOwed spaces untaken untold a d conn owed
-  moves-owed a b c d conn owed notes loads replies =
+  -- replies and then loads
+  pub moves-parts : (a b c : C) (conn : Conn) (owed : Owed) → MatchOption owed.replies (b ≡ a) (λ t. MovesReplies spaces untaken untold a b conn t.items)
+      → MatchOption owed.loads (c ≡ b) (λ l. MovesLoads spaces untaken untold b c conn.namespace l.items) → MovesOwed spaces untaken untold a c conn owed × KeepsNotes spaces untaken untold a c
+  moves-parts a b c conn owed replies loads =
       let n = conn.namespace in
-      let l = loads-out b c n owed.loads loads in
-      let t = text-out c d conn owed.replies replies in record {
-        replies = own-replies owed.replies (untaken a conn) (untaken c conn) (untaken d conn) (l.replies conn ∙ notes.replies conn) t.own;
-        loads = own-loads owed.loads (outgoing_in (spaces a) n) (outgoing_in (spaces b) n) (outgoing_in (spaces c) n) (outgoing_in (spaces d) n) (notes.loads n) (t.loads n) l.own;
-        other_replies = λ other ne. t.others other ne ∙ l.replies other ∙ notes.replies other;
-        other_loads = λ other ne. t.loads other ∙ l.others other ne ∙ notes.loads other;
-        other_notes = λ other ne. t.notes other ∙ l.notes other ∙ notes.others other ne;
+      let t = text-out a b conn owed.replies replies in
+      let l = loads-out b c n owed.loads loads in (
+        record {
+          replies = own-moved owed.replies (untaken a conn) (untaken a conn) (untaken b conn) (untaken c conn) refl (l.replies conn) t.own;
+          loads = own-moved owed.loads (outgoing_in (spaces a) n) (outgoing_in (spaces b) n) (outgoing_in (spaces c) n) (outgoing_in (spaces c) n) (t.loads n) refl l.own;
+          other_replies = λ other ne. l.replies other ∙ t.others other ne;
+          other_loads = λ other ne. l.others other ne ∙ t.loads other;
+          other_notes = λ other ne. l.notes other ∙ t.notes other;
+        },
+        λ other. l.notes other ∙ t.notes other,
+      )
+
+  -- and this is what it was owed
+  pub owed-parts : (old new : C) (conn : Conn) (wants : Bool) (owed : Owed) → MovesOwed spaces untaken untold old new conn owed → InSpace (spaces old) conn.namespace (λ space. owed.closing ≡ closing_of space conn.number)
+      → InSpace (spaces old) conn.namespace (λ space. owed.waits ≡ is_waiting_for space conn.number) → (wants ≡ false → owed.loads ≡ None) → InSpace (spaces old) conn.namespace (λ space. IsWhatIsOwed space conn.number wants owed)
+  owed-parts old new conn wants owed moved i j unwanted = record {
+    space = i.space;
+    at = i.at;
+    fact = record {
+      loads = told-of _ _ owed.loads (outgoing_in (spaces old) conn.namespace) (outgoing_of i.space) (seen-at outgoing_of (spaces old) conn.namespace i.space i.at) moved.loads;
+      unwanted = unwanted;
+      closing = i.fact;
+      waits = fact-here (λ space. owed.waits ≡ is_waiting_for space conn.number) (spaces old) conn.namespace i.space i.at j;
+    };
+  }
+
+  -- after notes
+  pub moves-owed : (a b c : C) (conn : Conn) (owed : Owed) (behind behind' : List Note) → MovesNotesOf spaces untaken untold a b conn.namespace → MovesNotes behind behind' (untold a conn.namespace) (untold b conn.namespace)
+      → MovesOwed spaces untaken untold b c conn owed → KeepsNotes spaces untaken untold b c → MovesAll spaces untaken untold a c conn owed behind behind'
+  moves-owed a b c conn owed behind behind' notes moved moves kept =
+      let n = conn.namespace in record {
+        owed = record {
+          replies = own-moved owed.replies (untaken a conn) (untaken b conn) (untaken c conn) (untaken c conn) (notes.replies conn) refl moves.replies;
+          loads = own-moved owed.loads (outgoing_in (spaces a) n) (outgoing_in (spaces b) n) (outgoing_in (spaces c) n) (outgoing_in (spaces c) n) (notes.loads n) refl moves.loads;
+          other_replies = λ other ne. moves.other_replies other ne ∙ notes.replies other;
+          other_loads = λ other ne. moves.other_loads other ne ∙ notes.loads other;
+          other_notes = λ other ne. kept other ∙ notes.others other ne;
+        };
+        notes = subst (MovesNotes behind behind' (untold a n)) (sym (kept n)) moved;
       }
 
-  -- neither takes notes
-  pub moves-on : (a b c d : C) (conn : Conn) (given : Option (Vec (LoadId × List ℕ) Global)) (text : Option (Vec ℕ Global)) (behind behind' : List Note)
-      → Moves behind behind' (untold a conn.namespace) (untold b conn.namespace) → MatchOption given (c ≡ b) (λ l. MovesLoads spaces untaken untold b c conn.namespace l.items)
-      → MatchOption text (d ≡ c) (λ t. MovesReplies spaces untaken untold c d conn t.items) → Moves behind behind' (untold a conn.namespace) (untold d conn.namespace)
-  moves-on a b c d conn given text behind behind' moved loads replies =
-      let n = conn.namespace in
-      subst (Moves behind behind' (untold a n)) (sym ((text-out c d conn text replies).notes n ∙ (loads-out b c n given loads).notes n)) moved
+  -- if the connection is unknown, nothing is
+  pub moves-nothing : (a b c : C) (conn : Conn) (owed : Owed) (behind behind' : List Note) → MovesNotesOf spaces untaken untold a b conn.namespace → MovesNotes behind behind' (untold a conn.namespace) (untold b conn.namespace)
+      → c ≡ b → owed.replies ≡ None → owed.loads ≡ None → MovesAll spaces untaken untold a c conn owed behind behind'
+  moves-nothing a b c conn owed behind behind' notes moved same no-replies no-loads =
+      let parts = moves-parts b b c conn owed (subst (λ o. MatchOption o (b ≡ b) (λ t. MovesReplies spaces untaken untold b b conn t.items)) (sym no-replies) refl)
+      (subst (λ o. MatchOption o (c ≡ b) (λ l. MovesLoads spaces untaken untold b c conn.namespace l.items)) (sym no-loads) same) in
+      moves-owed a b c conn owed behind behind' notes moved parts.0 parts.1
+
+-- what was due at some moment
+module _ {C : Type 0} (configs : List Config) (spaces : C → List Shown) (untaken : C → Conn → List ℕ) (untold : C → ℕ → List Note) (old new : C) (events : ℕ) (reached : IsReachedFrom configs (spaces old) events) (conn : Conn) where
+  replies-due : (text : Option (Vec ℕ Global)) → MatchOption text (untaken new conn ≡ untaken old conn) (λ t. (t.items ≡ untaken old conn) × (untaken new conn ≡ [])) → IfSome text (λ t. WereUntaken configs spaces untaken conn t.items)
+  replies-due None e = tt
+  replies-due (Some t) e = record { core = old; events = events; reached = reached; same = e.0 }
+
+  module _ (space : Shown) (at : slice_get (spaces old) conn.namespace ≡ Some space) where
+    loads-due : (loads : Option (Vec (LoadId × List ℕ) Global)) → IfSome loads (λ l. l.items ≡ outgoing_of space) → IfSome loads (λ l. WereOut configs spaces conn.namespace l.items)
+    loads-due None e = tt
+    loads-due (Some l) e = record { core = old; events = events; reached = reached; out = record { space = space; at = at; fact = e } }
+
+    closing-due : (closing : Option Closing) → closing ≡ closing_of space conn.number
+        → IfSome closing (λ why. HeldAtSomeMoment configs spaces (λ all. InSpace all conn.namespace (λ s. closing_of s conn.number ≡ Some why)))
+    closing-due None e = tt
+    closing-due (Some why) e = record { core = old; events = events; reached = reached; fact = record { space = space; at = at; fact = sym e } }
+
+  pub owes-due : (wants : Bool) (owed : Owed) → MovesOwed spaces untaken untold old new conn owed → InSpace (spaces old) conn.namespace (λ space. IsWhatIsOwed space conn.number wants owed) → Owes configs spaces untaken conn wants owed
+  owes-due wants owed moved i = record {
+    replies = replies-due owed.replies moved.replies;
+    loads = loads-due i.space i.at owed.loads i.fact.loads;
+    unwanted = i.fact.unwanted;
+    closed = closing-due i.space i.at owed.closing i.fact.closing;
+    waits = λ yes. record { core = old; events = events; reached = reached; fact = record { space = i.space; at = i.at; fact = sym i.fact.waits ∙ yes } };
+  }
 
 -- ---- takings of a service that keeps no journal
 
@@ -174,8 +239,8 @@ output-other was is number text t (suc place) ne =
 
 module _ (n : ℕ) {F : BareSpace → BareSpace → Type 0} (old new : List BareSpace) (a : At old new n F) where
   -- what such a taking leaves
-  notes-kept : ((was is : BareSpace) → F was is → notices_of is ≡ notices_of was) → (k : ℕ) → untold_of new k ≡ untold_of old k
-  notes-kept same = seen-kept notices_of old new n (at-map F (λ was is. notices_of is ≡ notices_of was) old new n a same)
+  notes-kept : ((was is : BareSpace) → F was is → untaken_notes is ≡ untaken_notes was) → (k : ℕ) → untold_of new k ≡ untold_of old k
+  notes-kept same = seen-kept untaken_notes old new n (at-map F (λ was is. untaken_notes is ≡ untaken_notes was) old new n a same)
 
   texts-kept : ((number : ℕ) (was is : BareSpace) → F was is → untaken_output is number ≡ untaken_output was number) → (conn : Conn) → untaken_of new conn ≡ untaken_of old conn
   texts-kept same conn =
@@ -183,7 +248,7 @@ module _ (n : ℕ) {F : BareSpace → BareSpace → Type 0} (old new : List Bare
       seen-kept of old new n (at-map F (λ was is. of is ≡ of was) old new n a (same conn.number)) conn.namespace
 
   loads-kept : ((was is : BareSpace) → F was is → outgoing_of is ≡ outgoing_of was) → (k : ℕ) → outgoing_in (bare_spaces new) k ≡ outgoing_in (bare_spaces old) k
-  loads-kept same = seen-kept outgoing_of (bare_spaces old) (bare_spaces new) n (at-shown (shown bare_tape) old new n same a)
+  loads-kept same = seen-kept outgoing_of (bare_spaces old) (bare_spaces new) n (at-shown (shown_space bare_tape) old new n same a)
 
 pub bare-replies : (conn : Conn) (old new : List BareSpace) (r : Result (Vec ℕ Global) ServiceError) → IfOk r (λ text. At old new conn.namespace (λ was is. TakesOutput was is conn.number text.items))
     → IfOk r (λ text. MovesReplies bare_spaces untaken_of untold_of old new conn text.items)
@@ -192,7 +257,7 @@ bare-replies conn old new (Ok text) a = record {
   all = a.fact.taken ∙ sym (seen-at own old n a.was a.at);
   none = seen-at own new n a.is (at-is F old new n a) ∙ output-none a.was a.is conn.number text.items a.fact;
   others = λ other ne. go other ne (cases_eq other.namespace n);
-  notes = notes-kept n old new a (λ was is t. ap notices_of t.rest);
+  notes = notes-kept n old new a (λ was is t. ap untaken_notes t.rest);
   loads = loads-kept n old new a (λ was is t. ap outgoing_of t.rest);
 }
   where
@@ -215,12 +280,12 @@ pub bare-note : (n : ℕ) (old new : List BareSpace) (r : Result (Option Note) S
     → IfOk r (λ note. MovesNote bare_spaces untaken_of untold_of old new n note)
 bare-note n old new (Err e) taken = taken
 bare-note n old new (Ok note) a =
-    let before = seen-at notices_of old n a.was a.at in
-    let behind = seen-at notices_of new n a.is (at-is (λ was is. TakesNotice was is note) old new n a) in record {
+    let before = seen-at untaken_notes old n a.was a.at in
+    let behind = seen-at untaken_notes new n a.is (at-is (λ was is. TakesNotice was is note) old new n a) in record {
       first = before ∙ first-note note a.was a.is a.fact ∙ ap (λ l. option_to_list note ++ l) (sym behind);
       none = λ none. before ∙ no-note note a.was a.is a.fact none;
       rest = record {
-        others = λ other ne. seen-other notices_of old new n other a ne;
+        others = λ other ne. seen-other untaken_notes old new n other a ne;
         replies = texts-kept n old new a (λ number was is t. ap (λ (s : BareSpace). untaken_output s number) t.rest);
         loads = loads-kept n old new a (λ was is t. ap outgoing_of t.rest);
       };
@@ -232,8 +297,70 @@ bare-loads n old new (Err e) taken seen = taken
 bare-loads n old new (Ok loads) a seen = record {
   all = seen;
   replies = texts-kept n old new a (λ number was is t. ap (λ (s : BareSpace). untaken_output s number) t.rest);
-  notes = notes-kept n old new a (λ was is t. ap notices_of t.rest);
+  notes = notes-kept n old new a (λ was is t. ap untaken_notes t.rest);
 }
+
+-- what a connection is owed
+wanted-moved : (n number : ℕ) (old new : List BareSpace) (was is : BareSpace) (loads : Option (Vec (LoadId × List ℕ) Global)) → slice_get old n ≡ Some was → new ≡ slice_set old n is
+    → GivesWanted (without_output number was) is (option_map (λ l. l.items) loads)
+    → MatchOption loads (new ≡ slice_set old n (without_output number was)) (λ l. MovesLoads bare_spaces untaken_of untold_of (slice_set old n (without_output number was)) new n l.items)
+wanted-moved n number old new was is None at set same = set ∙ ap (slice_set old n) same
+wanted-moved n number old new was is (Some loads) at set gives =
+    let told = without_output number was in
+    let mid = slice_set old n told in
+    let a : At mid new n (λ x y. TakesLoads x y loads.items) = record {
+      was = told;
+      is = is;
+      at = at-replaced old n told (slice_get_within old n was at);
+      set = set ∙ sym (set-set old n told is);
+      fact = record { taken = gives.taken; rest = gives.rest; in_turn = gives.in_turn; keys = gives.keys };
+    } in
+    bare-loads n mid new (Ok loads) a (loads-shown bare_tape n mid new (Ok loads) a)
+
+replies-moved : (conn : Conn) (old : List BareSpace) (was : BareSpace) (text : Option (Vec ℕ Global)) → slice_get old conn.namespace ≡ Some was → IsOpened was conn.number
+    → option_map (λ t. t.items) text ≡ Some (untaken_output was conn.number)
+    → MatchOption text (slice_set old conn.namespace (without_output conn.number was) ≡ old) (λ t. MovesReplies bare_spaces untaken_of untold_of old (slice_set old conn.namespace (without_output conn.number was)) conn t.items)
+replies-moved conn old was None at opened is = absurd (none-some _ is)
+replies-moved conn old was (Some text) at opened is =
+    let told = without_output conn.number was in
+    bare-replies conn old (slice_set old conn.namespace told) (Ok text)
+    (record { was = was; is = told; at = at; set = refl; fact = record { opened = opened; taken = same_Some text.items _ is; rest = refl } })
+
+module _ (conn : Conn) (wants : Bool) (old new : List BareSpace) where
+  abbrev Given : BareSpace → BareSpace → Owed → Type 0
+  Given was is owed = calls.GivesConnectionOwed was is conn.number wants owed
+
+  owed-moved : (owed : Owed) → At old new conn.namespace (λ was is. Given was is owed) → MovesOwed bare_spaces untaken_of untold_of old new conn owed × KeepsNotes bare_spaces untaken_of untold_of old new
+  owed-moved owed a =
+      let told = slice_set old conn.namespace (without_output conn.number a.was) in
+      moves-parts bare_spaces untaken_of untold_of old told new conn owed
+      (replies-moved conn old a.was owed.replies a.at a.fact.0 a.fact.1.replies)
+      (wanted-moved conn.namespace conn.number old new a.was a.is owed.loads a.at a.set a.fact.1.loads)
+
+  pub bare-owed : (r : Result Owed ServiceError) → IfOk r (λ owed. At old new conn.namespace (λ was is. Given was is owed)) → IfOk r (λ owed. MovesOwed bare_spaces untaken_of untold_of old new conn owed)
+  bare-owed (Ok owed) a = (owed-moved owed a).0
+  bare-owed (Err e) a = a
+
+  pub bare-notes : (r : Result Owed ServiceError) → IfOk r (λ owed. At old new conn.namespace (λ was is. Given was is owed)) → OnErr r (new ≡ old) → KeepsNotes bare_spaces untaken_of untold_of old new
+  bare-notes (Ok owed) a same = (owed-moved owed a).1
+  bare-notes (Err e) a same = λ other. ap (λ spaces. untold_of spaces other) same
+
+  pub bare-told : (r : Result Owed ServiceError) → IfOk r (λ owed. At old new conn.namespace (λ was is. Given was is owed))
+      → IfOk r (λ owed. InSpace (bare_spaces old) conn.namespace (λ space. IsWhatIsOwed space conn.number wants owed))
+  bare-told (Err e) a = a
+  bare-told (Ok owed) a =
+      let at = at-mapped (shown_space bare_tape) old conn.namespace a.was a.at in
+      owed-parts bare_spaces untaken_of untold_of old new conn wants owed (owed-moved owed a).0
+      (record { space = shown_space bare_tape a.was; at = at; fact = a.fact.1.closing })
+      (record { space = shown_space bare_tape a.was; at = at; fact = a.fact.1.waits })
+      (λ no. none-where owed.loads (a.fact.1.wanted ∙ no))
+
+  pub bare-configs : (owed : Owed) (was is : BareSpace) → Given was is owed → config_of is ≡ config_of was
+  bare-configs owed was is g = go (option_map (λ l. l.items) owed.loads) g.1.loads
+    where
+      go : (loads : Option (List (LoadId × List ℕ))) → GivesWanted (without_output conn.number was) is loads → config_of is ≡ config_of was
+      go None same = ap config_of same
+      go (Some loads) gives = ap config_of gives.rest
 
 -- ---- takings of a recording service
 
@@ -244,7 +371,7 @@ kept-replies old new conn (Ok text) t = record {
   none = t.none;
   others = t.others;
   notes = λ k. (t.notes k).1;
-  loads = λ k. ap (λ spaces. outgoing_in (map (shown kept_by) spaces) k) t.spaces;
+  loads = λ k. ap (λ spaces. outgoing_in (map (shown_space kept_by) spaces) k) t.spaces;
 }
 
 pub kept-note : (old new : Recorded) (n : ℕ) (r : Result (Option Note) ServiceError) → IfOk r (TakesNote old new n) → IfOk r (λ note. MovesNote spaces_in untaken_in untold_in old new n note)
@@ -255,7 +382,7 @@ kept-note old new n (Ok note) t = record {
   rest = record {
     others = λ other ne. (t.others other ne).1;
     replies = t.replies;
-    loads = λ k. ap (λ spaces. outgoing_in (map (shown kept_by) spaces) k) t.spaces;
+    loads = λ k. ap (λ spaces. outgoing_in (map (shown_space kept_by) spaces) k) t.spaces;
   };
 }
 
@@ -283,12 +410,7 @@ kept-loads old new n (Ok loads) taken seen none cursors =
 -- the replies of a connection in a record
 own-steps-replies : (number : ℕ) (steps : List Step) → flat_map (reply_for number) steps ≡ replies_to number steps
 own-steps-replies number [] = refl
-own-steps-replies number (x ∷ xs) = go (x.conn == number) (own-steps-replies number xs)
-  where
-    go : (b : Bool) → flat_map (reply_for number) xs ≡ replies_to number xs
-        → (if b then unwrap_or x.reply [] else []) ++ flat_map (reply_for number) xs ≡ flat_map reply_in (cond b (x ∷ own_steps number xs) (own_steps number xs))
-    go true more = ap (λ l. unwrap_or x.reply [] ++ l) more
-    go false more = more
+own-steps-replies number (x ∷ xs) = let more = own-steps-replies number xs in grind (arith, more)
 
 replies-one : (number : ℕ) (entry : Record) → replies_for number (entry ∷ []) ≡ replies_to number entry.steps
 replies-one number entry = append-nil (flat_map (reply_for number) entry.steps) ∙ own-steps-replies number entry.steps
@@ -330,17 +452,17 @@ no-length (x ∷ xs) e = absurd (omega arith)
 -- an input was taken by a service that keeps no journal
 bare-taken : (i : Input) (output : Output) (old new : List BareSpace) → At old new (namespace_of i) (Performs bare_tape i output) → TakesInput bare_spaces untaken_of untold_of i output old new
 bare-taken i output old new a = record {
-  performed = at-shown (shown bare_tape) old new n (λ was is p. performs-shown bare_tape i output was is p) a;
+  performed = at-shown (shown_space bare_tape) old new n (λ was is p. performs-shown bare_tape i output was is p) a;
   gained = record {
-    was = shown bare_tape a.was;
-    is = shown bare_tape a.is;
-    at = at-mapped (shown bare_tape) old n a.was a.at;
-    set = ap (map (shown bare_tape)) a.set ∙ map-set (shown bare_tape) old n a.is;
+    was = shown_space bare_tape a.was;
+    is = shown_space bare_tape a.is;
+    at = at-mapped (shown_space bare_tape) old n a.was a.at;
+    set = ap (map (shown_space bare_tape)) a.set ∙ map-set (shown_space bare_tape) old n a.is;
     fact = λ s stands.
         let p = (performs-shown bare_tape i output a.was a.is a.fact).from s stands in record {
           performed = p;
           replies = λ conn. seen-more (λ (space : BareSpace). untaken_output space conn.number) old new n a (replies_to conn.number p.entry.steps) (p.turned.outputs conn.number) conn.namespace;
-          notes = seen-more notices_of old new n a (notes_in p.entry) p.turned.notes;
+          notes = seen-more untaken_notes old new n a (notes_in p.entry) p.turned.notes;
         };
   };
 }
@@ -363,7 +485,7 @@ module _ (i : Input) (output : Output) (old new : Recorded) (a : At old.spaces n
   none-gained : (k : ℕ) → k ≢ own → gained_in old new k ≡ []
   none-gained k ne = no-length (gained_in old new k) (gains.one k ∙ ap (λ (b : Bool). if b then 1 else 0) (ne_eqb k own ne))
 
-  module _ (s : Situation) (p : PerformsFrom shown_tape i output (shown kept_by a.was) (shown kept_by a.is) s) where
+  module _ (s : Situation) (p : PerformsFrom shown_tape i output (shown_space kept_by a.was) (shown_space kept_by a.is) s) where
     journal-is : journal_of a.is ≡ with_entry p.entry (journal_of a.was)
     journal-is = ap (λ (x : Taped). x.journal) (same_Some a.is.tape _ p.turned.kept)
 
@@ -385,7 +507,7 @@ module _ (i : Input) (output : Output) (old new : Recorded) (a : At old.spaces n
             subst (λ b. make (gained_in old new k) ≡ (if b then made else [])) (sym (eq-eqb k own here)) (ap (λ m. make (gained_in old new m)) here ∙ ap make own-gained ∙ one)
         go (inr ne) = subst (λ b. make (gained_in old new k) ≡ (if b then made else [])) (sym (ne_eqb k own ne)) (ap make (none-gained k ne) ∙ none)
 
-    gains-from : GainsFrom spaces_in untaken_in untold_in i output old new (shown kept_by a.was) (shown kept_by a.is) s
+    gains-from : GainsFrom spaces_in untaken_in untold_in i output old new (shown_space kept_by a.was) (shown_space kept_by a.is) s
     gains-from = record {
       performed = p;
       replies = λ conn.
@@ -395,12 +517,12 @@ module _ (i : Input) (output : Output) (old new : Recorded) (a : At old.spaces n
 
   kept-taken : TakesInput spaces_in untaken_in untold_in i output old new
   kept-taken = record {
-    performed = at-shown (shown kept_by) old.spaces new.spaces own (λ was is p. performs-shown kept_by i output was is p) a;
+    performed = at-shown (shown_space kept_by) old.spaces new.spaces own (λ was is p. performs-shown kept_by i output was is p) a;
     gained = record {
-      was = shown kept_by a.was;
-      is = shown kept_by a.is;
-      at = at-mapped (shown kept_by) old.spaces own a.was a.at;
-      set = ap (map (shown kept_by)) a.set ∙ map-set (shown kept_by) old.spaces own a.is;
+      was = shown_space kept_by a.was;
+      is = shown_space kept_by a.is;
+      at = at-mapped (shown_space kept_by) old.spaces own a.was a.at;
+      set = ap (map (shown_space kept_by)) a.set ∙ map-set (shown_space kept_by) old.spaces own a.is;
       fact = λ s stands. gains-from s ((performs-shown kept_by i output a.was a.is a.fact).from s stands);
     };
   }

@@ -19,12 +19,12 @@ use Rattle.cache_spaces.proofs.Journaling.{journal-at, mapped}
 use Rattle.cache_spaces.proofs.Placing.{at-is}
 use Rattle.cache_spaces.proofs.Reaching.{count-empty, count-more, reached-none, reached-shown, at-shown, in-shown, refused-shown, refuses-shown}
 use Rattle.cache_shared.specs.Looked.{RefusesCopy}
-use Rattle.cache_spaces.specs.Services.{BareSpace, bare_tape, AreNew, blank_tape}
+use Rattle.cache_spaces.specs.Services.{BareSpace, bare_tape, AreNewSpaces, blank_tape}
 use Rattle.cache_spaces.specs.Calls.{At, InSpace, IsOpened, IsUnknown, Refuses, TakesLoads, TakesNotice, Performs, RefusedInput, namespace_of}
 use Rattle.cache_spaces.specs.Journals.{journals_of, kept_by, IsReached, record_count}
 use Rattle.cache_spaces.specs.Played.{journal_of}
 use Rattle.cache_spaces.specs.Recorded.{GainsRecord, Recorded, gained_in, records_in}
-use Rattle.cache_spaces.specs.Spaces.{Shown, Space, shown, notices_of}
+use Rattle.cache_spaces.specs.Spaces.{Shown, Space, shown_space, untaken_notes}
 use Rattle.cache_spaces.specs.declared.stepping.Refusal.{Refusal}
 use Rattle.cache_shared.specs.Recordings.{bare_spaces, no_journals, journals_in, spaces_in}
 use Rattle.cache_shared.specs.Events.{CountsRecord, StandsAfter, KeepsStanding, configs_of}
@@ -35,36 +35,36 @@ use Rattle.audit_model.specs.declared.input.ServiceError.TheVariants as error
 
 module _ {T : Type 0} (tape : T → Option Taped) where
   pub refused : {A : Type 0} (i : Input) (r : Result A Refusal) (old : List (Space T)) → IfErr r (λ refusal. Refuses old (namespace_of i) refusal.error (RefusedInput i refusal.error))
-      → IfErr r (λ refusal. Refuses (map (shown tape) old) (namespace_of i) refusal.error (RefusedInput i refusal.error))
+      → IfErr r (λ refusal. Refuses (map (shown_space tape) old) (namespace_of i) refusal.error (RefusedInput i refusal.error))
   refused i (Ok a) old cause = cause
-  refused i (Err refusal) old cause = refuses-shown (shown tape) old (namespace_of i) refusal.error (λ was c. refused-shown tape i refusal.error was c) cause
+  refused i (Err refusal) old cause = refuses-shown (shown_space tape) old (namespace_of i) refusal.error (λ was c. refused-shown tape i refusal.error was c) cause
 
   -- takings and looks
 
   pub loads-shown : (n : ℕ) (old new : List (Space T)) (r : Result (Vec (LoadId × List ℕ) Global) ServiceError) → IfOk r (λ loads. At old new n (λ was is. TakesLoads was is loads.items))
-      → IfOk r (λ loads. At (map (shown tape) old) (map (shown tape) new) n (λ was is. TakesLoads was is loads.items))
-  loads-shown n old new (Ok loads) taken = at-shown (shown tape) old new n (λ was is t. record { taken = t.taken; rest = ap (shown tape) t.rest; in_turn = t.in_turn; keys = t.keys }) taken
+      → IfOk r (λ loads. At (map (shown_space tape) old) (map (shown_space tape) new) n (λ was is. TakesLoads was is loads.items))
+  loads-shown n old new (Ok loads) taken = at-shown (shown_space tape) old new n (λ was is t. record { taken = t.taken; rest = ap (shown_space tape) t.rest; in_turn = t.in_turn; keys = t.keys }) taken
   loads-shown n old new (Err e) taken = taken
 
-  pub none-shown : {A : Type 0} (n : ℕ) (old : List (Space T)) (r : Result A ServiceError) → IfErr r (λ e. (e ≡ error.NoNamespace) × (length old ≤ n)) → IfErr r (λ e. (e ≡ error.NoNamespace) × (length (map (shown tape) old) ≤ n))
+  pub none-shown : {A : Type 0} (n : ℕ) (old : List (Space T)) (r : Result A ServiceError) → IfErr r (λ e. (e ≡ error.NoNamespace) × (length old ≤ n)) → IfErr r (λ e. (e ≡ error.NoNamespace) × (length (map (shown_space tape) old) ≤ n))
   none-shown n old (Ok a) cause = cause
-  none-shown n old (Err e) cause = (cause.0, subst (λ k. k ≤ n) (sym (length-map old (shown tape))) cause.1)
+  none-shown n old (Err e) cause = (cause.0, subst (λ k. k ≤ n) (sym (length-map old (shown_space tape))) cause.1)
 
-  pub look-shown : {A : Type 0} (of : Space T → A) (seen : Shown → A) (n number : ℕ) (spaces : List (Space T)) (r : Result A ServiceError) → ((x : Space T) → seen (shown tape x) ≡ of x)
-      → IfOk r (λ a. InSpace spaces n (λ space. IsOpened space number × (a ≡ of space))) → IfOk r (λ a. InSpace (map (shown tape) spaces) n (λ space. a ≡ seen space))
-  look-shown of seen n number spaces (Ok a) same looked = in-shown (shown tape) spaces n (λ x p. p.1 ∙ sym (same x)) looked
+  pub look-shown : {A : Type 0} (of : Space T → A) (seen : Shown → A) (n number : ℕ) (spaces : List (Space T)) (r : Result A ServiceError) → ((x : Space T) → seen (shown_space tape x) ≡ of x)
+      → IfOk r (λ a. InSpace spaces n (λ space. IsOpened space number × (a ≡ of space))) → IfOk r (λ a. InSpace (map (shown_space tape) spaces) n (λ space. a ≡ seen space))
+  look-shown of seen n number spaces (Ok a) same looked = in-shown (shown_space tape) spaces n (λ x p. p.1 ∙ sym (same x)) looked
   look-shown of seen n number spaces (Err e) same looked = looked
 
   -- a refusal, where its cause is seen whatever the tape is
   pub cause-shown : {A : Type 0} (Cause : ServiceError → Space T → Type 0) (More : ServiceError → Shown → Type 0) (n : ℕ) (spaces : List (Space T)) (r : Result A ServiceError)
-      → ((e : ServiceError) (x : Space T) → Cause e x → More e (shown tape x)) → IfErr r (λ e. Refuses spaces n e (Cause e)) → IfErr r (λ e. Refuses (map (shown tape) spaces) n e (More e))
+      → ((e : ServiceError) (x : Space T) → Cause e x → More e (shown_space tape x)) → IfErr r (λ e. Refuses spaces n e (Cause e)) → IfErr r (λ e. Refuses (map (shown_space tape) spaces) n e (More e))
   cause-shown Cause More n spaces (Ok a) more cause = cause
-  cause-shown Cause More n spaces (Err e) more cause = refuses-shown (shown tape) spaces n e (more e) cause
+  cause-shown Cause More n spaces (Err e) more cause = refuses-shown (shown_space tape) spaces n e (more e) cause
 
-  pub unknown-shown : (number : ℕ) (e : ServiceError) (x : Space T) → IsUnknown x number e → IsUnknown (shown tape x) number e
+  pub unknown-shown : (number : ℕ) (e : ServiceError) (x : Space T) → IsUnknown x number e → IsUnknown (shown_space tape x) number e
   unknown-shown number e x u = record { unknown = u.unknown; error = u.error }
 
-  pub copy-shown : (number : ℕ) (e : ServiceError) (x : Space T) → RefusesCopy x number e → RefusesCopy (shown tape x) number e
+  pub copy-shown : (number : ℕ) (e : ServiceError) (x : Space T) → RefusesCopy x number e → RefusesCopy (shown_space tape x) number e
   copy-shown number e x (inl u) = inl (unknown-shown number e x u)
   copy-shown number e x (inr full) = inr full
 
@@ -88,7 +88,7 @@ counts i (Ok output) old new taken gains = counts-one i output old new taken gai
 counts i (Err e) old new taken gains = taken
 
 -- a service just made has no records
-counts-none : (configs : List Config) (generator : List ℕ) (made : Instant) (spaces : List (Space Taped)) → AreNew kept_by (Some (blank_tape made)) spaces configs generator made.nanos → record_count (journals_of spaces) ≡ 0
+counts-none : (configs : List Config) (generator : List ℕ) (made : Instant) (spaces : List (Space Taped)) → AreNewSpaces kept_by (Some (blank_tape made)) spaces configs generator made.nanos → record_count (journals_of spaces) ≡ 0
 counts-none configs generator made spaces new = count-empty made (journals_of spaces) (λ k journal at.
     let x = mapped journal_of spaces k journal at in
     let lt = slice_get_within spaces k x.0 x.1 in
@@ -96,7 +96,7 @@ counts-none configs generator made spaces new = count-empty made (journals_of sp
     sym x.2 ∙ ap (λ (t : Taped). t.journal) (same_Some x.0.tape (blank_tape made) (new.each k config.0 x.0 config.1 x.1).taped))
 
 -- services just made, without inputs
-pub unused-kept : (configs : List Config) (generator : List ℕ) (made : Instant) (recorded : Recorded) → AreNew kept_by (Some (blank_tape made)) recorded.spaces configs generator made.nanos → StandsAfter true configs spaces_in journals_in 0 recorded
+pub unused-kept : (configs : List Config) (generator : List ℕ) (made : Instant) (recorded : Recorded) → AreNewSpaces kept_by (Some (blank_tape made)) recorded.spaces configs generator made.nanos → StandsAfter true configs spaces_in journals_in 0 recorded
 unused-kept configs generator made recorded new = record {
   reached = record {
     led = ∣ reached-shown kept_by recorded.spaces 0 (reached-none kept_by (Some (blank_tape made)) configs generator made recorded.spaces new) ∣₁;
@@ -105,7 +105,7 @@ unused-kept configs generator made recorded new = record {
   counted = λ kept. counts-none configs generator made recorded.spaces new;
 }
 
-pub unused-bare : (configs : List Config) (generator : List ℕ) (made : ℕ) (spaces : List BareSpace) → AreNew bare_tape None spaces configs generator made → ∥ IsReached spaces 0 ∥₁ → StandsAfter false configs bare_spaces no_journals 0 spaces
+pub unused-bare : (configs : List Config) (generator : List ℕ) (made : ℕ) (spaces : List BareSpace) → AreNewSpaces bare_tape None spaces configs generator made → ∥ IsReached spaces 0 ∥₁ → StandsAfter false configs bare_spaces no_journals 0 spaces
 unused-bare configs generator made spaces new none = record {
   reached = record {
     led = ∥∥₁_map none (reached-shown bare_tape spaces 0);
@@ -123,24 +123,24 @@ loads-leave n old new (Err e) a same = ap journals_of same
 
 -- ---- notes of a service that keeps no journal
 
-pub first-note : (note : Option Note) (was is : BareSpace) → TakesNotice was is note → notices_of was ≡ option_to_list note ++ notices_of is
+pub first-note : (note : Option Note) (was is : BareSpace) → TakesNotice was is note → untaken_notes was ≡ option_to_list note ++ untaken_notes is
 first-note None was is t = t.taken.0 ∙ sym t.taken.1
 first-note (Some note) was is t = t.taken
 
-pub no-note : (note : Option Note) (was is : BareSpace) → TakesNotice was is note → IsNone note → notices_of was ≡ []
+pub no-note : (note : Option Note) (was is : BareSpace) → TakesNotice was is note → IsNone note → untaken_notes was ≡ []
 no-note None was is t none = t.taken.0
 no-note (Some note) was is t none = absurd (let h : true ≡ false = none in cc)
 
 pub untold-refused : (n : ℕ) (old : List BareSpace) (r : Result (Option Note) ServiceError) → IfErr r (λ e. (e ≡ error.NoNamespace) × (length old ≤ n))
-    → IfErr r (λ e. Refuses (map (shown bare_tape) old) n e (λ space. e ≡ error.OutOfMemory))
+    → IfErr r (λ e. Refuses (map (shown_space bare_tape) old) n e (λ space. e ≡ error.OutOfMemory))
 untold-refused n old (Ok told) refused = refused
-untold-refused n old (Err e) refused = inl (refused.0, subst (λ k. k ≤ n) (sym (length-map old (shown bare_tape))) refused.1)
+untold-refused n old (Err e) refused = inl (refused.0, subst (λ k. k ≤ n) (sym (length-map old (shown_space bare_tape))) refused.1)
 
 -- ---- what is taken of a recording service
 
 -- where the namespaces are as they were, the service stands where it did
 keeps : (old new : Recorded) → new.spaces ≡ old.spaces → KeepsStanding spaces_in journals_in old new
-keeps old new same = (ap journals_of same, λ n w. subst (λ spaces. ∥ IsReached (map (shown kept_by) spaces) n ∥₁) (sym same) w, ap (λ spaces. configs_of (map (shown kept_by) spaces)) same)
+keeps old new same = (ap journals_of same, λ n w. subst (λ spaces. ∥ IsReached (map (shown_space kept_by) spaces) n ∥₁) (sym same) w, ap (λ spaces. configs_of (map (shown_space kept_by) spaces)) same)
 
 pub keeps-standing : {A E : Type 0} (r : Result A E) (old new : Recorded) → OnOk r (new.spaces ≡ old.spaces) → OnErr r (new ≡ old) → KeepsStanding spaces_in journals_in old new
 keeps-standing (Ok a) old new taken same = keeps old new taken

@@ -25,8 +25,8 @@ use Rattle.cache_spaces.specs.Calls.{namespace_of}
 use Rattle.cache_spaces.specs.Calls as inputs
 use Rattle.cache_spaces.specs.Journals.{IsReached}
 use Rattle.cache_spaces.specs.Spaces.{Shown, shown_tape}
-use Rattle.cache_shared.specs.Events.{Performs, is_fed, is_output_for, CountsRecord, StandsAfter, IsLastNumber, IsReachedFrom}
-use Rattle.cache_shared.specs.Looked.{HappenedAtSomeMoment, HeldAtSomeMoment, Moves}
+use Rattle.cache_shared.specs.Events.{PerformsInput, is_fed, is_output_for, CountsRecord, StandsAfter, IsLastNumber, IsReachedFrom}
+use Rattle.cache_shared.specs.Looked.{HappenedAtSomeMoment, HeldAtSomeMoment, MovesNotes}
 use Rattle.cache_shared.specs.Marks.{marks, AllMarked}
 use Rattle.cache_shared.specs.Taken.{TakesInput}
 use Rattle.cache_shared.proofs.Configured.{same-configs}
@@ -47,7 +47,7 @@ fits (input.Feed conn piece moment) opened steps = fed-so (last_is_held steps)
 fits (input.Answer load outcome moment) opened steps = refl
 fits (input.GiveUp load moment) opened steps = refl
 
-came : (i : Input) (output : Output) (old new : List Shown) (events : ℕ) → IsReached old events → Performs i output old new → IsTrue (is_output_for i output)
+came : (i : Input) (output : Output) (old new : List Shown) (events : ℕ) → IsReached old events → PerformsInput i output old new → IsTrue (is_output_for i output)
 came i output old new events r a =
     let k = namespace_of i in
     let lt = slice_get_within old k a.was a.at in
@@ -76,7 +76,7 @@ counts Event keeps i (Err e) count later before after journals counted gains sam
 
 -- where the service stands then
 pub one-further : {C : Type 0} (keeps : Bool) (configs : List Config) (spaces : C → List Shown) (journals : C → List Transcript) (i : Input) (output : Output) (old new : C) (n m : ℕ)
-    → StandsAfter keeps configs spaces journals n old → Performs i output (spaces old) (spaces new) → (keeps ≡ true → CountsRecord (journals old) (journals new)) → m ≡ n + 1
+    → StandsAfter keeps configs spaces journals n old → PerformsInput i output (spaces old) (spaces new) → (keeps ≡ true → CountsRecord (journals old) (journals new)) → m ≡ n + 1
     → StandsAfter keeps configs spaces journals m new
 one-further keeps configs spaces journals i output old new n m stands taken counts is = subst (λ k. StandsAfter keeps configs spaces journals k new) (sym is) (record {
   reached = record {
@@ -172,7 +172,7 @@ module _ {X : Type 0} where
 -- Notes that are moved.
 
 -- none
-pub moves-none : (behind notes : List Note) → Moves behind behind notes notes
+pub moves-none : (behind notes : List Note) → MovesNotes behind behind notes notes
 moves-none behind notes = record { moved = []; gained = sym (append-nil behind); left = refl }
 
 -- What is said once the lock is let go.

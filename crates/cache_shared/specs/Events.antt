@@ -18,8 +18,8 @@ use Rattle.cache_spaces.specs.Journals.{IsReached, IsWhereItWas, record_count}
 use Rattle.cache_spaces.specs.Spaces.{Shown, config_of, shown_tape}
 
 -- the input's event happened in its namespace
-abbrev pub Performs : Input → Output → List Shown → List Shown → Type 0
-Performs i output old new = At old new (namespace_of i) (inputs.Performs shown_tape i output)
+abbrev pub PerformsInput : Input → Output → List Shown → List Shown → Type 0
+PerformsInput i output old new = At old new (namespace_of i) (inputs.Performs shown_tape i output)
 
 -- the journals have one record more
 abbrev pub CountsRecord : List Transcript → List Transcript → Type 0
@@ -66,12 +66,12 @@ RefusesStep i e count spaces =
     ⊎ ((e ≡ error.OutOfMemory) ⊎ Refuses spaces (namespace_of i) e (RefusedInput i e))
 
 -- its moment is 2 ^ 63 nanoseconds or more
-abbrev pub IsLate : Input → Type 0
-IsLate (input.Open namespace) = ⊥
-IsLate (input.Close conn) = ⊥
-IsLate (input.Feed conn piece moment) = 2 ^ 63 ≤ moment.nanos
-IsLate (input.Answer load outcome moment) = 2 ^ 63 ≤ moment.nanos
-IsLate (input.GiveUp load moment) = 2 ^ 63 ≤ moment.nanos
+abbrev pub HasLateMoment : Input → Type 0
+HasLateMoment (input.Open namespace) = ⊥
+HasLateMoment (input.Close conn) = ⊥
+HasLateMoment (input.Feed conn piece moment) = 2 ^ 63 ≤ moment.nanos
+HasLateMoment (input.Answer load outcome moment) = 2 ^ 63 ≤ moment.nanos
+HasLateMoment (input.GiveUp load moment) = 2 ^ 63 ≤ moment.nanos
 
 -- an outcome is refused with this error, for its bytes or its time
 abbrev pub is_of_outcome : ServiceError → Bool

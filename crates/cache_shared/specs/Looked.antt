@@ -9,7 +9,7 @@ use Rattle.audit_model.specs.declared.transcript.Note.{Note}
 use Rattle.cache_spaces.specs.Calls.{InSpace, IsOpened, IsUnknown}
 use Rattle.cache_shared.specs.Events.{IsReachedFrom}
 use Rattle.cache_spaces.specs.Spaces.{Shown, Space, outgoing_of, closing_of, is_waiting_for}
-use Rattle.cache_shared.specs.declared.turning.Owed.{Owed}
+use Rattle.cache_core.specs.declared.owing.Owed.{Owed}
 use Rattle.audit_model.specs.declared.input.ServiceError.TheVariants as error
 
 -- the connection was never opened; or it was, and there is no memory for a copy
@@ -18,10 +18,18 @@ RefusesCopy space number e =
     IsUnknown space number e ⊎ (IsOpened space number × (e ≡ error.OutOfMemory))
 
 -- the oldest of some notes were appended to others, in order
-pub record Moves (behind behind' notes notes' : List Note) : Type 0 where
+pub record MovesNotes (behind behind' notes notes' : List Note) : Type 0 where
   pub moved : List Note
   pub gained : behind' ≡ behind ++ moved
   pub left : notes ≡ moved ++ notes'
+
+-- this is what a connection of a namespace is owed: loads only if they are requested
+pub record IsWhatIsOwed {T : Type 0} (space : Space T) (number : ℕ) (wants_loads : Bool) (owed : Owed) :
+    Type 0 where
+  pub loads : IfSome owed.loads (λ loads. loads.items ≡ outgoing_of space)
+  pub unwanted : wants_loads ≡ false → owed.loads ≡ None
+  pub closing : owed.closing ≡ closing_of space number
+  pub waits : owed.waits ≡ is_waiting_for space number
 
 -- What was so at some moment, in a service of these configurations to which some journals that obey lead.
 module _ {C : Type 0} (configs : List Config) (spaces : C → List Shown) where
@@ -71,7 +79,7 @@ module _ {C : Type 0} (configs : List Config) (spaces : C → List Shown) where
     pub events : ℕ
     pub reached : IsReachedFrom configs (spaces core) events
     pub left : List Note
-    pub moved : Moves behind behind' (untold core namespace) left
+    pub moved : MovesNotes behind behind' (untold core namespace) left
 
   -- What a connection is owed: its replies, and the loads of its namespace, which are there only if they are requested, were there, and so
   -- were the reason for which it is closed and the load for which it waits, each at a moment of its own.

@@ -8,11 +8,11 @@ use Rattle.audit_model.specs.declared.transcript.Transcript.{Transcript}
 use Rattle.cache_spaces.specs.Journals.{journals_of, kept_by}
 use Rattle.cache_spaces.specs.Recorded.{Recorded}
 use Rattle.cache_spaces.specs.Services.{BareSpace, bare_tape}
-use Rattle.cache_spaces.specs.Spaces.{Shown, notices_of, shown, untaken_output}
+use Rattle.cache_spaces.specs.Spaces.{Shown, untaken_notes, shown_space, untaken_output}
 
 -- its namespaces, as they look whatever their tapes are
 abbrev pub bare_spaces : List BareSpace → List Shown
-bare_spaces spaces = map (shown bare_tape) spaces
+bare_spaces spaces = map (shown_space bare_tape) spaces
 
 -- it has no journals
 abbrev pub no_journals : List BareSpace → List Transcript
@@ -28,13 +28,13 @@ untaken_of spaces conn = seen_in (λ space. untaken_output space conn.number) sp
 
 -- the notes of a namespace that were reported and not taken
 abbrev pub untold_of : List BareSpace → ℕ → List Note
-untold_of spaces namespace = seen_in notices_of spaces namespace
+untold_of spaces namespace = seen_in untaken_notes spaces namespace
 
 -- A recording service under the lock.
 
 -- its namespaces, as they look whatever their tapes are
 abbrev pub spaces_in : Recorded → List Shown
-spaces_in recorded = map (shown kept_by) recorded.spaces
+spaces_in recorded = map (shown_space kept_by) recorded.spaces
 
 abbrev pub journals_in : Recorded → List Transcript
 journals_in recorded = journals_of recorded.spaces

@@ -11,9 +11,9 @@ use Rattle.audit_model.specs.declared.transcript.Note.{Note}
 use Rattle.cache_core.specs.Turned.{notes_in, replies_to}
 use Rattle.cache_spaces.specs.Calls.{At, PerformsFrom, TakesLoads, namespace_of}
 use Rattle.cache_spaces.specs.Spaces.{Shown, StandsFor, outgoing_of, shown_tape}
-use Rattle.cache_shared.specs.Events.{Performs}
-use Rattle.cache_shared.specs.Looked.{Moves}
-use Rattle.cache_shared.specs.declared.turning.Owed.{Owed}
+use Rattle.cache_shared.specs.Events.{PerformsInput}
+use Rattle.cache_shared.specs.Looked.{MovesNotes}
+use Rattle.cache_core.specs.declared.owing.Owed.{Owed}
 use Rattle.cache_shared.specs.declared.turning.Turn.{Turn}
 
 -- the loads of a namespace that were sent and not taken, with their keys; none if there is no such namespace
@@ -78,7 +78,7 @@ module _ {C : Type 0} (spaces : C → List Shown) (untaken : C → Conn → List
   pub record MovesAll (old new : C) (conn : Conn) (given : Owed) (behind behind' : List Note) :
       Type 0 where
     pub owed : MovesOwed old new conn given
-    pub notes : Moves behind behind' (untold old conn.namespace) (untold new conn.namespace)
+    pub notes : MovesNotes behind behind' (untold old conn.namespace) (untold new conn.namespace)
 
   -- From this situation the input's event happened, by a record with this output. Its replies and notes, and nothing else, were added to
   -- those that were not taken.
@@ -93,12 +93,12 @@ module _ {C : Type 0} (spaces : C → List Shown) (untaken : C → Conn → List
 
   -- An input was taken: its event happened in its namespace, and added its replies and notes to those that were not taken.
   pub record TakesInput (i : Input) (output : Output) (old new : C) : Type 0 where
-    pub performed : Performs i output (spaces old) (spaces new)
+    pub performed : PerformsInput i output (spaces old) (spaces new)
     pub gained : At (spaces old) (spaces new) (namespace_of i)
         (λ was is. (s : Situation) → StandsFor was s → GainsFrom i output old new was is s)
 
   -- An input was taken, and everything that a connection was owed then was moved out, and oldest notes of its namespace.
-  pub record TakesTurn (old new : C) (conn : Conn) (i : Input) (turn : Turn)
+  pub record TakesInputWhole (old new : C) (conn : Conn) (i : Input) (turn : Turn)
       (behind behind' : List Note) : Type 0 where
     pub between : C
     pub taken : TakesInput i turn.output old between

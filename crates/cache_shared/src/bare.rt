@@ -1,7 +1,7 @@
 //! The service that keeps no journal.
 use crate::shareable::Shareable;
 use audit_model::{Bytes, Closing, Conn, Input, LoadId, Note, ServiceError, Transcript};
-use cache_spaces::{Output, Refusal, Service};
+use cache_spaces::{Output, Owed, Refusal, Service};
 
 impl Shareable for Service {
     ghost use Rattle.std.specs.Prelude.{false};
@@ -37,6 +37,10 @@ impl Shareable for Service {
 
     fn take_loads(&mut self, namespace: u64) -> Result<Vec<(LoadId, Bytes)>, ServiceError> {
         Service::take_loads(self, namespace)
+    }
+
+    fn owed(&mut self, conn: Conn, wants_loads: bool) -> Result<Owed, ServiceError> {
+        Service::owed(self, conn, wants_loads)
     }
 
     fn closed(&self, conn: Conn) -> Result<Option<Closing>, ServiceError> {

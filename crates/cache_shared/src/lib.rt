@@ -11,7 +11,8 @@ mod shared;
 mod turning;
 
 pub use booked::{BookedService, Finished};
+pub use cache_spaces::Owed;
 pub use seat::{Seat, Seating};
 pub use shareable::Shareable;
 pub use shared::SharedService;
-pub use turning::{Owed, Turn};
+pub use turning::Turn;

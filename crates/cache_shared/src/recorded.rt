@@ -1,13 +1,16 @@
 //! The core that keeps its journals.
-ghost use Rattle.std.specs.Prelude.{◌≡◌, IfErr, IfOk, OnErr};
+ghost use Rattle.std.specs.Prelude.{◌≡◌, false, None, IfErr, IfOk, MatchOption, OnErr};
 ghost use Rattle.std.specs.Option.{option_copied};
-ghost use Rattle.cache_shared.specs.Looked.{RefusesCopy};
-ghost use Rattle.cache_spaces.specs.Calls.{Refuses};
-ghost use Rattle.cache_spaces.specs.Recorded.{TakesNote, TakesReplies};
+ghost use Rattle.cache_shared.specs.Events.{KeepsStanding};
+ghost use Rattle.cache_shared.specs.Looked.{IsWhatIsOwed, RefusesCopy};
+ghost use Rattle.cache_shared.specs.Recordings.{journals_in, spaces_in};
+ghost use Rattle.cache_shared.specs.Taken.{KeepsNotes, MovesLoads, MovesOwed, MovesReplies};
+ghost use Rattle.cache_spaces.specs.Calls.{InSpace, IsUnknown, Refuses};
+ghost use Rattle.cache_spaces.specs.Recorded.{TakesNote, TakesReplies, untaken_in, untold_in};
 
 use crate::shareable::Shareable;
 use audit_model::{Bytes, Closing, Conn, Input, LoadId, Note, ServiceError, Transcript};
-use cache_spaces::{Output, RecordedService, Refusal, copy_note};
+use cache_spaces::{Output, Owed, RecordedService, Refusal, copy_note};
 use std::alloc::{AllocError, Global};
 
 impl Shareable for RecordedService {
@@ -47,6 +50,10 @@ impl Shareable for RecordedService {
         RecordedService::take_loads(self, namespace)
     }
 
+    fn owed(&mut self, conn: Conn, wants_loads: bool) -> Result<Owed, ServiceError> {
+        take_owed(self, conn, wants_loads)
+    }
+
     fn closed(&self, conn: Conn) -> Result<Option<Closing>, ServiceError> {
         self.service().closed(conn)
     }
@@ -68,6 +75,65 @@ fn take_text(recorded: &mut RecordedService, conn: Conn) -> Result<Vec<u8>, Serv
     let text = text.map_err(|_| ServiceError::OutOfMemory)?;
     recorded.take_output(conn)?;
     Ok(text)
+}
+
+/// Returns what a connection is owed, with a copy of its replies. They are taken only if there is memory for the copy.
+fn take_owed(
+    recorded: &mut RecordedService,
+    conn: Conn,
+    wants_loads: bool,
+) -> Result<Owed, ServiceError>
+    ensures moved { IfOk result
+        (MovesOwed spaces_in untaken_in untold_in recorded.old recorded.new conn) }
+    ensures notes { KeepsNotes spaces_in untaken_in untold_in recorded.old recorded.new }
+    ensures told { IfOk result (λ owed. InSpace (spaces_in recorded.old) conn.namespace
+        (λ space. IsWhatIsOwed space conn.number wants_loads owed)) }
+    ensures refused { IfErr result (λ e.
+        Refuses (spaces_in recorded.old) conn.namespace e (λ space. IsUnknown space conn.number e)) }
+    ensures unchanged { OnErr result (recorded.new ≡ recorded.old) }
+    ensures standing { KeepsStanding spaces_in journals_in recorded.old recorded.new }
+{
+    let closing = Shareable::closed(recorded, conn)?;
+    let waits = Shareable::waiting(recorded, conn)?;
+    Ok(Owed {
+        replies: take_replies(recorded, conn),
+        loads: take_wanted(recorded, conn.namespace, wants_loads),
+        closing,
+        waits,
+    })
+}
+
+/// Returns the loads of a namespace that went out and were not taken, moved out, if they are requested and there is such a namespace.
+fn take_wanted(
+    recorded: &mut RecordedService,
+    namespace: u64,
+    wants_loads: bool,
+) -> Option<Vec<(LoadId, Bytes)>>
+    ensures all { MatchOption result (recorded.new ≡ recorded.old) (λ loads.
+        MovesLoads spaces_in untaken_in untold_in recorded.old recorded.new namespace
+        loads.items) }
+    ensures unwanted { wants_loads ≡ false → result ≡ None }
+    ensures standing { KeepsStanding spaces_in journals_in recorded.old recorded.new }
+{
+    if !wants_loads {
+        return None;
+    }
+    match Shareable::take_loads(recorded, namespace) {
+        Ok(loads) => Some(loads),
+        Err(_) => None,
+    }
+}
+
+/// Returns the replies of a connection that were not taken, moved out; `None` if it is unknown, or if there is not enough memory.
+fn take_replies(recorded: &mut RecordedService, conn: Conn) -> Option<Vec<u8>>
+    ensures all { MatchOption result (recorded.new ≡ recorded.old) (λ text.
+        MovesReplies spaces_in untaken_in untold_in recorded.old recorded.new conn text.items) }
+    ensures standing { KeepsStanding spaces_in journals_in recorded.old recorded.new }
+{
+    match Shareable::take_output(recorded, conn) {
+        Ok(text) => Some(text),
+        Err(_) => None,
+    }
 }
 
 /// Returns a copy of the oldest note of a namespace that was not taken. It is taken only if there is memory for the copy.

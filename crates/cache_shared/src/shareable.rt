@@ -5,13 +5,13 @@ ghost use Rattle.audit_model.specs.declared.input.Conn.{Conn};
 ghost use Rattle.audit_model.specs.declared.transcript.Note.{Note as Told};
 ghost use Rattle.audit_model.specs.declared.transcript.Transcript.{Transcript};
 ghost use Rattle.cache_shared.specs.Events.{CountsRecord, KeepsStanding};
-ghost use Rattle.cache_shared.specs.Looked.{RefusesCopy};
-ghost use Rattle.cache_shared.specs.Taken.{MovesLoads, MovesNote, MovesReplies, TakesInput};
+ghost use Rattle.cache_shared.specs.Looked.{IsWhatIsOwed, RefusesCopy};
+ghost use Rattle.cache_shared.specs.Taken.{KeepsNotes, MovesLoads, MovesNote, MovesOwed, MovesReplies, TakesInput};
 ghost use Rattle.cache_spaces.specs.Calls.{InSpace, IsUnknown, Refuses, RefusedInput, namespace_of};
 ghost use Rattle.cache_spaces.specs.Spaces.{Shown, closing_of, is_waiting_for};
 
 use audit_model::{Bytes, Closing, Conn, Input, LoadId, Note, ServiceError, Transcript};
-use cache_spaces::{Output, Refusal};
+use cache_spaces::{Output, Owed, Refusal};
 
 /// The service under the lock of a `SharedService`: a `Service` or a `RecordedService`. Taking replies, loads and notes is not an event.
 pub trait Shareable: Drop {
@@ -83,6 +83,19 @@ pub trait Shareable: Drop {
             (λ loads. MovesLoads spaces untaken untold self.old self.new namespace loads.items) }
         ensures refused { IfErr result
             (λ e. (e ≡ ServiceError.NoNamespace) × (length (spaces self.old) ≤ namespace)) }
+        ensures unchanged { OnErr result (self.new ≡ self.old) }
+        ensures standing { KeepsStanding spaces journals self.old self.new };
+
+    /// Returns what a connection is owed, moved out: its replies, which are `None` if taking them needs memory that there is not; the loads of
+    /// its namespace that went out and were not taken, if they are requested; why it is closed; and whether a `LOAD` of it waits. Returns
+    /// `NoNamespace` if there is no such namespace, and `NoConnection` if the connection was never opened.
+    fn owed(&mut self, conn: Conn, wants_loads: bool) -> Result<Owed, ServiceError>
+        ensures moved { IfOk result (MovesOwed spaces untaken untold self.old self.new conn) }
+        ensures notes { KeepsNotes spaces untaken untold self.old self.new }
+        ensures told { IfOk result (λ owed. InSpace (spaces self.old) conn.namespace
+            (λ space. IsWhatIsOwed space conn.number wants_loads owed)) }
+        ensures refused { IfErr result (λ e.
+            Refuses (spaces self.old) conn.namespace e (λ space. IsUnknown space conn.number e)) }
         ensures unchanged { OnErr result (self.new ≡ self.old) }
         ensures standing { KeepsStanding spaces journals self.old self.new };
 

@@ -4,17 +4,17 @@ ghost use Rattle.std.specs.Arc.{arc_value};
 ghost use Rattle.cache_shared.specs.Events.{RefusesStep, StandsAfter};
 ghost use Rattle.cache_shared.specs.Looked.{HappenedAtSomeMoment, HeldAtSomeMoment, Owes, WasOldestNote, WereMoved, RefusesCopy, WereOut, WereUntaken};
 ghost use Rattle.cache_shared.specs.Seats.{AgreeAll, Counts, SameReceipts};
-ghost use Rattle.cache_shared.specs.Taken.{MovesAll, MovesLoads, MovesNote, MovesReplies, TakesInput, TakesTurn};
+ghost use Rattle.cache_shared.specs.Taken.{MovesAll, MovesLoads, MovesNote, MovesReplies, TakesInput, TakesInputWhole};
 ghost use Rattle.cache_spaces.specs.Calls.{InSpace, IsUnknown, Refuses};
 ghost use Rattle.cache_spaces.specs.Spaces.{closing_of, is_waiting_for};
 
 use crate::booked::{BookedService, Finished};
 use crate::seat::{Seat, Seating};
 use crate::shareable::Shareable;
-use crate::turning::{Owed, Turn};
+use crate::turning::Turn;
 use audit_laws::Receipt;
 use audit_model::{Bytes, Closing, Conn, Input, LoadId, Note, ServiceError};
-use cache_spaces::{Output, RecordedService, Refusal};
+use cache_spaces::{Output, Owed, RecordedService, Refusal};
 use std::alloc::{AllocError, Global};
 use std::sync::ledger::Blank;
 use std::sync::{Arc, Condvar, Mutex, Wait};
@@ -181,7 +181,7 @@ impl<L: Seating, C: Shareable> SharedService<L, C> {
             × SameReceipts seat.old.receipts.items seat.new.receipts.items
             × (notes.new ≡ notes.old)) }
         ensures taken { IfOk result (λ turn. HappenedAtSomeMoment L.configs C.spaces
-            (λ old new. TakesTurn C.spaces C.untaken C.untold old new conn input turn
+            (λ old new. TakesInputWhole C.spaces C.untaken C.untold old new conn input turn
             notes.old.items notes.new.items)) }
         ensures refused { IfErr result (λ refusal. HeldAtSomeMoment L.configs C.spaces
             (RefusesStep input refusal.error seat.old.count)) }

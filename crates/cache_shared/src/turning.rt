@@ -1,31 +1,17 @@
 //! Turns: an input, and everything that its connection is owed afterwards, in one hold of the lock.
-ghost use Rattle.std.specs.Prelude.{◌≡◌, ◌⊎◌, ◌-◌, ◌^◌, false, [], None, IfOk, IfErr, IfSome, OnOk, OnErr, MatchOption, vec_len, vec_capacity};
+ghost use Rattle.std.specs.Prelude.{◌≡◌, ◌⊎◌, ◌-◌, ◌^◌, [], IfOk, IfErr, OnOk, OnErr, vec_len, vec_capacity};
 ghost use Rattle.cache_shared.specs.Events.{RefusesStep, TakesNothing};
-ghost use Rattle.cache_shared.specs.Looked.{HeldAtSomeMoment, Moves, Owes, WereMoved, WereOut, WereUntaken};
+ghost use Rattle.cache_shared.specs.Looked.{HeldAtSomeMoment, MovesNotes, Owes, WereMoved};
 ghost use Rattle.cache_shared.specs.Seats.{Counts, SameReceipts};
-ghost use Rattle.cache_shared.specs.Taken.{MovesAll, MovesLoads, MovesNotesOf, MovesReplies, TakesTurn};
+ghost use Rattle.cache_shared.specs.Taken.{MovesAll, MovesNotesOf, TakesInputWhole};
 ghost use Rattle.cache_spaces.specs.Calls.{Refuses};
 
 use crate::booked::BookedService;
 use crate::seat::{Seat, Seating};
 use crate::shareable::Shareable;
-use audit_model::{Bytes, Closing, Conn, Input, LoadId, Note, ServiceError};
-use cache_spaces::{Output, Refusal};
+use audit_model::{Conn, Input, Note, ServiceError};
+use cache_spaces::{Output, Owed, Refusal};
 use std::alloc::Global;
-
-/// What a connection is owed, all moved out in one hold of the lock.
-#[derive(Drop)]
-pub struct Owed {
-    /// The replies of the connection that were not taken; `None` if there was not enough memory for a copy: the replies then come when
-    /// replies are next taken.
-    pub replies: Option<Vec<u8>>,
-    /// The loads of the namespace of the connection that had gone out and were not taken, if they were requested.
-    pub loads: Option<Vec<(LoadId, Bytes)>>,
-    /// Why the connection is closed, if it is.
-    pub closing: Option<Closing>,
-    /// Whether a `LOAD` of the connection waits for its load.
-    pub waits: bool,
-}
 
 /// The result of a turn.
 #[derive(Drop)]
@@ -50,8 +36,8 @@ impl<L: Seating, C: Shareable> BookedService<L, C> {
     ) -> Result<Turn, Refusal>
         ensures counted { IfOk result (λ turn. Counts C.KEEPS input turn.output seat.old.count
             seat.new.count seat.old.receipts.items seat.new.receipts.items) }
-        ensures taken { IfOk result (λ turn. TakesTurn C.spaces C.untaken C.untold self.old.core
-            self.new.core conn input turn notes.old.items notes.new.items) }
+        ensures taken { IfOk result (λ turn. TakesInputWhole C.spaces C.untaken C.untold
+            self.old.core self.new.core conn input turn notes.old.items notes.new.items) }
         ensures owed { IfOk result
             (λ turn. Owes L.configs C.spaces C.untaken conn wants_loads turn.owed) }
         ensures refused { IfErr result (λ refusal. RefusesStep input refusal.error seat.old.count
@@ -83,44 +69,14 @@ impl<L: Seating, C: Shareable> BookedService<L, C> {
     {
         // Notes that are not taken for lack of memory stay.
         let _ = self.take_notices(conn.namespace, notes);
-        let loads = self.take_wanted(conn.namespace, wants_loads);
-        let replies = self.take_replies(conn);
-        Owed {
-            replies,
-            loads,
-            closing: self.core.closed(conn).unwrap_or(None),
-            waits: self.core.waiting(conn).unwrap_or(false),
-        }
-    }
-
-    /// Returns the loads of a namespace that went out and were not taken, moved out, if they are requested and there is such a namespace.
-    fn take_wanted(&mut self, namespace: u64, wants_loads: bool) -> Option<Vec<(LoadId, Bytes)>>
-        ensures all { MatchOption result (self.new.core ≡ self.old.core)
-            (λ loads. MovesLoads C.spaces C.untaken C.untold self.old.core self.new.core namespace
-            loads.items) }
-        ensures taken { IfSome result (λ loads. WereOut L.configs C.spaces namespace loads.items) }
-        ensures unwanted { wants_loads ≡ false → result ≡ None }
-    {
-        if !wants_loads {
-            return None;
-        }
-        match self.take_loads(namespace) {
-            Ok(loads) => Some(loads),
-            Err(_) => None,
-        }
-    }
-
-    /// Returns the replies of a connection that were not taken, moved out; `None` if it is unknown, or if there is not enough memory.
-    fn take_replies(&mut self, conn: Conn) -> Option<Vec<u8>>
-        ensures all { MatchOption result (self.new.core ≡ self.old.core)
-            (λ text. MovesReplies C.spaces C.untaken C.untold self.old.core self.new.core conn
-            text.items) }
-        ensures taken { IfSome result
-            (λ text. WereUntaken L.configs C.spaces C.untaken conn text.items) }
-    {
-        match self.take_output(conn) {
-            Ok(text) => Some(text),
-            Err(_) => None,
+        match self.core.owed(conn, wants_loads) {
+            Ok(owed) => owed,
+            Err(_) => Owed {
+                replies: None,
+                loads: None,
+                closing: None,
+                waits: false,
+            },
         }
     }
 
@@ -132,8 +88,8 @@ impl<L: Seating, C: Shareable> BookedService<L, C> {
         namespace: u64,
         notes: &mut Vec<Note>,
     ) -> Result<(), ServiceError>
-        ensures moved { Moves notes.old.items notes.new.items (C.untold self.old.core namespace)
-            (C.untold self.new.core namespace) }
+        ensures moved { MovesNotes notes.old.items notes.new.items
+            (C.untold self.old.core namespace) (C.untold self.new.core namespace) }
         ensures others { MovesNotesOf C.spaces C.untaken C.untold self.old.core self.new.core
             namespace }
         ensures all { OnOk result ((C.untold self.new.core namespace ≡ [])

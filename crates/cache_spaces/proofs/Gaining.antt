@@ -40,7 +40,7 @@ use Rattle.audit_model.specs.declared.event.Instant.{Instant}
 use Rattle.audit_model.specs.declared.transcript.Step.{Step}
 use Rattle.cache_core.specs.State.{at_number}
 use Rattle.cache_core.proofs.connections.Getting.{at-mapped, at-place, found-at, map-same}
-use Rattle.cache_spaces.specs.Services.{AreNew, blank_tape}
+use Rattle.cache_spaces.specs.Services.{AreNewSpaces, blank_tape}
 use Rattle.cache_spaces.specs.declared.cursors.Cursors.{Cursors}
 use Rattle.cache_spaces.proofs.Reaching.{asked-is, event_of}
 use Rattle.audit_model.specs.declared.event.Event.TheVariants as event
@@ -260,7 +260,7 @@ same-none f g [] (y ∷ ys) same fs gs = absurd (omega arith)
 same-none f g (x ∷ xs) [] same fs gs = absurd (omega arith)
 same-none f g (x ∷ xs) (y ∷ ys) same fs gs = rw (fs zero x refl, gs zero y refl, same-none f g xs ys (omega arith) (λ k z at. fs (suc k) z at) (λ k z at. gs (suc k) z at))
 
-pub start-have : (configs : List Config) (generator : List ℕ) (moment : Instant) (spaces : List (Space Taped)) (read : List Cursors) (count : ℕ) → AreNew kept_by (Some (blank_tape moment)) spaces configs generator moment.nanos → AreAtStart read count
+pub start-have : (configs : List Config) (generator : List ℕ) (moment : Instant) (spaces : List (Space Taped)) (read : List Cursors) (count : ℕ) → AreNewSpaces kept_by (Some (blank_tape moment)) spaces configs generator moment.nanos → AreAtStart read count
     → length read ≡ length spaces → HaveCursors spaces read
 start-have configs generator moment spaces read count new start same = same-none cursor_count opened_count read spaces same (λ k c at. ap length (start.none k c at).0) (λ k space at.
     let lt = slice_get_within spaces k space at in

@@ -39,7 +39,7 @@ use Rattle.cache_spaces.proofs.Throughout.{keys-one-more, order-at-end-more, so-
 use Rattle.cache_spaces.specs.Calls.{At, Performs, namespace_of}
 use Rattle.cache_spaces.specs.Journals.{IsJournalOf, IsSoOfEach, LeadsSo, journals_of, kept_by}
 use Rattle.cache_spaces.specs.Played.{ArePlayed, HasPlayed, HavePlayed, Plays, WerePlayed, journal_of}
-use Rattle.cache_spaces.specs.Services.{is_served, AreNew, blank_tape, IsNewNamespace, fork_after, stream_after_forks}
+use Rattle.cache_spaces.specs.Services.{is_served, AreNewSpaces, blank_tape, IsNewNamespace, fork_after, stream_after_forks}
 use Rattle.cache_spaces.specs.Spaces.{HasItsParts, Space, config_of, part_in, recency_of}
 use Rattle.cache_spaces.specs.Throughout.{HasExactKeys, HaveKeysFrom, are_bounded_from, are_timely_from, are_timely_in, is_bounded_throughout, is_timely_throughout, order_at_end}
 
@@ -54,7 +54,7 @@ mapped f (x ∷ xs) (suc k) y e = mapped f xs k y e
 -- ---- the beginning
 
 pub played-none : (configs : List Config) (generator : List ℕ) (moment : Instant) (spaces : List (Space Taped))
-    → AreNew kept_by (Some (blank_tape moment)) spaces configs generator moment.nanos → HavePlayed configs moment [] spaces
+    → AreNewSpaces kept_by (Some (blank_tape moment)) spaces configs generator moment.nanos → HavePlayed configs moment [] spaces
 played-none configs generator moment spaces new = record {
   count = new.count;
   each = λ k config space c s.
@@ -251,7 +251,7 @@ played-step configs moment inputs n i old new r lt at played taken same = subst 
 
 -- ---- journals
 
-pub were-none : (configs : List Config) (generator : List ℕ) (moment : Instant) (spaces : List (Space Taped)) → AreNew kept_by (Some (blank_tape moment)) spaces configs generator moment.nanos → WerePlayed spaces
+pub were-none : (configs : List Config) (generator : List ℕ) (moment : Instant) (spaces : List (Space Taped)) → AreNewSpaces kept_by (Some (blank_tape moment)) spaces configs generator moment.nanos → WerePlayed spaces
 were-none configs generator moment spaces new = record { configs = configs; moment = moment; inputs = []; played = played-none configs generator moment spaces new }
 
 -- the journals go on
@@ -356,7 +356,7 @@ stream_from generator = stream_of (steps_u64_high plus_plus) generator
 
 module _ {T : Type 0} (tape : T → Option Taped) (blank : Option Taped) where
   -- none yet
-  pub new-none : (spaces : List (Space T)) (generator : List ℕ) (made : ℕ) → spaces ≡ [] → AreNew tape blank spaces [] generator made
+  pub new-none : (spaces : List (Space T)) (generator : List ℕ) (made : ℕ) → spaces ≡ [] → AreNewSpaces tape blank spaces [] generator made
   new-none spaces generator made none = record { count = ap length none; each = λ k config space at_c at_s. absent at_c }
 
   -- the same number and generator
@@ -365,9 +365,9 @@ module _ {T : Type 0} (tape : T → Option Taped) (blank : Option Taped) where
 
   -- one namespace more
   pub new-more : (spaces more : List (Space T)) (configs : List Config) (generator : List ℕ) (made i : ℕ) (space : Space T) (d : Config) → i < length configs → length spaces ≡ i
-      → AreNew tape blank spaces (take i configs) generator made → IsNewNamespace tape blank space i (get_or configs i d) (fork_after i generator) made → more ≡ spaces ++ space ∷ [] → AreNew tape blank more (take (i + 1) configs) generator made
+      → AreNewSpaces tape blank spaces (take i configs) generator made → IsNewNamespace tape blank space i (get_or configs i d) (fork_after i generator) made → more ≡ spaces ++ space ∷ [] → AreNewSpaces tape blank more (take (i + 1) configs) generator made
   new-more spaces more configs generator made i space d lt number new added last =
-      subst (λ l. AreNew tape blank l (take (i + 1) configs) generator made) (sym last) (subst (λ l. AreNew tape blank (spaces ++ space ∷ []) l generator made) (sym one-more) (record {
+      subst (λ l. AreNewSpaces tape blank l (take (i + 1) configs) generator made) (sym last) (subst (λ l. AreNewSpaces tape blank (spaces ++ space ∷ []) l generator made) (sym one-more) (record {
         count = length-append spaces (space ∷ []) ∙ ap (λ n. n + 1) new.count ∙ sym (length-append (take i configs) (get_or configs i d ∷ []));
         each = λ k c s at_c at_s.
             each-more (λ k s c. IsNewNamespace tape blank s k c (fork_after k generator) made) spaces (take i configs) space (get_or configs i d) new.count (λ j s c at_s at_c. new.each j c s at_c at_s)

@@ -29,10 +29,12 @@ use Rattle.cache_core.specs.Settling.{answering, giving_up}
 use Rattle.cache_core.specs.Turned.{feeding}
 use Rattle.cache_spaces.proofs.Journaling.{mapped}
 use Rattle.cache_spaces.proofs.Placing.{at-it, at-length, at-others, put-at}
+use Rattle.cache_core.specs.Owing.{GivesOwed, GivesWanted}
+use Rattle.cache_core.specs.declared.owing.Owed.{Owed}
 use Rattle.cache_spaces.specs.Calls.{At, InSpace, RefusedFor, Refuses, TakesLoads, TakesOutput, ServesEvent, Settled, Performs, RefusedInput, is_held_for, namespace_of}
 use Rattle.cache_spaces.specs.Journals.{LeadsSo, record_count, IsJournal, IsOneFurther, IsReached, IsWhereItWas}
-use Rattle.cache_spaces.specs.Services.{AreNew}
-use Rattle.cache_spaces.specs.Spaces.{Space, StandsFor, shown, shown_tape, config_of, part_in, shown_of}
+use Rattle.cache_spaces.specs.Services.{AreNewSpaces}
+use Rattle.cache_spaces.specs.Spaces.{Space, StandsFor, shown_space, shown_tape, config_of, part_in, shown_of}
 use Rattle.audit_model.specs.declared.input.Input.TheVariants as input
 use Rattle.audit_model.specs.declared.input.ServiceError.TheVariants as error
 use Rattle.audit_model.specs.declared.event.Event.TheVariants as event
@@ -50,13 +52,13 @@ module _ {X Y : Type 0} (f : X → Y) where
   refuses-shown xs i e g (inr a) = inr (in-shown xs i g a)
 
 module _ {T : Type 0} (tape : T → Option Taped) where
-  pub stands-shown : (space : Space T) (s : Situation) → StandsFor space s → StandsFor (shown tape space) s
+  pub stands-shown : (space : Space T) (s : Situation) → StandsFor space s → StandsFor (shown_space tape space) s
   stands-shown space s x = record { held = x.held; stands = x.stands; is = x.is }
 
-  pub stands-hidden : (space : Space T) (s : Situation) → StandsFor (shown tape space) s → StandsFor space s
+  pub stands-hidden : (space : Space T) (s : Situation) → StandsFor (shown_space tape space) s → StandsFor space s
   stands-hidden space s x = record { held = x.held; stands = x.stands; is = x.is }
 
-  pub performs-shown : (i : Input) (output : Output) (was is : Space T) → Performs tape i output was is → Performs shown_tape i output (shown tape was) (shown tape is)
+  pub performs-shown : (i : Input) (output : Output) (was is : Space T) → Performs tape i output was is → Performs shown_tape i output (shown_space tape was) (shown_space tape is)
   performs-shown i output was is p = record {
     from = λ s stands.
         let x = p.from s (stands-hidden was s stands) in
@@ -90,10 +92,10 @@ module _ {T : Type 0} (tape : T → Option Taped) where
     };
   }
 
-  pub refused-shown : (i : Input) (e : ServiceError) (was : Space T) → RefusedInput i e was → RefusedInput i e (shown tape was)
+  pub refused-shown : (i : Input) (e : ServiceError) (was : Space T) → RefusedInput i e was → RefusedInput i e (shown_space tape was)
   refused-shown i e was r = record { happened = r.happened; event = r.event; refused = same i r }
     where
-      same : (i : Input) (r : RefusedInput i e was) → RefusedFor (shown tape was) r.happened (is_held_for (shown tape was) i) e
+      same : (i : Input) (r : RefusedInput i e was) → RefusedFor (shown_space tape was) r.happened (is_held_for (shown_space tape was) i) e
       same (input.Open namespace) r = r.refused
       same (input.Close conn) r = r.refused
       same (input.Feed conn piece moment) r = r.refused
@@ -220,6 +222,14 @@ module _ {T : Type 0} where
   still-output was is number (Ok text) t same = still-text was is _ t.rest
   still-output was is number (Err e) t same = subst (IsStill was) (sym same.1) (record { stands = λ s x. x; config = refl; part_of = refl })
 
+  still-wanted : (was is : Space T) (outputs : List (List ℕ)) (loads : Option (List (LoadId × List ℕ))) → GivesWanted (record was { outputs = outputs }) is loads → IsStill was is
+  still-wanted was is outputs None e = still-text was is outputs e
+  still-wanted was is outputs (Some loads) gives = subst (IsStill was) (sym gives.rest) (record { stands = λ s x. record { held = x.held; stands = x.stands; is = x.is }; config = refl; part_of = refl })
+
+  pub still-owed : (was is : Space T) (number : ℕ) (wants : Bool) (r : Result Owed ServiceError) → IfOk r (GivesOwed shown_of was is number wants) → IfErr r (λ e. (e ≡ error.NoConnection) × (is ≡ was)) → IsStill was is
+  still-owed was is number wants (Ok owed) gives same = still-wanted was is _ _ gives.loads
+  still-owed was is number wants (Err e) gives same = subst (IsStill was) (sym same.1) (record { stands = λ s x. x; config = refl; part_of = refl })
+
   -- one that stands for the same was put in the place of another
   pub put-still : (seen xs : List (Space T)) (e : xs ≡ seen) (k : ℕ) (was : Space T) (lt : k < length xs) (here : was ≡ get_or xs k was) (is : Space T) → IsStill was is → IsWhereItWas seen (slice_set xs k is)
   put-still seen xs e k was lt here is still = λ n w. ∥∥₁_map w (reached-still IsStill k seen (slice_set xs k is) n (λ x y s. s) (put-at seen xs e k was lt here IsStill is still))
@@ -231,7 +241,7 @@ module _ {T : Type 0} where
 
 module _ {T : Type 0} (tape : T → Option Taped) where
   -- nothing has come yet
-  pub reached-none : (blank : Option Taped) (configs : List Config) (generator : List ℕ) (moment : Instant) (spaces : List (Space T)) → AreNew tape blank spaces configs generator moment.nanos → IsReached spaces 0
+  pub reached-none : (blank : Option Taped) (configs : List Config) (generator : List ℕ) (moment : Instant) (spaces : List (Space T)) → AreNewSpaces tape blank spaces configs generator moment.nanos → IsReached spaces 0
   reached-none blank configs generator moment spaces new = record {
     journals = empties moment spaces;
     are = record {
@@ -270,33 +280,33 @@ module _ {T : Type 0} (tape : T → Option Taped) where
 
   -- ---- the same namespaces, as they are shown
 
-  pub reached-shown : (spaces : List (Space T)) (n : ℕ) → IsReached spaces n → IsReached (map (shown tape) spaces) n
+  pub reached-shown : (spaces : List (Space T)) (n : ℕ) → IsReached spaces n → IsReached (map (shown_space tape) spaces) n
   reached-shown spaces n w = record {
     journals = w.journals;
     are = record {
-      count = w.are.count ∙ sym (length-map spaces (shown tape));
+      count = w.are.count ∙ sym (length-map spaces (shown_space tape));
       each = λ k space journal s j.
-          let x = mapped (shown tape) spaces k space s in
+          let x = mapped (shown_space tape) spaces k space s in
           let h = w.are.each k x.0 journal x.1 j in
           subst (λ v. IsJournal v journal) x.2
-          (led-journal (shown tape x.0) journal (record { last = h.leads.last; stands = stands-shown tape x.0 h.leads.last h.leads.stands; leads = h.leads.leads }) h.parted);
+          (led-journal (shown_space tape x.0) journal (record { last = h.leads.last; stands = stands-shown tape x.0 h.leads.last h.leads.stands; leads = h.leads.leads }) h.parted);
     };
     count = w.count;
   }
 
-  pub reached-hidden : (spaces : List (Space T)) (n : ℕ) → IsReached (map (shown tape) spaces) n → IsReached spaces n
+  pub reached-hidden : (spaces : List (Space T)) (n : ℕ) → IsReached (map (shown_space tape) spaces) n → IsReached spaces n
   reached-hidden spaces n w = record {
     journals = w.journals;
     are = record {
-      count = w.are.count ∙ length-map spaces (shown tape);
+      count = w.are.count ∙ length-map spaces (shown_space tape);
       each = λ k space journal s j.
-          let h = w.are.each k (shown tape space) journal (at-mapped (shown tape) spaces k space s) j in
+          let h = w.are.each k (shown_space tape space) journal (at-mapped (shown_space tape) spaces k space s) j in
           led-journal space journal (record { last = h.leads.last; stands = stands-hidden tape space h.leads.last h.leads.stands; leads = h.leads.leads }) h.parted;
     };
     count = w.count;
   }
 
-  pub where-shown : (old new : List (Space T)) → IsWhereItWas old new → IsWhereItWas (map (shown tape) old) (map (shown tape) new)
+  pub where-shown : (old new : List (Space T)) → IsWhereItWas old new → IsWhereItWas (map (shown_space tape) old) (map (shown_space tape) new)
   where-shown old new still n w = ∥∥₁_map (still n (∥∥₁_map w (reached-hidden old n))) (reached-shown new n)
 
 -- Calls, and the inputs that they take.

@@ -3,6 +3,7 @@ use Rattle.std.proofs.Common.{◌≡◌, ℕ, Bool, true, false, ◌&&◌, List,
 use Rattle.std.specs.Option.{option_and_then, option_map_or}
 use Rattle.std.proofs.lemmas.Bool.{and_from, and_parts}
 use Rattle.std.proofs.lemmas.Option.{same_Some, none-some}
+use Rattle.audit_laws.proofs.Following.{passed}
 use Rattle.audit_model.specs.Follows.{after_event, after_record, after_records, tasks_in, after_steps, placed_step_in}
 use Rattle.audit_model.specs.Places.{steps_of, due, first_due, left_after}
 use Rattle.audit_model.specs.Situation.{Situation, Connection, connection_in, empty_situation, may_run_in, with_connection}
@@ -139,26 +140,22 @@ held-after-event (event.Feed conn piece moment) s = go (connection_in conn s)
 held-after-event (event.Answer load outcome moment) s = refl
 held-after-event (event.GiveUp load moment) s = refl
 
-if-some : {X : Type 0} (b : Bool) (o : Option X) (x : X) → (if b then o else None) ≡ Some x → o ≡ Some x
-if-some true o x e = e
-if-some false o x e = absurd (none-some x e)
-
 keys-behind-steps : (config : Config) (n : ℕ) (order : Order) (s t : Situation) (tasks : List Task) (steps : List Step)
     → HaveKeys config n order s tasks steps → HasKeys order s.held → after_steps config s tasks steps ≡ Some t → HasKeys (order_behind config n order steps) t.held
 keys-behind-steps config n order s t tasks [] keys has after =
-    subst (λ (x : Situation). HasKeys order x.held) (same_Some s t (if-some (is_empty (due (may_run_in s) tasks)) (Some s) t after)) has
+    subst (λ (x : Situation). HasKeys order x.held) (same_Some s t (passed (is_empty (due (may_run_in s) tasks)) (Some s) t after).rest) has
 keys-behind-steps config n order s t tasks (step ∷ steps) keys has after =
     let now_due = due (may_run_in s) tasks in
     let placed = placed_step_in config s (first_due now_due) step in
     keys-behind-steps config n (order_behind_step config n order step) (after_step config s placed.task step placed.effect) t (left_after now_due) steps keys.1 keys.0
-    (if-some (is_right config placed) _ t after)
+    (passed (is_right config placed) _ t after).rest
 
 keys-behind-record : (config : Config) (n : ℕ) (order : Order) (s t : Situation) (entry : Record)
     → HaveKeys config n order (after_event entry.event s) (tasks_in s entry.event) (steps_of entry) → HasKeys order s.held → after_record config s entry ≡ Some t
     → HasKeys (order_behind config n order (steps_of entry)) t.held
 keys-behind-record config n order s t entry keys has after =
     keys-behind-steps config n order (after_event entry.event s) t (tasks_in s entry.event) (steps_of entry) keys
-    (subst (HasKeys order) (sym (held-after-event entry.event s)) has) (if-some _ _ t after)
+    (subst (HasKeys order) (sym (held-after-event entry.event s)) has) (passed _ _ t after).rest
 
 -- a front of records
 keys-at-end : (config : Config) (n : ℕ) (order : Order) (s t : Situation) (front rest : List Record)

@@ -18,9 +18,11 @@ use Rattle.cache_store.specs.Values.{GivesNote}
 use Rattle.cache_commands.specs.Loads.Keys.{are_in_turn, have_their_keys}
 use Rattle.cache_lines.specs.Tape.Taped.{Taped}
 use Rattle.cache_core.specs.Settling.{Happens}
+use Rattle.cache_core.specs.Owing as owing
 use Rattle.cache_core.specs.State.{situation_with}
-use Rattle.cache_core.specs.Turned.{RefusesBy, Turns, Stays, Turned}
-use Rattle.cache_spaces.specs.Spaces.{Space, notices_of, outgoing_of, place_of, taken_of, untaken_output, was_opened, StandsFor, shown_of}
+use Rattle.cache_core.specs.declared.owing.Owed.{Owed}
+use Rattle.cache_core.specs.Turned.{RefusesBy, ContinuesBy, IsSameNamespace, Turned}
+use Rattle.cache_spaces.specs.Spaces.{Space, untaken_notes, outgoing_of, place_of, taken_of, untaken_output, was_opened, StandsFor, shown_of}
 use Rattle.audit_model.specs.declared.event.Event.TheVariants as event
 use Rattle.audit_model.specs.declared.input.ServiceError.TheVariants as error
 use Rattle.audit_model.specs.declared.input.Input.TheVariants as input
@@ -35,10 +37,6 @@ module _ {X : Type 0} where
     pub at : slice_get old namespace ≡ Some was
     pub set : new ≡ slice_set old namespace is
     pub fact : Fact was is
-
-  -- this is the namespace with this number
-  abbrev pub IsSpace : List X → ℕ → X → Type 0
-  IsSpace spaces namespace space = slice_get spaces namespace ≡ Some space
 
   -- this is true of the namespace with this number
   pub record InSpace (spaces : List X) (namespace : ℕ) (Fact : X → Type 0) : Type 0 where
@@ -58,7 +56,7 @@ module _ {T : Type 0} (tape : T → Option Taped) where
   -- keeps records, the record is on it; otherwise its replies and notes are appended to those that were not taken. Each connection is
   -- closed for the reason that the record gives.
   abbrev pub ServesEvent : Space T → Space T → Event → (is_held : Bool) → Type 0
-  ServesEvent was is happened is_held = Turns shown_of tape was is happened is_held
+  ServesEvent was is happened is_held = ContinuesBy shown_of tape was is happened is_held
 
   -- A connection was opened, with the next number of the namespace, from 1 on.
   abbrev pub OpensNext : Space T → Space T → ℕ → Type 0
@@ -97,7 +95,7 @@ module _ {T : Type 0} where
 
   -- the oldest note is taken, if there is one, and nothing else that can be seen changes
   pub record TakesNotice (was is : Space T) (note : Option Note) : Type 0 where
-    pub taken : TakesFirstNote (notices_of was) (notices_of is) note
+    pub taken : TakesFirstNote (untaken_notes was) (untaken_notes is) note
     pub gives : GivesNote (shown_of was.store) (shown_of is.store)
     pub rest : is ≡ record was { store = is.store }
 
@@ -108,6 +106,11 @@ module _ {T : Type 0} where
     pub rest : is ≡ record was { outgoing = [] }
     pub in_turn : IsTrue (are_in_turn (place_of was) (taken_of was) loads)
     pub keys : IsTrue (have_their_keys was.pending loads)
+
+  -- what a connection that was opened is owed was moved out, and nothing else changes
+  abbrev pub GivesConnectionOwed : Space T → Space T → ℕ → (wants_loads : Bool) → Owed → Type 0
+  GivesConnectionOwed was is number wants_loads owed =
+      IsOpened was number × owing.GivesOwed shown_of was is number wants_loads owed
 
 -- What inputs do to a service.
 
@@ -148,4 +151,4 @@ module _ {T : Type 0} (tape : T → Option Taped) where
   -- this is so from each situation that the namespace stood for
   pub record Performs (i : Input) (output : Output) (was is : Space T) : Type 0 where
     pub from : (s : Situation) → StandsFor was s → PerformsFrom i output was is s
-    pub stays : Stays shown_of was is
+    pub stays : IsSameNamespace shown_of was is

@@ -10,8 +10,8 @@ use Rattle.audit_model.specs.declared.config.Config.{Config}
 use Rattle.audit_model.specs.declared.event.Instant.{Instant}
 use Rattle.cache_lines.specs.Tape.Taped.{Taped}
 use Rattle.cache_lines.specs.declared.tape.bare.Bare.{Bare}
-use Rattle.cache_core.specs.State.{IsInOrder, SuitsItself}
-use Rattle.cache_spaces.specs.Spaces.{HasItsParts, Space, StandsFor, config_of, generator_of, identifiers_of, made_of, notices_of, part_in, recency_of, shown_of}
+use Rattle.cache_core.specs.State.{IsBetweenEvents, SuitsItself}
+use Rattle.cache_spaces.specs.Spaces.{HasItsParts, Space, StandsFor, config_of, generator_of, identifiers_of, made_of, untaken_notes, part_in, recency_of, shown_of}
 use Rattle.cache_spaces.specs.declared.service.Fed.{Fed}
 use Rattle.cache_spaces.specs.declared.service.Fed.TheVariants.{All, Held}
 
@@ -49,7 +49,7 @@ module _ {T : Type 0} (tape : T → Option Taped) (blank : Option Taped) where
     pub served : IsTrue (is_served config)
     pub forked : generator_of space ≡ generator
     pub unregistered : (part : ℕ) (id : List ℕ) → (identifiers_of space).registered part id ≡ false
-    pub notices : notices_of space ≡ []
+    pub notices : untaken_notes space ≡ []
     pub state_is : space ≡ record {
       store = space.store;
       tape = space.tape;
@@ -77,7 +77,7 @@ fork_after n generator =
 
 module _ {T : Type 0} (tape : T → Option Taped) (blank : Option Taped) where
   -- each namespace is new, with its configuration and the next fork of the generator
-  pub record AreNew (spaces : List (Space T)) (configs : List Config) (generator : List ℕ)
+  pub record AreNewSpaces (spaces : List (Space T)) (configs : List Config) (generator : List ℕ)
       (made : ℕ) : Type 0 where
     pub count : length spaces ≡ length configs
     pub each : (namespace : ℕ) (config : Config) (space : Space T)
@@ -102,8 +102,8 @@ BareSpace = Space Bare
 -- What is true of every namespace of a service.
 
 -- it stands for a situation, it is in order, and its parts agree with each other
-pub record IsSound {T : Type 0} (tape : T → Option Taped) (space : Space T) : Type 0 where
+pub record IsSoundSpace {T : Type 0} (tape : T → Option Taped) (space : Space T) : Type 0 where
   pub some : Situation
   pub stands : StandsFor space some
-  pub order : IsInOrder shown_of tape space
+  pub order : IsBetweenEvents shown_of tape space
   pub suits : SuitsItself shown_of space

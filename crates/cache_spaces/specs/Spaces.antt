@@ -5,7 +5,7 @@ use Rattle.rand_core.specs.Steps.{stream_of, steps_u64_high}
 use Rattle.rand_xoshiro.specs.Xoshiro256.{plus_plus}
 use Rattle.audit_model.specs.Belongs.{Known}
 use Rattle.audit_model.specs.History.{part_count}
-use Rattle.audit_model.specs.Situation.{HeldValue, Situation}
+use Rattle.audit_model.specs.Situation.{Situation}
 use Rattle.audit_model.specs.declared.command.Closing.{Closing}
 use Rattle.audit_model.specs.declared.config.Config.{Config}
 use Rattle.audit_model.specs.declared.input.LoadId.{LoadId}
@@ -13,7 +13,7 @@ use Rattle.audit_model.specs.declared.transcript.Note.{Note}
 use Rattle.cache_store.specs.Values.{Values}
 use Rattle.cache_lines.specs.Drawing.{Identifiers, identifiers_in}
 use Rattle.cache_lines.specs.Tape.Taped.{Taped}
-use Rattle.cache_core.specs.State.{State}
+use Rattle.cache_core.specs.State.{NamespaceState}
 use Rattle.cache_front.specs.Data.{StoreData, data_of, parted_by}
 use Rattle.cache_front.specs.State.{hash_by}
 use Rattle.cache_front.specs.View.{view}
@@ -37,7 +37,7 @@ shown_of d = view (parted_by secret_hash (data_of (stream_of (steps_u64_high plu
 
 -- a namespace of a service, over such a tape
 abbrev pub Space : Type 0 → Type 0
-Space T = State (StoreData (List ℕ) (WordBuilder KeyedHasher)) T
+Space T = NamespaceState (StoreData (List ℕ) (WordBuilder KeyedHasher)) T
 
 module _ {T : Type 0} where
   abbrev pub config_of : Space T → Config
@@ -72,8 +72,8 @@ module _ {T : Type 0} where
   place_of space = space.namespace
 
   -- the notes that were reported and not taken
-  abbrev pub notices_of : Space T → List Note
-  notices_of space = (shown_of space.store).untaken
+  abbrev pub untaken_notes : Space T → List Note
+  untaken_notes space = (shown_of space.store).untaken
 
   -- the reply bytes of a connection that were not taken
   abbrev pub untaken_output : Space T → ℕ → List ℕ
@@ -85,7 +85,7 @@ module _ {T : Type 0} where
 
   -- a connection of it was opened
   abbrev pub was_opened : Space T → ℕ → Bool
-  was_opened space number = state.was_opened space number
+  was_opened space number = state.was_opened_in space number
 
   -- a `LOAD` of a connection waits
   abbrev pub is_waiting_for : Space T → ℕ → Bool
@@ -95,21 +95,17 @@ module _ {T : Type 0} where
   abbrev pub recency_of : Space T → Bool → List (List ℕ) → Type 0
   recency_of space = (shown_of space.store).Used
 
-  -- its store holds these values
-  abbrev pub Holds : Space T → List HeldValue → Type 0
-  Holds space = (shown_of space.store).Stands
-
   -- the namespace stands for this situation
   abbrev pub StandsFor : Space T → Situation → Type 0
-  StandsFor space s = state.StandsFor shown_of space s
+  StandsFor space s = state.StateStandsFor shown_of space s
 
   -- what is known of its connections and loads
   abbrev pub known_of : Space T → Known
-  known_of space = state.known_of shown_of space
+  known_of space = state.known_of_state shown_of space
 
 -- the same namespace, with what its tape keeps in place of the tape, so that it looks the same whatever its tape is
-abbrev pub shown : {T : Type 0} → (T → Option Taped) → Space T → Space (Option Taped)
-shown tape space = record {
+abbrev pub shown_space : {T : Type 0} → (T → Option Taped) → Space T → Space (Option Taped)
+shown_space tape space = record {
   store = space.store;
   tape = tape space.tape;
   latest = space.latest;

@@ -10,7 +10,7 @@ ghost use Rattle.cache_spaces.specs.Cursors.{taken_through, lent_replies, notes_
 ghost use Rattle.cache_spaces.specs.Journals.{IsJournalOf, IsSoOfEach, journals_of, kept_by};
 ghost use Rattle.cache_spaces.specs.Played.{WerePlayed};
 ghost use Rattle.cache_spaces.specs.Recorded.{AreAtStart, GainsRecord, IsUnread, KeepsTaken, LendsNote, LendsReplies, TakesNote, TakesReplies, cursor_in, records_in, untaken_in, untold_in};
-ghost use Rattle.cache_spaces.specs.Services.{AreNew, are_taken, blank_tape};
+ghost use Rattle.cache_spaces.specs.Services.{AreNewSpaces, are_taken, blank_tape};
 
 use crate::cursors::Cursors;
 use crate::replies::{LentReplies, records_from};
@@ -67,7 +67,7 @@ impl RecordedService {
         generator: Xoshiro256PlusPlus,
         moment: Instant,
     ) -> Result<RecordedService, ServiceError>
-        ensures made { IfOk result (λ recorded. AreNew kept_by (Some (blank_tape moment))
+        ensures made { IfOk result (λ recorded. AreNewSpaces kept_by (Some (blank_tape moment))
             recorded.spaces configs.now generator moment.nanos) }
         ensures unread { IfOk result IsUnread }
         ensures moment { IsErrOf result ServiceError.Moment ↔ (2 ^ 63 ≤ moment.nanos) }

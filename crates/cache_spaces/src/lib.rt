@@ -12,6 +12,7 @@ mod tapes;
 mod told;
 
 pub use audit_laws::Output;
+pub use cache_core::Owed;
 pub use journals::RecordedService;
 pub use playing::play;
 pub use replies::LentReplies;

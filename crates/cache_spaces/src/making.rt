@@ -1,7 +1,7 @@
 //! Creating the namespaces of a service.
 ghost use Rattle.std.specs.Prelude.{◌≡◌, ◌<◌, ◌^◌, IfOk, IsTrue};
 ghost use Rattle.std.specs.List.{list_all};
-ghost use Rattle.cache_spaces.specs.Services.{is_served, AreNew, IsNewNamespace, are_taken};
+ghost use Rattle.cache_spaces.specs.Services.{is_served, AreNewSpaces, IsNewNamespace, are_taken};
 
 use crate::service::SpaceStore;
 use crate::tapes::NewTape;
@@ -48,8 +48,8 @@ pub fn new_spaces<T: NewTape>(
 ) -> Result<Vec<Namespace<SpaceStore, T>>, AllocError>
     requires configs { IsTrue (list_all is_served configs.now) }
     requires moment { made.nanos < 2 ^ 63 }
-    ensures { IfOk result (λ spaces. AreNew T.Tape.view (T.blank made) spaces.items configs.now
-        generator made.nanos) }
+    ensures { IfOk result (λ spaces. AreNewSpaces T.Tape.view (T.blank made) spaces.items
+        configs.now generator made.nanos) }
 {
     let mut generator = generator;
     let mut spaces = Vec::with_capacity(alloc, configs.len())?;

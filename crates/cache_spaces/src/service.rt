@@ -4,16 +4,16 @@ ghost use Rattle.audit_model.specs.Belongs.{refusal_of};
 ghost use Rattle.audit_model.specs.declared.event.Event.TheVariants as event;
 ghost use Rattle.cache_core.specs.Settling.{answering, giving_up};
 ghost use Rattle.cache_core.specs.Turned.{feeding};
-ghost use Rattle.cache_spaces.specs.Calls.{At, InSpace, IsUnknown, OpensNext, RefusedFor, Refuses, ServesEvent, Settled, TakesLoads, TakesNotice, TakesOutput, IsOpened, IsSpace, is_held_in};
+ghost use Rattle.cache_spaces.specs.Calls.{At, GivesConnectionOwed, InSpace, IsUnknown, OpensNext, RefusedFor, Refuses, ServesEvent, Settled, TakesLoads, TakesNotice, TakesOutput, IsOpened, is_held_in};
 ghost use Rattle.cache_spaces.specs.Journals.{IsReached, IsWhereItWas};
-ghost use Rattle.cache_spaces.specs.Services.{AreNew, are_taken, feed_is_held, IsSound};
+ghost use Rattle.cache_spaces.specs.Services.{AreNewSpaces, are_taken, feed_is_held, IsSoundSpace};
 ghost use Rattle.cache_spaces.specs.Spaces.{Space, closing_of, config_of, is_waiting_for, known_of};
 ghost use Rattle.std.specs.List.{slice_get};
 
 use crate::making::{are_taken, new_spaces};
 use crate::tapes::NewTape;
 use audit_model::{Bytes, Closing, Config, Conn, Instant, LoadId, Note, Outcome, ServiceError};
-use cache_core::Namespace;
+use cache_core::{Namespace, Owed};
 use cache_front::{FrontStore, KeyedHasher};
 use cache_lines::{Bare, Tape};
 use rand_xoshiro::Xoshiro256PlusPlus;
@@ -96,8 +96,8 @@ impl<T: NewTape> Core<T> {
         generator: Xoshiro256PlusPlus,
         moment: Instant,
     ) -> Result<Core<T>, ServiceError>
-        ensures made { IfOk result
-            (λ core. AreNew T.Tape.view (T.blank moment) core configs.now generator moment.nanos) }
+        ensures made { IfOk result (λ core. AreNewSpaces T.Tape.view (T.blank moment) core
+            configs.now generator moment.nanos) }
         // no input has come: journals without records lead here
         ensures reached { IfOk result (λ core. ∥ IsReached core 0 ∥₁) }
         ensures moment { IsErrOf result ServiceError.Moment ↔ (2 ^ 63 ≤ moment.nanos) }
@@ -238,6 +238,29 @@ impl<T: Tape> Core<T> {
         space.give_up(load.number, moment)
     }
 
+    /// Returns what a connection is owed, moved out: its replies since they were last taken, even after it closed; the loads of its namespace
+    /// that went out and were not taken, if they are requested; why it is closed; and whether its first line is a `LOAD` that waits. The
+    /// call allocates nothing, and its replies are always `Some`. Returns `NoNamespace` if there is no such namespace, and `NoConnection` if
+    /// the connection was never opened.
+    /// ```
+    /// service.feed(conn, piece, moment)?;
+    /// let owed = service.owed(conn, true)?;
+    /// ```
+    pub fn owed(&mut self, conn: Conn, wants_loads: bool) -> Result<Owed, ServiceError>
+        ensures given { IfOk result (λ owed. At self.old self.new conn.namespace
+            (λ was is. GivesConnectionOwed was is conn.number wants_loads owed)) }
+        ensures refused { IfErr result
+            (λ e. Refuses self.old conn.namespace e (λ was. IsUnknown was conn.number e)) }
+        ensures unchanged { OnErr result (self.new ≡ self.old) }
+        // not an event: as many records lead here as before
+        ensures reached { IsWhereItWas self.old self.new }
+    {
+        let Some(space) = self.spaces.get_mut(conn.namespace as usize) else {
+            return Err(ServiceError::NoNamespace);
+        };
+        space.owed(conn.number, wants_loads)
+    }
+
     /// Returns the reply bytes of a connection since they were last taken, with their line ends, moved out, even after it closed. The call
     /// allocates nothing. Returns `NoNamespace` if there is no such namespace, and `NoConnection` if the connection was never opened.
     pub fn take_output(&mut self, conn: Conn) -> Result<Vec<u8>, ServiceError>
@@ -337,7 +360,7 @@ impl<T: Tape> Core<T> {
     /// with, its connections and loads are in order, and its store, connections and loads agree with each other.
     pub fn sound(&self, namespace: u64)
         ensures { (space : Space T) → slice_get self.now namespace ≡ Some space
-            → IsSound T.view space }
+            → IsSoundSpace T.view space }
     {
         match self.space(namespace) {
             Ok(space) => space.sound(),
@@ -347,7 +370,7 @@ impl<T: Tape> Core<T> {
 
     /// The namespace with this number, or `NoNamespace`.
     pub(crate) fn space(&self, namespace: u64) -> Result<&Namespace<SpaceStore, T>, ServiceError>
-        ensures space { IfOk result (λ space. IsSpace self.now namespace space.now) }
+        ensures space { IfOk result (λ space. slice_get self.now namespace ≡ Some space.now) }
         ensures refused { IfErr result
             (λ e. (e ≡ ServiceError.NoNamespace) × (length self.now ≤ namespace)) }
     {

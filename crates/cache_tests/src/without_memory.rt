@@ -4,8 +4,8 @@
 //! `tools/refuse_allocations.py --between` refuses whatever is asked for from the one to the other. Otherwise these are requests as any.
 use crate::playing::{Played, new_recorded, new_service, play_on};
 use crate::rows::{Asked, Case, FIRST, FIRST_LOAD, PLAIN, Row, SECOND, no_row_wrong};
-use audit_model::{Closing, Note, RemovalCause, ServiceError};
-use cache_spaces::RecordedService;
+use audit_model::{Closing, Conn, Note, RemovalCause, ServiceError};
+use cache_spaces::{Owed, RecordedService, Service};
 use std::alloc::Global;
 
 const BEGINS: usize = 20_011;
@@ -132,4 +132,92 @@ fn recorded_lends(alloc: Global) -> bool {
 #[test]
 fn takings_that_lend(rt: HostRuntime) {
     assert!(rt; recorded_lends(rt.alloc()));
+}
+
+/// What a connection is owed, as far as it is compared: its replies, how many loads, and whether it waits.
+struct Due<'a> {
+    replies: &'a [u8],
+    loads: Option<usize>,
+    waits: bool,
+}
+
+fn is_due(owed: &Owed, due: &Due<'_>) -> bool {
+    let are_replies = match &owed.replies {
+        Some(replies) => replies.as_slice() == due.replies,
+        None => false,
+    };
+    let are_loads = match &owed.loads {
+        Some(loads) => due.loads == Some(loads.len()),
+        None => due.loads == None,
+    };
+    are_replies && are_loads && owed.waits == due.waits && owed.closing == None
+}
+
+fn owes(service: &mut Service, conn: Conn, wants_loads: bool, due: &Due<'_>) -> bool {
+    match service.owed(conn, wants_loads) {
+        Ok(owed) => is_due(&owed, due),
+        Err(_) => false,
+    }
+}
+
+/// What is due to one that replied to four lines.
+const REPLIES_DUE: Due<'static> = Due {
+    replies: b"OK\nOK\nOK\nOK\n",
+    loads: None,
+    waits: false,
+};
+
+/// What is due to one whose load went out, which it waits for.
+const LOAD_DUE: Due<'static> = Due {
+    replies: b"",
+    loads: Some(1),
+    waits: true,
+};
+
+/// What is due to it once that was taken.
+const NOTHING_DUE: Due<'static> = Due {
+    replies: b"",
+    loads: Some(0),
+    waits: true,
+};
+
+/// Whether the connections are owed what came so far, once.
+fn owes_all(service: &mut Service) -> bool {
+    owes(service, FIRST, false, &REPLIES_DUE)
+        && owes(service, SECOND, true, &LOAD_DUE)
+        && owes(service, SECOND, true, &NOTHING_DUE)
+}
+
+/// The error of one that was never opened.
+fn owes_unknown(service: &mut Service, namespace: u64) -> Option<ServiceError> {
+    let conn = Conn {
+        namespace,
+        number: 3,
+    };
+    service.owed(conn, true).err()
+}
+
+/// The same with every request refused.
+fn owes_without(alloc: Global, service: &mut Service) -> bool {
+    mark(alloc, BEGINS);
+    let is_owed = owes_all(service);
+    mark(alloc, ENDS);
+    is_owed
+        && owes_unknown(service, 0) == Some(ServiceError::NoConnection)
+        && owes_unknown(service, 1) == Some(ServiceError::NoNamespace)
+}
+
+fn service_owes(alloc: Global) -> bool {
+    match new_service(alloc, &[PLAIN], 0) {
+        Ok(service) => match play_on(alloc, service, case_of(BEFORE)) {
+            Ok(mut service) => owes_without(alloc, &mut service),
+            Err(_) => false,
+        },
+        Err(_) => false,
+    }
+}
+
+#[test]
+fn what_is_owed(rt: HostRuntime) {
+    assert!(rt; service_owes(rt.alloc()));
 }

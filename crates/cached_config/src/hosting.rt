@@ -122,8 +122,20 @@ pub fn idle_in(table: &Table) -> Result<Option<u64>, &'static str> {
     )
 }
 
+/// Returns after how many milliseconds a table says that a load is given up, or `None` without the key. Returns what is wrong if the value is
+/// not allowed.
+pub fn load_limit_in(table: &Table) -> Result<Option<u64>, &'static str> {
+    number_at(
+        table,
+        "load_ms",
+        1,
+        86_400_000,
+        "is a number of milliseconds from 1 to 86400000",
+    )
+}
+
 /// The keys that do not go with the memcache protocol.
-pub const OF_LINES: [&str; 8] = [
+pub const OF_LINES: [&str; 9] = [
     "parts",
     "weight",
     "live_ms",
@@ -132,6 +144,7 @@ pub const OF_LINES: [&str; 8] = [
     "loads",
     "loops",
     "notices",
+    "load_ms",
 ];
 
 /// The key that goes with the memcache protocol alone.

@@ -42,6 +42,8 @@ pub struct Hosting {
     pub idle: Option<u64>,
     /// What a notice of the namespace has.
     pub notices: Notices,
+    /// After how many milliseconds a load is given up, or `None` without a limit.
+    pub load_ms: Option<u64>,
     pub protocol: Protocol,
 }
 

@@ -9,7 +9,7 @@ ghost use Rattle.cached_config.specs.Said.{IsConfigOf, Says, SaysAll, SaysLimits
 use crate::good::{MOST, are_good};
 use crate::hosting::{
     OF_LINES, OF_MEMCACHE, bind_in, connections_in, idle_in, item_capacity_in, item_policy_in,
-    item_size_in, loops_in, memcache_in, metrics_in, mode_in, notices_in,
+    item_size_in, load_limit_in, loops_in, memcache_in, metrics_in, mode_in, notices_in,
 };
 use crate::listed::{
     ConfigError, ConfigFault, ConfigReport, HostedNamespace, Hosting, ItemLimits, Listed, Notices,
@@ -27,7 +27,7 @@ use std::fmt::Display;
 use toml::{Table, Value};
 
 /// The keys of a namespace's table. All programs know the first `COMMON` of them.
-const KEYS: [&str; 18] = [
+const KEYS: [&str; 19] = [
     "name",
     "port",
     "capacity",
@@ -44,6 +44,7 @@ const KEYS: [&str; 18] = [
     "max_connections",
     "idle_s",
     "notices",
+    "load_ms",
     "protocol",
     "item_size",
 ];
@@ -109,11 +110,11 @@ pub fn read_config(alloc: Global, text: &str) -> Result<Vec<HostedNamespace>, Co
 /// Like `read_config`, for `bivrangd`. In addition a namespace may have `bind` (an IP address, by default 127.0.0.1, or the path of a Unix
 /// socket, of at most 107 bytes), `mode` (the permissions of that socket, by default `"660"`), `loops` (1 to 64), `max_connections` (1 to
 /// 1,000,000, by default 10,000), `idle_s` (1 to 86,400,000; by default idle connections stay), `notices` (`"values"`, the default,
-/// `"keys"` or `"off"`) and `protocol` (`"lines"`, the default, or `"memcache"`), and the file may have a table `metrics` with a `port`.
+/// `"keys"` or `"off"`), `load_ms` (1 to 86,400,000; by default no load is given up for its time) and `protocol` (`"lines"`, the default, or `"memcache"`), and the file may have a table `metrics` with a `port`.
 ///
 /// One that speaks the memcache protocol has a `capacity`, in bytes, and optionally `policy` (by default `"lru"`) and `item_size` (1 to
-/// 134,217,728 bytes, by default 1,048,576), and none of `parts`, `weight`, `live_ms`, `idle_ms`, `deadlines`, `loads`, `loops` and
-/// `notices`.
+/// 134,217,728 bytes, by default 1,048,576), and none of `parts`, `weight`, `live_ms`, `idle_ms`, `deadlines`, `loads`, `loops`,
+/// `notices` and `load_ms`.
 pub fn read_hosted(alloc: Global, text: &str) -> Result<Hosted, ConfigError>
     ensures ok { IfOk result (λ hosted. IsTrue (are_good hosted.spaces.items)) }
     ensures said { IfOk result (λ hosted. IsConfigOf text.now hosted.spaces.items) }
@@ -409,6 +410,7 @@ impl Reader<'_> {
         let connections = self.said(at, "max_connections", connections_in(at.table), 1)?;
         let idle = self.said(at, "idle_s", idle_in(at.table), None)?;
         let notices = self.said(at, "notices", notices_in(at.table), Notices::Values)?;
+        let load_ms = self.said(at, "load_ms", load_limit_in(at.table), None)?;
         let protocol = self.protocol(at)?;
         let hosting = Hosting {
             bind: String::from_str(self.alloc, bind)?,
@@ -417,6 +419,7 @@ impl Reader<'_> {
             connections,
             idle,
             notices,
+            load_ms,
             protocol,
         };
         self.hostings.push(hosting)?;

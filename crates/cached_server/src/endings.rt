@@ -2,7 +2,7 @@
 ghost use Rattle.std.specs.Prelude.{◌≡◌, ◌⊎◌, ◌++◌, ℕ, List};
 ghost use Rattle.cache_run.specs.Devices.Watched.{device, failures};
 ghost use Rattle.cached_server.specs.declared.script.faults.Fault.TheVariants as fault;
-ghost use Rattle.cached_server.specs.Script.Faults.{Tells, fault_for, fault_message};
+ghost use Rattle.cached_server.specs.Script.Faults.{WritesPrefix, fault_for, fault_message};
 
 use crate::script::{Fault, tell_both, text_of};
 use cache_run::Watched;
@@ -104,7 +104,7 @@ impl Ending {
     /// What cannot be written is lost; without memory the second line is not written.
     pub fn tell<E: Write>(&self, alloc: Global, path: &str, errors: &mut Watched<E>) -> u8
         ensures status { result ≡ 1 }
-        ensures told { (cause : List ℕ) × Tells (fault_message self.now.fault ++ cause)
+        ensures told { (cause : List ℕ) × WritesPrefix (fault_message self.now.fault ++ cause)
             (E.contents (device errors.old)) (E.contents (device errors.new)) (failures errors.old)
             (failures errors.new) }
     {

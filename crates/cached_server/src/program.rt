@@ -3,7 +3,7 @@ ghost use Rattle.std.specs.Prelude.{◌≡◌, ◌≢◌, ◌≤◌, ◌⊎◌, 
 ghost use Rattle.toml.specs.Parse.{parse_document};
 ghost use Rattle.cache_run.specs.Devices.Watched.{device, failures};
 ghost use Rattle.cached_server.specs.Script.Called.{call_of};
-ghost use Rattle.cached_server.specs.Script.Faults.{EndsCallBy, MayEnd, Tells, fault_message, usage_text};
+ghost use Rattle.cached_server.specs.Script.Faults.{EndsCallBy, MayEnd, WritesPrefix, fault_message, usage_text};
 ghost use Rattle.cached_server.specs.Script.Scripts.{ServesStreams};
 
 use crate::announcing::{Outlet, Scribe};
@@ -45,7 +45,7 @@ where
     ensures status { result ≤ 2 }
     ensures served { result ≡ 0 → ServesStreams I.remaining O.contents E.contents reader.old
         reader.new writer.old writer.new errors.old errors.new }
-    ensures usage { result ≡ 2 → Tells usage_text (E.contents (device errors.old))
+    ensures usage { result ≡ 2 → WritesPrefix usage_text (E.contents (device errors.old))
         (E.contents (device errors.new)) (failures errors.old) (failures errors.new) }
     ensures unread { result ≡ 2 → reader.new ≡ reader.old }
     ensures unwritten { result ≡ 2 → writer.new ≡ writer.old }
@@ -73,7 +73,7 @@ pub fn serve_config<E: Write, W: Shown, V: Shown, R: Machine + Files + AllocGlob
     ensures status { result ≡ 1 }
     // the text of a fault other than of input, and what caused it
     ensures told { (fault : Fault) × (cause : List ℕ) × (fault ≢ Fault.Read)
-        × Tells (fault_message fault ++ cause) (E.contents (device errors.old))
+        × WritesPrefix (fault_message fault ++ cause) (E.contents (device errors.old))
         (E.contents (device errors.new)) (failures errors.old) (failures errors.new) }
 {
     match serve_file(rt, alloc, path, shown) {

@@ -22,7 +22,7 @@ use Rattle.front_reference.specs.Parts.{Inserts, TakesOut}
 use Rattle.front_reference.specs.Wholes.{taken_or, without_told}
 use Rattle.memcache_model.specs.Bytes.{same}
 use Rattle.memcache_model.specs.Items.{Item}
-use Rattle.memcache_service.specs.Shelves.{IsBounded, weight_together}
+use Rattle.memcache_service.specs.Shelves.{IsWithinCapacity, weight_together}
 use Rattle.memcache_cache.specs.Rules.{item_weight}
 use Rattle.memcache_cache.specs.Showing.{shelved_by}
 use Rattle.memcache_cache.specs.Weights.{IsItemCache}
@@ -132,13 +132,13 @@ module _ {P S R : Type 0} (answers : Answers (List ℕ) Item P R) (hash : S → 
   share-one : (c n : ℕ) → n ≡ 1 → share_of n c ≡ c
   share-one c n one = subst (λ k. share_of k c ≡ c) (sym one) (let e : (c + (1 - 1)) / 1 ≡ c = omega arith in e)
 
-  bounded-by : (f : Cache) → IsSteadyBy ways f → IsItemCache f → IsBounded item_weight (shelved_by ways f)
+  bounded-by : (f : Cache) → IsSteadyBy ways f → IsItemCache f → IsWithinCapacity item_weight (shelved_by ways f)
   bounded-by f steady kept = go (slice_get f.parts 0) refl
     where
       one : length f.parts ≡ 1
       one = steady.count ∙ ap (λ n. 2 ^ n) kept.single
 
-      go : (o : Option Part) → slice_get f.parts 0 ≡ o → IsBounded item_weight (shelved_by ways f)
+      go : (o : Option Part) → slice_get f.parts 0 ≡ o → IsWithinCapacity item_weight (shelved_by ways f)
       go None none = absurd (some-part f.parts one none)
       go (Some s) there = record {
         waiting = waiting_of s.records s.writes;
@@ -179,5 +179,5 @@ module _ {P S R : Type 0} (answers : Answers (List ℕ) Item P R) (hash : S → 
               below [] = omega arith
               below (key ∷ keys) = let first = each (moment * 1000000) key in let more = below keys in omega (arith, first, more)
 
-  pub bounded : (f : Cache) → ∥ IsSteadyBy ways f ∥₁ → ∥ IsItemCache f ∥₁ → ∥ IsBounded item_weight (shelved_by ways f) ∥₁
+  pub bounded : (f : Cache) → ∥ IsSteadyBy ways f ∥₁ → ∥ IsItemCache f ∥₁ → ∥ IsWithinCapacity item_weight (shelved_by ways f) ∥₁
   bounded f steady kept = ∥∥₁_elim steady (Prim.hlevel props) (λ s. ∥∥₁_map kept (λ k. bounded-by f s k))

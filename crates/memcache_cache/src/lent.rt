@@ -3,7 +3,7 @@ ghost use Rattle.std.specs.Prelude.{◌≡◌, ◌*◌, ◌<◌, ◌≤◌, ◌^
 ghost use Rattle.memcache_cache.specs.Showing.{shelved_by};
 ghost use Rattle.memcache_cache.specs.Weights.{IsItemCache};
 ghost use Rattle.memcache_model.specs.Items.{unexpired};
-ghost use Rattle.memcache_service.specs.Shelves.{IsMoment, ShowsNothing};
+ghost use Rattle.memcache_service.specs.Shelves.{MayComeAt, ShowsNothing};
 ghost use Rattle.front_parts.specs.Places.Calls.{hash_in};
 
 use crate::rules::ItemRules;
@@ -39,7 +39,7 @@ impl<S: BuildHasher + Drop> LentShelf<S> {
         moment: u64,
     ) -> Result<LentShelf<S>, AllocError>
         requires { moment < 2 ^ 43 }
-        ensures in_time { IfOk result (λ made. IsMoment
+        ensures in_time { IfOk result (λ made. MayComeAt
             (shelved_by ⟦<ItemRules as HasWays<Key, StoredItem, S>>⟧.ways made.cache) moment) }
         ensures empty { IfOk result (λ made. ShowsNothing
             (shelved_by ⟦<ItemRules as HasWays<Key, StoredItem, S>>⟧.ways made.cache)) }

@@ -1,10 +1,10 @@
 -- Numbers of digits.
-use Rattle.std.proofs.Common.{◌≡◌, ℕ, Option, ⊎_elim, cond, ◌+◌, ◌-◌, ◌*◌, ◌^◌, ◌<◌, ◌≤◌, Bool, true, false, List, length, take, get_or, Some, None, refl, sym, ap, ◌∙◌, arith}
+use Rattle.std.proofs.Common.{◌≡◌, ℕ, Option, ⊎_elim, cond, ◌+◌, ◌-◌, ◌*◌, ◌^◌, ◌<◌, ◌≤◌, Bool, true, false, true≢false, List, length, take, get_or, Some, None, refl, sym, ap, ◌∙◌, arith}
 use Rattle.std.specs.Prelude.{◌&&◌, nat_lt}
 use Rattle.std.specs.List.{list_all}
 use Rattle.std.specs.Int.{IsInRange}
 use Rattle.std.specs.Str.Parse.{digits_value}
-use Rattle.std.proofs.lemmas.Bool.{and_parts, and_from, and_right, leb-true, le-leb, lt-ltb, le-ltb, cond-true, cond-false, cases_lt}
+use Rattle.std.proofs.lemmas.Bool.{and_parts, and_from, and_right, leb-true, le-leb, lt-ltb, le-ltb, cond-true, cond-false, cases_Bool, cases_lt}
 use Rattle.std.proofs.lemmas.List.{take_more}
 use Rattle.std.proofs.lemmas.List.Folds.{list_all_at}
 use Rattle.std.proofs.lemmas.Int.Digits.{digits_value_push}
@@ -28,11 +28,7 @@ digits_value_more word i inside digit =
 
 -- each digit of a word of digits
 pub digit-at : (word : List ℕ) (i : ℕ) → i < length word → AreDigits word → is_digit (get_or word i 0) ≡ true
-digit-at word i inside digits = not-other (is_digit (get_or word i 0)) refl
-  where
-    not-other : (b : Bool) → is_digit (get_or word i 0) ≡ b → is_digit (get_or word i 0) ≡ true
-    not-other true e = e
-    not-other false e = let h : false ≡ true = sym (list_all_at is_digit word i 0 inside e) ∙ digits in cc
+digit-at word i inside digits = ⊎_elim (λ e. e) (λ e. absurd (true≢false (sym digits ∙ list_all_at is_digit word i 0 inside e))) (cases_Bool (is_digit (get_or word i 0)))
 
 -- a number that has grown too large in front is too large
 pub number_below-large : (word : List ℕ) (i : ℕ) → i < length word → AreDigits word → 2 ^ 64 ≤ digits_value 10 (take i word) * 10 + (get_or word i 0 - 48) → number_below (2 ^ 64) word ≡ None

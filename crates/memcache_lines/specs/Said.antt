@@ -30,10 +30,10 @@ asks MetaNoOp = model.meta_no_op
 asks (Malformed error) = model.malformed error
 
 -- what a line says
-abbrev pub says : Line → Reading
-says (Whole command quiet) = whole (asks command) quiet
-says (Head h) = head h.storage h.key.now h.flags h.exptime h.size h.quiet
-says (MetaHead h) = meta_head h.key.now (tokens h.flags.now) h.size
+abbrev pub said_by : Line → Reading
+said_by (Whole command quiet) = whole (asks command) quiet
+said_by (Head h) = head h.storage h.key.now h.flags h.exptime h.size h.quiet
+said_by (MetaHead h) = meta_head h.key.now (tokens h.flags.now) h.size
 
 -- what stands at the front of a stream
 abbrev pub comes : arrival.Arrived → model-of.Arrived

@@ -3,7 +3,7 @@ ghost use Rattle.std.specs.Prelude.{◌≡◌, ◌+◌, ◌<◌, ◌≤◌, ◌^
 ghost use Rattle.std.specs.List.{position};
 ghost use Rattle.memcache_model.specs.Bytes.{is_feed, without_return};
 ghost use Rattle.memcache_model.specs.Grammar.{arrived, arrives, behind, block_in, has_end, unended};
-ghost use Rattle.memcache_lines.specs.Said.{asks, comes, says};
+ghost use Rattle.memcache_lines.specs.Said.{asks, comes, said_by};
 ghost use Rattle.memcache_lines.specs.Blocks.{blocks, meta_set_with, store_with};
 
 use crate::line::{Command, Line, read_line};
@@ -91,7 +91,7 @@ fn arrives<'a>(command: Command<'a>, quiet: bool, used: usize) -> Arrived<'a>
 /// A line of `used` bytes with its line feed, and what stands behind it.
 fn behind<'a>(most: u32, line: Line<'a>, used: usize, rest: &'a [u8]) -> Arrived<'a>
     requires { used ≤ 65537 }
-    ensures { comes result ≡ behind most (says line.entry) used rest.now }
+    ensures { comes result ≡ behind most (said_by line.entry) used rest.now }
 {
     match line {
         Line::Whole { command, quiet } => arrives(command, quiet, used),

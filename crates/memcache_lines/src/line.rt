@@ -3,7 +3,7 @@ ghost use Rattle.std.specs.Prelude.{◌≡◌, codes};
 ghost use Rattle.memcache_model.specs.Bytes.{same, tokens};
 ghost use Rattle.memcache_model.specs.Grammar.{reading, whole, faulty, keys_fault, read_get, read_gat, read_delete, delete_quiet, delete_word, delete_words, on_key, read_arithmetic, read_touch, read_flush, timed, read_verbosity, read_meta, read_verb, verb_in, meta_verb_in, quiet_in, exptime_in};
 ghost use Rattle.memcache_model.specs.Commands.{flush_all};
-ghost use Rattle.memcache_lines.specs.Said.{says, asks};
+ghost use Rattle.memcache_lines.specs.Said.{said_by, asks};
 
 use crate::numbers::{exptime, number};
 use crate::storing::{Head, MetaHead, read_cas, read_meta_set, read_store};
@@ -98,7 +98,7 @@ pub enum Line<'a> {
 
 /// Returns what a line says.
 pub fn read_line<'a>(line: &'a [u8]) -> Line<'a>
-    ensures { says result ≡ reading line.now }
+    ensures { said_by result ≡ reading line.now }
 {
     match next_token(line) {
         Some((word, rest)) => match verb_of(word) {
@@ -111,14 +111,14 @@ pub fn read_line<'a>(line: &'a [u8]) -> Line<'a>
 
 /// Returns the request of a line that cannot be read.
 pub fn fault<'a>(error: ProtocolError) -> Line<'a>
-    ensures { says result ≡ faulty error }
+    ensures { said_by result ≡ faulty error }
 {
     all_of(Command::Malformed(error), false)
 }
 
 /// All of a request.
 fn all_of<'a>(command: Command<'a>, quiet: bool) -> Line<'a>
-    ensures { says result ≡ whole (asks command.entry) quiet }
+    ensures { said_by result ≡ whole (asks command.entry) quiet }
 {
     Line::Whole { command, quiet }
 }
@@ -191,7 +191,7 @@ fn meta_verb_of(word: &[u8]) -> Option<Verb>
 
 /// Reads what stands behind a command's word.
 fn read_behind<'a>(verb: Verb, rest: &'a [u8]) -> Line<'a>
-    ensures { says result ≡ read_verb verb (tokens rest.now) }
+    ensures { said_by result ≡ read_verb verb (tokens rest.now) }
 {
     match verb {
         Verb::Get { uniques } => read_get(uniques, rest),
@@ -214,7 +214,7 @@ fn read_behind<'a>(verb: Verb, rest: &'a [u8]) -> Line<'a>
 
 /// Reads the keys of a `get` or `gets`.
 fn read_get<'a>(uniques: bool, keys: &'a [u8]) -> Line<'a>
-    ensures { says result ≡ read_get uniques (tokens keys.now) }
+    ensures { said_by result ≡ read_get uniques (tokens keys.now) }
 {
     match check_keys(keys) {
         None => all_of(Command::Get { uniques, keys }, false),
@@ -237,7 +237,7 @@ fn check_keys(keys: &[u8]) -> Option<ProtocolError>
 
 /// Reads what stands behind `gat` or `gats`.
 fn read_gat<'a>(uniques: bool, rest: &'a [u8]) -> Line<'a>
-    ensures { says result ≡ read_gat uniques (tokens rest.now) }
+    ensures { said_by result ≡ read_gat uniques (tokens rest.now) }
 {
     let Some((word, keys)) = next_token(rest) else {
         return fault(ProtocolError::Unknown);
@@ -281,7 +281,7 @@ fn is_noreply(word: &[u8]) -> bool
 
 /// Reads what stands behind `delete`.
 fn read_delete<'a>(rest: &'a [u8]) -> Line<'a>
-    ensures { says result ≡ read_delete (tokens rest.now) }
+    ensures { said_by result ≡ read_delete (tokens rest.now) }
 {
     let Some((key, more)) = next_token(rest) else {
         return fault(ProtocolError::Unknown);
@@ -340,7 +340,7 @@ fn is_zero(word: &[u8]) -> bool
 
 /// A command on a key, if that is one.
 fn on_key<'a>(key: &[u8], command: Command<'a>, quiet: bool) -> Line<'a>
-    ensures { says result ≡ on_key key.now (asks command.entry) quiet }
+    ensures { said_by result ≡ on_key key.now (asks command.entry) quiet }
 {
     if key_fits(key) {
         all_of(command, quiet)
@@ -351,7 +351,7 @@ fn on_key<'a>(key: &[u8], command: Command<'a>, quiet: bool) -> Line<'a>
 
 /// Reads what stands behind `incr` or `decr`.
 fn read_arithmetic<'a>(direction: Direction, rest: &'a [u8]) -> Line<'a>
-    ensures { says result ≡ read_arithmetic direction (tokens rest.now) }
+    ensures { said_by result ≡ read_arithmetic direction (tokens rest.now) }
 {
     let Some((key, rest)) = next_token(rest) else {
         return fault(ProtocolError::Unknown);
@@ -378,7 +378,7 @@ fn read_arithmetic<'a>(direction: Direction, rest: &'a [u8]) -> Line<'a>
 
 /// Reads what stands behind `touch`.
 fn read_touch<'a>(rest: &'a [u8]) -> Line<'a>
-    ensures { says result ≡ read_touch (tokens rest.now) }
+    ensures { said_by result ≡ read_touch (tokens rest.now) }
 {
     let Some((key, rest)) = next_token(rest) else {
         return fault(ProtocolError::Unknown);
@@ -400,7 +400,7 @@ fn read_touch<'a>(rest: &'a [u8]) -> Line<'a>
 
 /// Reads what stands behind `flush_all`.
 fn read_flush<'a>(rest: &'a [u8]) -> Line<'a>
-    ensures { says result ≡ read_flush (tokens rest.now) }
+    ensures { said_by result ≡ read_flush (tokens rest.now) }
 {
     let Some((word, rest)) = next_token(rest) else {
         return flush(Exptime::Never, false);
@@ -413,7 +413,7 @@ fn read_flush<'a>(rest: &'a [u8]) -> Line<'a>
 
 /// Reads the delay of a `flush_all` and what stands behind it.
 fn read_flush_at<'a>(word: &[u8], rest: &[u8]) -> Line<'a>
-    ensures { says result ≡ timed flush_all (exptime_in word.now) (quiet_in (tokens rest.now)) }
+    ensures { said_by result ≡ timed flush_all (exptime_in word.now) (quiet_in (tokens rest.now)) }
 {
     let Some(quiet) = read_quiet(rest) else {
         return fault(ProtocolError::Unknown);
@@ -426,14 +426,14 @@ fn read_flush_at<'a>(word: &[u8], rest: &[u8]) -> Line<'a>
 
 /// A `flush_all`.
 fn flush<'a>(exptime: Exptime, quiet: bool) -> Line<'a>
-    ensures { says result ≡ whole (flush_all exptime) quiet }
+    ensures { said_by result ≡ whole (flush_all exptime) quiet }
 {
     all_of(Command::FlushAll { exptime }, quiet)
 }
 
 /// Reads what stands behind `verbosity`.
 fn read_verbosity<'a>(rest: &'a [u8]) -> Line<'a>
-    ensures { says result ≡ read_verbosity (tokens rest.now) }
+    ensures { said_by result ≡ read_verbosity (tokens rest.now) }
 {
     let Some((level, more)) = next_token(rest) else {
         return fault(ProtocolError::Unknown);
@@ -449,7 +449,7 @@ fn read_verbosity<'a>(rest: &'a [u8]) -> Line<'a>
 
 /// Reads what stands behind `mg`, `md` or `ma`.
 fn read_meta<'a>(kind: Meta, rest: &'a [u8]) -> Line<'a>
-    ensures { says result ≡ read_meta kind (tokens rest.now) }
+    ensures { said_by result ≡ read_meta kind (tokens rest.now) }
 {
     match next_token(rest) {
         Some((key, flags)) => on_key(key, Command::Meta { kind, key, flags }, false),

@@ -2,7 +2,7 @@
 ghost use Rattle.std.specs.Prelude.{◌≡◌, ◌∷◌, ◌<◌, Some, length, MatchOption};
 ghost use Rattle.memcache_model.specs.Bytes.{tokens, number_below};
 ghost use Rattle.memcache_model.specs.Grammar.{head_of, meta_head_of, read_cas, read_meta_set, read_store};
-ghost use Rattle.memcache_lines.specs.Said.{says};
+ghost use Rattle.memcache_lines.specs.Said.{said_by};
 ghost use Rattle.memcache_lines.specs.Words.{head_in};
 
 use crate::line::{Line, fault, read_quiet};
@@ -50,7 +50,7 @@ struct Words<'a> {
 
 /// Reads what stands behind the word of a storage command but `cas`.
 pub fn read_store<'a>(storage: Storage, rest: &'a [u8]) -> Line<'a>
-    ensures { says result ≡ read_store storage (tokens rest.now) }
+    ensures { said_by result ≡ read_store storage (tokens rest.now) }
 {
     let Some(words) = next_words(rest) else {
         return fault(ProtocolError::Unknown);
@@ -63,7 +63,7 @@ pub fn read_store<'a>(storage: Storage, rest: &'a [u8]) -> Line<'a>
 
 /// Reads what stands behind `cas`.
 pub fn read_cas<'a>(rest: &'a [u8]) -> Line<'a>
-    ensures { says result ≡ read_cas (tokens rest.now) }
+    ensures { said_by result ≡ read_cas (tokens rest.now) }
 {
     let Some(words) = next_words(rest) else {
         return fault(ProtocolError::Unknown);
@@ -101,7 +101,7 @@ fn next_words<'a>(rest: &'a [u8]) -> Option<Words<'a>>
 
 /// The words by what they say, or that one of them is malformed.
 fn with_head<'a>(storage: Storage, words: Words<'a>, quiet: bool) -> Line<'a>
-    ensures { says result ≡ head_in (Some storage) words.entry (Some quiet) }
+    ensures { said_by result ≡ head_in (Some storage) words.entry (Some quiet) }
 {
     let Some(flags) = short_number(words.flags) else {
         return fault(ProtocolError::Format);
@@ -128,7 +128,7 @@ fn with_head<'a>(storage: Storage, words: Words<'a>, quiet: bool) -> Line<'a>
 
 /// Reads what stands behind `ms`.
 pub fn read_meta_set<'a>(rest: &'a [u8]) -> Line<'a>
-    ensures { says result ≡ read_meta_set (tokens rest.now) }
+    ensures { said_by result ≡ read_meta_set (tokens rest.now) }
 {
     let Some((key, rest)) = next_token(rest) else {
         return fault(ProtocolError::Unknown);
@@ -144,7 +144,7 @@ pub fn read_meta_set<'a>(rest: &'a [u8]) -> Line<'a>
 
 /// The same, if its key is one.
 fn meta_head<'a>(key: &'a [u8], flags: &'a [u8], size: u32) -> Line<'a>
-    ensures { says result ≡ meta_head_of key.now (tokens flags.now) (Some size) }
+    ensures { said_by result ≡ meta_head_of key.now (tokens flags.now) (Some size) }
 {
     if key_fits(key) {
         Line::MetaHead(MetaHead { key, flags, size })

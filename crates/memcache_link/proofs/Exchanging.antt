@@ -7,7 +7,7 @@ use Rattle.memcache_service.specs.Talks.{FailsToFeed, Feeds, Takes, connection_o
 use Rattle.memcache_service.specs.declared.connection.Connection.{Connection}
 use Rattle.memcache_service.specs.declared.service.Service.{Service}
 use Rattle.memcache_service.specs.declared.shelf.Shelf.{Ghosts}
-use Rattle.memcache_link.specs.Served.{Has, IsKnown}
+use Rattle.memcache_link.specs.Served.{KnowsConnection, OwesNothing}
 
 there : {X : Type 0} (o : Option X) (x : X) → o ≡ Some x → o ≢ None
 there o x is none = none-some x (sym none ∙ is)
@@ -21,7 +21,7 @@ not-not false = refl
 
 module _ {T : Type 0} {shelf : Ghosts T} (conn : ℕ) where
   -- all that it was told was taken
-  pub taken : (ended : Bool) (told : List ℕ) (p q : Service T shelf) → Has conn ended p → (connection_of conn p ≢ None → Takes conn told p q) → Takes conn told p q × IsKnown conn ended q
+  pub taken : (ended : Bool) (told : List ℕ) (p q : Service T shelf) → KnowsConnection conn ended p → (connection_of conn p ≢ None → Takes conn told p q) → Takes conn told p q × OwesNothing conn ended q
   taken ended told p q has takes =
       let done = takes (there (connection_of conn p) has.connection has.is) in
       let same : done.before ≡ has.connection = same-some (connection_of conn p) done.before has.connection done.was has.is in
@@ -29,7 +29,7 @@ module _ {T : Type 0} {shelf : Ghosts T} (conn : ℕ) where
       (done, record { has = record { connection = done.after; is = done.is.changed; closed = closed }; taken = done.done.1.output })
 
   -- nothing was owed, so that nothing was taken
-  pub lent : (ended : Bool) (told : List ℕ) (p q : Service T shelf) → IsKnown conn ended p → (connection_of conn p ≢ None → Takes conn told p q) → Takes conn [] p q × IsKnown conn ended q
+  pub lent : (ended : Bool) (told : List ℕ) (p q : Service T shelf) → OwesNothing conn ended p → (connection_of conn p ≢ None → Takes conn told p q) → Takes conn [] p q × OwesNothing conn ended q
   lent ended told p q known takes =
       let both = taken ended told p q known.has takes in
       let same : both.0.before ≡ known.has.connection = same-some (connection_of conn p) both.0.before known.has.connection both.0.was known.has.is in
@@ -37,7 +37,7 @@ module _ {T : Type 0} {shelf : Ghosts T} (conn : ℕ) where
       (subst (λ (z : List ℕ). Takes conn z p q) none both.0, both.1)
 
   -- a piece was fed
-  pub fed : {E : Type 0} (piece : List ℕ) (ended : Bool) (p q : Service T shelf) → Has conn false p → (r : Result Bool E) → (connection_of conn p ≢ None → IfOk r (λ goes_on. IsDoneFor conn (HasFed shelf.view q.moment piece goes_on) p.connections q.connections p.stock q.stock)) → OnErr r (FailsToFeed conn piece p q) → MatchResult r (λ goes_on. ended ≡ not goes_on) (λ e. ended ≡ true) → (Feeds conn piece p q ⊎ FailsToFeed conn piece p q) × Has conn ended q
+  pub fed : {E : Type 0} (piece : List ℕ) (ended : Bool) (p q : Service T shelf) → KnowsConnection conn false p → (r : Result Bool E) → (connection_of conn p ≢ None → IfOk r (λ goes_on. IsDoneFor conn (HasFed shelf.view q.moment piece goes_on) p.connections q.connections p.stock q.stock)) → OnErr r (FailsToFeed conn piece p q) → MatchResult r (λ goes_on. ended ≡ not goes_on) (λ e. ended ≡ true) → (Feeds conn piece p q ⊎ FailsToFeed conn piece p q) × KnowsConnection conn ended q
   fed piece ended p q has (Ok goes_on) feeds lacks is =
       let done = feeds (there (connection_of conn p) has.connection has.is) in
       let same : done.before ≡ has.connection = same-some (connection_of conn p) done.before has.connection done.was has.is in

@@ -3,12 +3,12 @@ use Rattle.std.specs.Prelude.{◌≡◌, ◌≤◌, ◌⊎◌, ◌++◌, ℕ, Bo
 use Rattle.std.specs.Io.KnownBytes.{Appends, Consumes, IsAtEnd}
 use Rattle.cache_run.specs.declared.devices.errors.RunError.{RunError}
 use Rattle.cache_link.specs.Dialogues.{Wire}
-use Rattle.cache_link.specs.Patience.{device}
+use Rattle.cache_link.specs.Patience.{device_of}
 use Rattle.cache_link.specs.declared.link.Next.{Next}
 use Rattle.cache_link.specs.declared.link.Next.TheVariants.{Over as IsOver}
 use Rattle.cache_link.specs.declared.link.Report.TheVariants.{Nothing}
 use Rattle.cache_link.specs.declared.patient.Patient.{Patient}
-use Rattle.memcache_service.specs.Talks.{FailsToFeed, Feeds, Opens, Takes, connection_of, moment_of}
+use Rattle.memcache_service.specs.Talks.{FailsToFeed, Feeds, OpensTalk, Takes, connection_of, moment_of_last_call}
 use Rattle.memcache_service.specs.declared.connection.Connection.{Connection}
 use Rattle.memcache_service.specs.declared.service.Service.{Service}
 use Rattle.memcache_service.specs.declared.shelf.Shelf.{Ghosts}
@@ -17,10 +17,10 @@ use Rattle.memcache_link.specs.declared.link.Phase.{Phase}
 use Rattle.memcache_link.specs.declared.link.Phase.TheVariants.{Fed, Over, Ended}
 
 -- whether nothing more of it is read or fed
-abbrev pub is_over : Phase → Bool
-is_over Over = true
-is_over Ended = true
-is_over phase = false
+abbrev pub is_phase_over : Phase → Bool
+is_phase_over Over = true
+is_phase_over Ended = true
+is_phase_over phase = false
 
 -- whether that is since the service has ended it
 abbrev pub has_ended : Phase → Bool
@@ -28,37 +28,37 @@ has_ended Ended = true
 has_ended phase = false
 
 -- others had their turns: the connection is as it was
-pub record Interlude {T : Type 0} {shelf : Ghosts T} (conn : ℕ) (p q : Service T shelf) : Type 0 where
+pub record OthersTurns {T : Type 0} {shelf : Ghosts T} (conn : ℕ) (p q : Service T shelf) : Type 0 where
   pub same : connection_of conn q ≡ connection_of conn p
-  pub later : moment_of p ≤ moment_of q
+  pub later : moment_of_last_call p ≤ moment_of_last_call q
 
 -- it was opened
-pub record HasJustOpened {T : Type 0} {shelf : Ghosts T} (link : MemcacheLink)
+pub record WasJustOpened {T : Type 0} {shelf : Ghosts T} (link : MemcacheLink)
     (p q : Service T shelf) : Type 0 where
-  pub opens : Opens link.conn p q
+  pub opens : OpensTalk link.conn p q
   pub backlog : link.backlog ≡ []
   pub report : link.report ≡ Nothing
   pub phase : link.phase ≡ Fed
 
 -- the service has the connection, and has ended it or not
-pub record Has {T : Type 0} {shelf : Ghosts T} (conn : ℕ) (ended : Bool)
+pub record KnowsConnection {T : Type 0} {shelf : Ghosts T} (conn : ℕ) (ended : Bool)
     (service : Service T shelf) : Type 0 where
   pub connection : Connection
   pub is : connection_of conn service ≡ Some connection
   pub closed : connection.is_closed ≡ ended
 
 -- and owes it nothing
-pub record IsKnown {T : Type 0} {shelf : Ghosts T} (conn : ℕ) (ended : Bool)
+pub record OwesNothing {T : Type 0} {shelf : Ghosts T} (conn : ℕ) (ended : Bool)
     (service : Service T shelf) : Type 0 where
-  pub has : Has conn ended service
+  pub has : KnowsConnection conn ended service
   pub taken : has.connection.output.items ≡ []
 
 -- All that it was owed was written, and maybe more; or nothing was read or fed.
-abbrev pub WritesFirst : {S R W : Type 0} → (W → Option (List ℕ)) → MemcacheLink → S → S
+abbrev pub WritesOwedFirst : {S R W : Type 0} → (W → Option (List ℕ)) → MemcacheLink → S → S
     → Patient R → Patient R → Patient W → Patient W → Type 0
-WritesFirst contents s p q reader reader' writer writer' =
+WritesOwedFirst contents s p q reader reader' writer writer' =
     ((more : List ℕ)
-    × Appends (contents (device writer)) (contents (device writer')) (s.backlog ++ more))
+    × Appends (contents (device_of writer)) (contents (device_of writer')) (s.backlog ++ more))
     ⊎ ((q ≡ p) × (reader' ≡ reader))
 
 module _ {T : Type 0} (shelf : Ghosts T) where
@@ -76,57 +76,57 @@ module _ {T : Type 0} (shelf : Ghosts T) where
     where
       no_more : HasTalked conn start [] [] start
       one_more : (fed told piece more : List ℕ) (p q r : Service T shelf)
-          → HasTalked conn start fed told p → Interlude conn p q → Exchanges conn piece more q r
+          → HasTalked conn start fed told p → OthersTurns conn p q → Exchanges conn piece more q r
           → HasTalked conn start (fed ++ piece) (told ++ more) r
 
   -- A connection is served: all that was read was fed, and its replies were written, but for its backlog. It is over only at the end of its
   -- input, or if nothing more is to be read.
-  pub record IsServed (start : Service T shelf) (a : Wire) (link : MemcacheLink) (now : Service T shelf)
+  pub record IsServedByTalk (start : Service T shelf) (a : Wire) (link : MemcacheLink) (now : Service T shelf)
       (b : Wire) : Type 0 where
     pub last : Service T shelf
     pub fed : List ℕ
     pub told : List ℕ
     pub sent : List ℕ
     pub talked : HasTalked link.conn start fed told last
-    pub others : Interlude link.conn last now
+    pub others : OthersTurns link.conn last now
     pub read : Consumes a.remaining b.remaining fed
     pub wrote : Appends a.contents b.contents sent
     pub replies : sent ++ link.backlog ≡ told
-    pub known : IsKnown link.conn (has_ended link.phase) now
+    pub known : OwesNothing link.conn (has_ended link.phase) now
     pub over : link.phase ≡ Over → IsAtEnd b.remaining ⊎ (link.is_stopped ≡ true)
 
   -- one that was served is served
-  abbrev pub Goes : MemcacheLink → MemcacheLink → Service T shelf → Service T shelf → Wire → Wire → Type 0
-  Goes s t p q b c =
-      (start : Service T shelf) → (a : Wire) → IsServed start a s p b → IsServed start a t q c
+  abbrev pub StaysServed : MemcacheLink → MemcacheLink → Service T shelf → Service T shelf → Wire → Wire → Type 0
+  StaysServed s t p q b c =
+      (start : Service T shelf) → (a : Wire) → IsServedByTalk start a s p b → IsServedByTalk start a t q c
 
   -- and if it is over, it has no backlog
-  abbrev pub Proceeds : Result Next RunError → MemcacheLink → MemcacheLink → Service T shelf
+  abbrev pub StaysServedOrOver : Result Next RunError → MemcacheLink → MemcacheLink → Service T shelf
       → Service T shelf → Wire → Wire → Type 0
-  Proceeds result s t p q b c =
-      Goes s t p q b c × (t.conn ≡ s.conn)
-      × (result ≡ Ok IsOver → (t.backlog ≡ []) × (is_over t.phase ≡ true))
+  StaysServedOrOver result s t p q b c =
+      StaysServed s t p q b c × (t.conn ≡ s.conn)
+      × (result ≡ Ok IsOver → (t.backlog ≡ []) × (is_phase_over t.phase ≡ true))
 
   -- a connection that was served takes a turn when others have had theirs
-  abbrev pub TakesTurn : Result Next RunError → MemcacheLink → MemcacheLink → Service T shelf
+  abbrev pub TakesItsTurn : Result Next RunError → MemcacheLink → MemcacheLink → Service T shelf
       → Service T shelf → Wire → Wire → Type 0
-  TakesTurn result s t p q b c =
-      (before : Service T shelf) → Interlude s.conn before p → Proceeds result s t before q b c
+  TakesItsTurn result s t p q b c =
+      (before : Service T shelf) → OthersTurns s.conn before p → StaysServedOrOver result s t before q b c
 
   -- it is served, and nothing is written
-  abbrev pub Works : {R : Type 0} → (R → Option (List ℕ)) → MemcacheLink → MemcacheLink
+  abbrev pub WorksServed : {R : Type 0} → (R → Option (List ℕ)) → MemcacheLink → MemcacheLink
       → Service T shelf → Service T shelf → Patient R → Patient R → Type 0
-  Works remaining s t p q was is =
+  WorksServed remaining s t p q was is =
       ((contents : Option (List ℕ))
-      → Goes s t p q (record { remaining = remaining (device was); contents = contents })
-      (record { remaining = remaining (device is); contents = contents }))
+      → StaysServed s t p q (record { remaining = remaining (device_of was); contents = contents })
+      (record { remaining = remaining (device_of is); contents = contents }))
       × (t.conn ≡ s.conn)
 
   -- a piece was fed, and the replies are its backlog
-  pub record Answers (piece : List ℕ) (s t : MemcacheLink) (p q : Service T shelf) : Type 0 where
+  pub record AnswersPiece (piece : List ℕ) (s t : MemcacheLink) (p q : Service T shelf) : Type 0 where
     pub conn : t.conn ≡ s.conn
     pub report : t.report ≡ s.report
     pub stopped : t.is_stopped ≡ s.is_stopped
     pub going : t.phase ≡ Over → ⊥
-    pub known : IsKnown s.conn false p → IsKnown s.conn (has_ended t.phase) q
-    pub exchanges : IsKnown s.conn false p → Exchanges s.conn piece t.backlog p q
+    pub known : OwesNothing s.conn false p → OwesNothing s.conn (has_ended t.phase) q
+    pub exchanges : OwesNothing s.conn false p → Exchanges s.conn piece t.backlog p q

@@ -6,7 +6,7 @@ ghost use Rattle.cache_link.specs.Patience.{BreaksDown, WritesOn, is_broken_by};
 ghost use Rattle.cache_link.specs.Reports.{HearsOf, Hears, report_with};
 ghost use Rattle.cache_link.specs.Served.{wire};
 ghost use Rattle.memcache_service.specs.Talks.{connection_of};
-ghost use Rattle.memcache_link.specs.Served.{Answers, HasJustOpened, IsServed, Proceeds, TakesTurn, Works, WritesFirst, has_ended, is_over};
+ghost use Rattle.memcache_link.specs.Served.{AnswersPiece, WasJustOpened, IsServedByTalk, StaysServedOrOver, TakesItsTurn, WorksServed, WritesOwedFirst, has_ended, is_phase_over};
 
 use cache_link::{Backlog, Next, Patient, Report, Room};
 use cache_run::{Inbox, RunError};
@@ -48,9 +48,9 @@ impl MemcacheLink {
         service: &mut Service<T>,
         alloc: Global,
     ) -> Result<MemcacheLink, AllocError>
-        ensures fresh { IfOk result (λ link. HasJustOpened link service.old service.new) }
+        ensures fresh { IfOk result (λ link. WasJustOpened link service.old service.new) }
         ensures served { IfOk result (λ link. (a : Wire)
-            → IsServed T.Shelf service.new a link service.new a) }
+            → IsServedByTalk T.Shelf service.new a link service.new a) }
     {
         let conn = service.open()?;
         Ok(MemcacheLink {
@@ -98,12 +98,12 @@ impl MemcacheLink {
         room: &mut Room,
         moment: u64,
     ) -> Result<Next, RunError>
-        ensures goes { TakesTurn T.Shelf result self.old self.new service.old service.new
+        ensures goes { TakesItsTurn T.Shelf result self.old self.new service.old service.new
             (wire I.remaining O.contents reader.old writer.old)
             (wire I.remaining O.contents reader.new writer.new) }
         ensures why { IfErr result (Because (BreaksDown reader.old reader.new)
             (BreaksDown writer.old writer.new) ⊥ ⊥) }
-        ensures first { WritesFirst O.contents self.old service.old service.new reader.old
+        ensures first { WritesOwedFirst O.contents self.old service.old service.new reader.old
             reader.new writer.old writer.new }
         ensures hears { Hears I.remaining self.old.report self.new.report reader.old reader.new }
         ensures idle { result ≡ Ok Next.Input → self.new.report ≡ Report.Nothing }
@@ -126,8 +126,8 @@ impl MemcacheLink {
         room: &mut Room,
         moment: u64,
     ) -> Result<Next, RunError>
-        requires going { (self.old.backlog ≡ []) × (is_over self.old.phase ≡ false) }
-        ensures goes { Proceeds T.Shelf result self.old self.new service.old service.new
+        requires going { (self.old.backlog ≡ []) × (is_phase_over self.old.phase ≡ false) }
+        ensures goes { StaysServedOrOver T.Shelf result self.old self.new service.old service.new
             (wire I.remaining O.contents reader.old writer.old)
             (wire I.remaining O.contents reader.new writer.new) }
         ensures why { IfErr result (Because (BreaksDown reader.old reader.new)
@@ -152,8 +152,8 @@ impl MemcacheLink {
         room: &mut Room,
         moment: u64,
     ) -> Result<(), RunError>
-        requires going { (self.old.backlog ≡ []) × (is_over self.old.phase ≡ false) }
-        ensures goes { Works T.Shelf I.remaining self.old self.new service.old service.new
+        requires going { (self.old.backlog ≡ []) × (is_phase_over self.old.phase ≡ false) }
+        ensures goes { WorksServed T.Shelf I.remaining self.old self.new service.old service.new
             reader.old reader.new }
         ensures why { IfErr result (Because (BreaksDown reader.old reader.new) ⊥ ⊥ ⊥) }
         ensures hears { Hears I.remaining self.old.report self.new.report reader.old reader.new }
@@ -180,8 +180,8 @@ impl MemcacheLink {
         room: &mut Room,
         moment: u64,
     ) -> Result<(), RunError>
-        requires going { (self.old.backlog ≡ []) × (is_over self.old.phase ≡ false) }
-        ensures goes { Works T.Shelf I.remaining self.old self.new service.old service.new
+        requires going { (self.old.backlog ≡ []) × (is_phase_over self.old.phase ≡ false) }
+        ensures goes { WorksServed T.Shelf I.remaining self.old self.new service.old service.new
             reader.old reader.new }
         ensures why { IfErr result (Because (BreaksDown reader.old reader.new) ⊥ ⊥ ⊥) }
         ensures hears { Hears I.remaining self.old.report self.new.report reader.old reader.new }
@@ -225,7 +225,7 @@ impl MemcacheLink {
         room: &mut Room,
         moment: u64,
     )
-        ensures { Answers T.Shelf piece.now self.old self.new service.old service.new }
+        ensures { AnswersPiece T.Shelf piece.now self.old self.new service.old service.new }
     {
         let mut bytes = room.take_bytes();
         service.take_output(self.conn, &mut bytes);
@@ -247,7 +247,7 @@ impl MemcacheLink {
 
     /// Whether nothing more of it is read or fed.
     fn is_over(&self) -> bool
-        ensures { result ≡ is_over self.now.phase }
+        ensures { result ≡ is_phase_over self.now.phase }
     {
         match self.phase {
             Phase::Over | Phase::Ended => true,
@@ -257,7 +257,7 @@ impl MemcacheLink {
 
     /// What it waits for, if all its replies were written.
     fn next(&self) -> Next
-        ensures over { result ≡ Next.Over → is_over self.now.phase ≡ true }
+        ensures over { result ≡ Next.Over → is_phase_over self.now.phase ≡ true }
         ensures idle { result ≡ Next.Input → self.now.report ≡ Report.Nothing }
     {
         match self.phase {

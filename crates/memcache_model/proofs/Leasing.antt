@@ -1,5 +1,6 @@
 -- What commands do to a lease.
-use Rattle.std.proofs.Common.{◌≡◌, ℕ, ◌+◌, ◌^◌, Bool, true, false, true≢false, cond, not, ◌&&◌, ◌||◌, List, [], ◌∷◌, ◌++◌, length, Option, Some, None, refl, sym, ap, ◌∙◌, nat_lt, codes}
+use Rattle.std.proofs.Common.{◌≡◌, ℕ, ◌+◌, ◌^◌, Bool, true, false, true≢false, cond, not, ◌&&◌, ◌||◌, List, [], ◌∷◌, ◌++◌, length, Option, Some, None, refl, sym, ap, ◌∙◌, ⊎_elim, nat_lt, codes}
+use Rattle.std.proofs.lemmas.Bool.{cases_Bool}
 use Rattle.std.proofs.lemmas.Slice.Eq.{bytes_eq-Decides}
 use Rattle.std.specs.Fmt.{decimal}
 use Rattle.std.specs.Option.{option_or, option_map_or}
@@ -46,19 +47,17 @@ module _ (key : List ℕ) (stock : Stock) (held : is_leased (stock.items key) �
 
     -- the key's item changes, and stays leased if it was
     over : (old new : Item) → stock.items k ≡ Some old → (old.leased ≡ true → new.leased ≡ true) → is_leased (with_item k (Some new) stock.items key) ≡ true
-    over old new is keeps = go (same key k) refl
-      where
-        go : (b : Bool) → same key k ≡ b → is_leased (cond b (Some new) (stock.items key)) ≡ true
-        go true t = keeps (ap is_leased (sym is) ∙ ap (λ q. is_leased (stock.items q)) (sym ((bytes_eq-Decides key k).0 t)) ∙ held)
-        go false t = held
+    over old new is keeps = ⊎_elim
+        (λ t. rw t (keeps (ap is_leased (sym is) ∙ ap (λ q. is_leased (stock.items q)) (sym ((bytes_eq-Decides key k).0 t)) ∙ held)))
+        (other (Some new))
+        (cases_Bool (same key k))
 
     -- a key without an item gets one
     fresh : (o : Option Item) → stock.items k ≡ None → is_leased (with_item k o stock.items key) ≡ true
-    fresh o none = go (same key k) refl
-      where
-        go : (b : Bool) → same key k ≡ b → is_leased (cond b o (stock.items key)) ≡ true
-        go true t = absurd (true≢false (sym held ∙ ap (λ q. is_leased (stock.items q)) ((bytes_eq-Decides key k).0 t) ∙ ap is_leased none))
-        go false t = held
+    fresh o none = ⊎_elim
+        (λ t. absurd (true≢false (sym held ∙ ap (λ q. is_leased (stock.items q)) ((bytes_eq-Decides key k).0 t) ∙ ap is_leased none)))
+        (other o)
+        (cases_Bool (same key k))
 
     -- ---- storage commands
 
@@ -156,18 +155,14 @@ module _ (key : List ℕ) (stock : Stock) (held : is_leased (stock.items key) �
 
 touches_all : (deadline : Option ℕ) (keys : List (List ℕ)) (key : List ℕ) (items : Items) → is_leased (items key) ≡ true → is_leased (touched deadline keys items key) ≡ true
 touches_all deadline [] key items held = held
-touches_all deadline (k ∷ keys) key items held = touches_all deadline keys key (with_item k (retimed deadline (items k)) items) (go (same key k) refl (items k) refl)
+touches_all deadline (k ∷ keys) key items held = touches_all deadline keys key (with_item k (retimed deadline (items k)) items) (⊎_elim
+    (λ t. rw t (retimed-leased_too (items k) (ap (λ q. is_leased (items q)) (sym ((bytes_eq-Decides key k).0 t)) ∙ held)))
+    (λ t. rw t held)
+    (cases_Bool (same key k)))
   where
-    go : (b : Bool) → same key k ≡ b → (o : Option Item) → items k ≡ o → is_leased (cond b (retimed deadline o) (items key)) ≡ true
-    go false t o is = held
-    go true t o is = by (ap is_leased (sym is) ∙ ap (λ q. is_leased (items q)) (sym ((bytes_eq-Decides key k).0 t)) ∙ held)
-      where
-        by : is_leased o ≡ true → is_leased (retimed deadline o) ≡ true
-        by h = of o h
-          where
-            of : (p : Option Item) → is_leased p ≡ true → is_leased (retimed deadline p) ≡ true
-            of None e = e
-            of (Some item) e = e
+    retimed-leased_too : (o : Option Item) → is_leased o ≡ true → is_leased (retimed deadline o) ≡ true
+    retimed-leased_too None e = e
+    retimed-leased_too (Some item) e = e
 
 stays : (service : Service) (moment : ℕ) (command : Command) (key : List ℕ) (stock : Stock) → is_leased (stock.items key) ≡ true → may_end key command ≡ false → is_leased ((answer service moment command stock).stock.items key) ≡ true
 stays service moment (get uniques keys) key stock held ends = held

@@ -7,18 +7,18 @@ use Rattle.memcache_model.specs.Items.{Stock as Stocked}
 use Rattle.memcache_model.specs.Outcomes.{Outcome}
 use Rattle.memcache_service.proofs.Keeping.{stands}
 use Rattle.memcache_service.specs.Lines.{said_from}
-use Rattle.memcache_service.specs.Shelves.{IsMoment, Shelved, live_on}
-use Rattle.memcache_service.specs.Stocks.{Answers, Does, Leaves, LeavesRefused, Refuses, Serves, service_of, stock_at}
+use Rattle.memcache_service.specs.Shelves.{MayComeAt, Shelved, live_on}
+use Rattle.memcache_service.specs.Stocks.{AnswersCommand, Did, LeavesAll, LeavesRefused, IsOutOfMemory, WritesReply, service_of, stock_at}
 use Rattle.memcache_service.specs.declared.replies.Reply.{Reply}
 use Rattle.memcache_service.specs.declared.stock.Stock.{Stock}
 
 -- the same stock but for the key, the counters and a shelf that shows the same
-moved : {T : Type 0} (view : T → Shelved) (moment : ℕ) (all : Stocked) (mid new old final : Stock T) → Leaves view moment all mid new → (view mid.shelf).capacity ≡ (view old.shelf).capacity → view final.shelf ≡ view new.shelf → final.uniques ≡ new.uniques → final.flush ≡ new.flush → final.most ≡ old.most → Leaves view moment all old final
+moved : {T : Type 0} (view : T → Shelved) (moment : ℕ) (all : Stocked) (mid new old final : Stock T) → LeavesAll view moment all mid new → (view mid.shelf).capacity ≡ (view old.shelf).capacity → view final.shelf ≡ view new.shelf → final.uniques ≡ new.uniques → final.flush ≡ new.flush → final.most ≡ old.most → LeavesAll view moment all old final
 moved view moment all mid new old final left room same uniques flush most = record {
   items = subst (λ (v : Shelved). (key : List ℕ) → (live_on v moment key ≡ all.items key) ⊎ (live_on v moment key ≡ None)) (sym same) left.items;
   uniques = uniques ∙ left.uniques;
   flush = flush ∙ left.flush;
-  may_follow = subst (λ (v : Shelved). IsMoment v moment) (sym same) left.may_follow;
+  may_follow = subst (λ (v : Shelved). MayComeAt v moment) (sym same) left.may_follow;
   most = most;
   capacity = ap (λ (v : Shelved). v.capacity) same ∙ left.capacity ∙ room;
 }
@@ -28,8 +28,8 @@ moved_refused view moment (model.gat told exptime keys) all mid new old final le
 moved_refused view moment command all mid new old final left room same uniques flush most = stands view moment final new same uniques flush ∙ left
 
 -- a request, by the answer to its command behind a flush that was due
-pub served : {T : Type 0} (view : T → Shelved) (moment : ℕ) (request : model.Request) (all : Stocked) (old mid new final : Stock T) (before after written : List ℕ) (reply : Reply) → mid.most ≡ old.most → (view mid.shelf).capacity ≡ (view old.shelf).capacity → stock_at view moment mid ≡ all → Answers view moment request.command mid new before after reply → view final.shelf ≡ view new.shelf → final.uniques ≡ new.uniques → final.flush ≡ new.flush → final.most ≡ old.most
-    → written ≡ take (length before) after ++ (if request.quiet then [] else said_from (length before) after reply) → Serves view moment all request old final before written
+pub served : {T : Type 0} (view : T → Shelved) (moment : ℕ) (request : model.Request) (all : Stocked) (old mid new final : Stock T) (before after written : List ℕ) (reply : Reply) → mid.most ≡ old.most → (view mid.shelf).capacity ≡ (view old.shelf).capacity → stock_at view moment mid ≡ all → AnswersCommand view moment request.command mid new before after reply → view final.shelf ≡ view new.shelf → final.uniques ≡ new.uniques → final.flush ≡ new.flush → final.most ≡ old.most
+    → written ≡ take (length before) after ++ (if request.quiet then [] else said_from (length before) after reply) → WritesReply view moment all request old final before written
 served view moment request all old mid new final before after written reply kept room is answered same uniques flush most wrote = record {
   text = text;
   written = wrote ∙ ap (λ begun. begun ++ (if request.quiet then [] else text)) answered.begun;
@@ -42,13 +42,13 @@ served view moment request all old mid new final before after written reply kept
     outcome : ℕ → Stocked → Outcome
     outcome m s = answer (service_of m text) moment request.command s
 
-    done : Does view moment (outcome mid.most (stock_at view moment mid)) mid new text → Does view moment (outcome old.most all) old final text
+    done : Did view moment (outcome mid.most (stock_at view moment mid)) mid new text → Did view moment (outcome old.most all) old final text
     done d = record {
       said = d.said ∙ ap (λ (s : Stocked). (outcome mid.most s).reply) is ∙ ap (λ m. (outcome m all).reply) kept;
-      leaves = moved view moment _ mid new old final (subst (λ m. Leaves view moment (outcome m all).stock mid new) kept (subst (λ (s : Stocked). Leaves view moment (outcome mid.most s).stock mid new) is d.leaves)) room same uniques flush most;
+      leaves = moved view moment _ mid new old final (subst (λ m. LeavesAll view moment (outcome m all).stock mid new) kept (subst (λ (s : Stocked). LeavesAll view moment (outcome mid.most s).stock mid new) is d.leaves)) room same uniques flush most;
     }
 
-    refused : Refuses view moment request.command (stock_at view moment mid) mid new text → Refuses view moment request.command all old final text
+    refused : IsOutOfMemory view moment request.command (stock_at view moment mid) mid new text → IsOutOfMemory view moment request.command all old final text
     refused r = record {
       says = r.says;
       keeps = moved_refused view moment request.command all mid new old final (subst (λ (s : Stocked). LeavesRefused view moment request.command s mid new) is r.keeps) room same uniques flush most;

@@ -5,9 +5,6 @@ use Rattle.memcache_service.specs.Shelves.{Shelved}
 use Rattle.memcache_service.specs.declared.connection.Connection.{Connection}
 use Rattle.memcache_service.specs.declared.stock.Stock.{Stock}
 
-pub both-never : (b : Bool) → b ≡ true → b ≡ false → ⊥
-both-never b holds fails = let no : true ≡ false = sym holds ∙ fails in cc
-
 pub no-items : (xs : List ℕ) → length xs ≡ 0 → xs ≡ []
 no-items [] none = refl
 no-items (x ∷ xs) none = absurd (omega (arith, none))

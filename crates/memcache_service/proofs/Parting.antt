@@ -5,7 +5,7 @@ use Rattle.std.proofs.Math.ListN.{drop_of_length-le}
 use Rattle.std.proofs.lemmas.List.{drop-drop, length-drop, take_all}
 use Rattle.memcache_model.specs.Commands.{Request}
 use Rattle.memcache_model.specs.Grammar.{Arrived, arrived, part, request}
-use Rattle.memcache_service.specs.Serving.{AreServed, HasLacked, IsServed, ends_behind, one_more}
+use Rattle.memcache_service.specs.Serving.{AreServed, HasLacked, IsRequestServed, ends_behind, one_more}
 use Rattle.memcache_service.specs.Shelves.{Shelved}
 use Rattle.memcache_service.specs.Stocks.{Spares}
 use Rattle.memcache_service.specs.declared.stock.Stock.{Stock}
@@ -29,7 +29,7 @@ drop-there bytes start used there within is = ⊎_elim
     (cases_lt used (length bytes - start))
 
 -- one more request was served
-pub served_one : {T : Type 0} (view : T → Shelved) (moment most : ℕ) (first : Stock T) (bytes : List ℕ) (skipped : ℕ) (before : List ℕ) (mid new : Stock T) (r : Request) (used skip start there : ℕ) (between after : List ℕ) → start ≤ length bytes → there ≡ min used (length bytes - start) → AreServed view moment most first bytes skipped before mid (drop start bytes) skip between false → arrived most (drop start bytes) ≡ request r used → IsServed view moment r mid new between after → AreServed view moment most first bytes skipped before new (drop (start + there) bytes) (used - there) after (ends_behind r.command)
+pub served_one : {T : Type 0} (view : T → Shelved) (moment most : ℕ) (first : Stock T) (bytes : List ℕ) (skipped : ℕ) (before : List ℕ) (mid new : Stock T) (r : Request) (used skip start there : ℕ) (between after : List ℕ) → start ≤ length bytes → there ≡ min used (length bytes - start) → AreServed view moment most first bytes skipped before mid (drop start bytes) skip between false → arrived most (drop start bytes) ≡ request r used → IsRequestServed view moment r mid new between after → AreServed view moment most first bytes skipped before new (drop (start + there) bytes) (used - there) after (ends_behind r.command)
 served_one view moment most first bytes skipped before mid new r used skip start there between after within is were arrives served =
     let left = drop start bytes in
     let same : used - length left ≡ used - there = omega (arith, is, length-drop start bytes) in

@@ -5,8 +5,8 @@ use Rattle.std.proofs.lemmas.Slice.Eq.{bytes_eq-Decides}
 use Rattle.memcache_model.specs.Answers.{retimed, touched, touches_one}
 use Rattle.memcache_model.specs.Bytes.{same}
 use Rattle.memcache_model.specs.Items.{Item, Items, with_item}
-use Rattle.memcache_service.specs.Shelves.{IsMoment, Shelved, live_on}
-use Rattle.memcache_service.specs.Stocks.{Does, Touches, stock_at}
+use Rattle.memcache_service.specs.Shelves.{MayComeAt, Shelved, live_on}
+use Rattle.memcache_service.specs.Stocks.{Did, Touches, stock_at}
 use Rattle.memcache_service.specs.declared.stock.Stock.{Stock}
 
 touched-push : (deadline : Option ℕ) (xs : List (List ℕ)) (key : List ℕ) (items : Items) → touched deadline (xs ++ key ∷ []) items ≡ with_item key (retimed deadline (touched deadline xs items key)) (touched deadline xs items)
@@ -39,7 +39,7 @@ module _ {T : Type 0} (view : T → Shelved) (moment : ℕ) (deadline : Option �
   live stock = live_on (view stock.shelf) moment
 
   -- one key is touched, over what was left of the items
-  over : (key : List ℕ) (mid new : Stock T) (text : List ℕ) (before : Items) → ((q : List ℕ) → (live mid q ≡ before q) ⊎ (live mid q ≡ None)) → (o : Option Item) → live mid key ≡ o → Does view moment (touches_one key deadline o (stock_at view moment mid)) mid new text
+  over : (key : List ℕ) (mid new : Stock T) (text : List ℕ) (before : Items) → ((q : List ℕ) → (live mid q ≡ before q) ⊎ (live mid q ≡ None)) → (o : Option Item) → live mid key ≡ o → Did view moment (touches_one key deadline o (stock_at view moment mid)) mid new text
       → (q : List ℕ) → (live new q ≡ with_item key (retimed deadline (before key)) before q) ⊎ (live new q ≡ None)
   over key mid new text before were None none does q = go (same q key) refl
     where
@@ -58,20 +58,20 @@ module _ {T : Type 0} (view : T → Shelved) (moment : ℕ) (deadline : Option �
       go true e was = ⊎_elim (λ k. inl (k ∙ ap (retimed deadline) (sym is))) (λ k. inr k) was
       go false e was = ⊎_elim (λ k. ⊎_elim (λ m. inl (k ∙ m)) (λ m. inr (k ∙ m)) (were q)) (λ k. inr k) was
 
-  kept-uniques : (key : List ℕ) (o : Option Item) (mid new : Stock T) (text : List ℕ) → Does view moment (touches_one key deadline o (stock_at view moment mid)) mid new text → (new.uniques ≡ mid.uniques) × (new.flush ≡ mid.flush)
+  kept-uniques : (key : List ℕ) (o : Option Item) (mid new : Stock T) (text : List ℕ) → Did view moment (touches_one key deadline o (stock_at view moment mid)) mid new text → (new.uniques ≡ mid.uniques) × (new.flush ≡ mid.flush)
   kept-uniques key None mid new text does = (does.leaves.uniques, does.leaves.flush)
   kept-uniques key (Some item) mid new text does = (does.leaves.uniques, does.leaves.flush)
 
-  may-follow : (key : List ℕ) (o : Option Item) (mid new : Stock T) (text : List ℕ) → Does view moment (touches_one key deadline o (stock_at view moment mid)) mid new text → IsMoment (view new.shelf) moment
+  may-follow : (key : List ℕ) (o : Option Item) (mid new : Stock T) (text : List ℕ) → Did view moment (touches_one key deadline o (stock_at view moment mid)) mid new text → MayComeAt (view new.shelf) moment
   may-follow key o mid new text does = does.leaves.may_follow
 
-  keeps-most : (key : List ℕ) (o : Option Item) (mid new : Stock T) (text : List ℕ) → Does view moment (touches_one key deadline o (stock_at view moment mid)) mid new text → new.most ≡ mid.most
+  keeps-most : (key : List ℕ) (o : Option Item) (mid new : Stock T) (text : List ℕ) → Did view moment (touches_one key deadline o (stock_at view moment mid)) mid new text → new.most ≡ mid.most
   keeps-most key o mid new text does = does.leaves.most
 
-  keeps-capacity : (key : List ℕ) (o : Option Item) (mid new : Stock T) (text : List ℕ) → Does view moment (touches_one key deadline o (stock_at view moment mid)) mid new text → (view new.shelf).capacity ≡ (view mid.shelf).capacity
+  keeps-capacity : (key : List ℕ) (o : Option Item) (mid new : Stock T) (text : List ℕ) → Did view moment (touches_one key deadline o (stock_at view moment mid)) mid new text → (view new.shelf).capacity ≡ (view mid.shelf).capacity
   keeps-capacity key o mid new text does = does.leaves.capacity
 
-  pub reached_more : (key : List ℕ) (rest : List (List ℕ)) (was new : Stock T) (text named : List ℕ) → Reached (key ∷ rest) was → Does view moment (touches_one key deadline (live was key) (stock_at view moment was)) (record was { key = named }) new text → Reached rest new
+  pub reached_more : (key : List ℕ) (rest : List (List ℕ)) (was new : Stock T) (text named : List ℕ) → Reached (key ∷ rest) was → Did view moment (touches_one key deadline (live was key) (stock_at view moment was)) (record was { key = named }) new text → Reached rest new
   reached_more key rest was new text named r does =
       let mid : Stock T = record was { key = named } in
       let more = one-more r.count all key rest r.left in

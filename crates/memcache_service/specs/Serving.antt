@@ -6,7 +6,7 @@ use Rattle.memcache_model.specs.Grammar.{arrived, part, request}
 use Rattle.memcache_model.specs.Items.{live_at}
 use Rattle.memcache_model.specs.declared.fault.ProtocolError.TheVariants.{TooLong}
 use Rattle.memcache_service.specs.Shelves.{Shelved}
-use Rattle.memcache_service.specs.Stocks.{Serves, Spares, kept}
+use Rattle.memcache_service.specs.Stocks.{WritesReply, Spares, kept_until}
 use Rattle.memcache_service.specs.declared.connection.Connection.{Connection}
 use Rattle.memcache_service.specs.declared.counters.Counters.{Counters}
 use Rattle.memcache_service.specs.declared.stock.Stock.{Stock}
@@ -19,9 +19,9 @@ ends_behind command = false
 
 module _ {T : Type 0} (view : T → Shelved) (moment : ℕ) where
   -- a request is served as the definitions say, behind a flush that was due
-  abbrev pub IsServed : Request → (old new : Stock T) → (before after : List ℕ) → Type 0
-  IsServed r old new before after =
-      Serves view moment (live_at moment (kept view moment old)) r old new before after
+  abbrev pub IsRequestServed : Request → (old new : Stock T) → (before after : List ℕ) → Type 0
+  IsRequestServed r old new before after =
+      WritesReply view moment (live_at moment (kept_until view moment old)) r old new before after
 
   -- Requests were served, each that at the front of what the one before it left of the bytes, and their replies stand behind what stood
   -- before them. What is left of the bytes, how many bytes to come belong to the last request, and whether the connection ends behind it
@@ -31,7 +31,7 @@ module _ {T : Type 0} (view : T → Shelved) (moment : ℕ) where
     no_more : AreServed most first bytes skipped before first bytes skipped before false
     one_more : (mid new : Stock T) (r : Request) (used skip : ℕ) (left between after : List ℕ)
         → AreServed most first bytes skipped before mid left skip between false
-        → arrived most left ≡ request r used → IsServed r mid new between after
+        → arrived most left ≡ request r used → IsRequestServed r mid new between after
         → AreServed most first bytes skipped before new (drop used left) (used - length left) after
         (ends_behind r.command)
 

@@ -20,7 +20,7 @@ abbrev pub ShowsNothing : Shelved → Type 0
 ShowsNothing shelved = (moment : ℕ) (key : List ℕ) → shelved.items moment key ≡ None
 
 -- a call may come at this moment
-pub record IsMoment (shelved : Shelved) (moment : ℕ) : Type 0 where
+pub record MayComeAt (shelved : Shelved) (moment : ℕ) : Type 0 where
   pub later : shelved.latest ≤ moment
   pub early : moment < 2 ^ 43
 
@@ -52,7 +52,7 @@ weight_together weigh items (key ∷ keys) =
     option_map_or (weigh key) (items key) 0 + weight_together weigh items keys
 
 -- Beside at most 63 keys, which were written since the last maintenance, all that is there weighs at most the capacity.
-pub record IsBounded (weigh : List ℕ → Item → ℕ) (shelved : Shelved) : Type 0 where
+pub record IsWithinCapacity (weigh : List ℕ → Item → ℕ) (shelved : Shelved) : Type 0 where
   pub waiting : List (List ℕ)
   pub few : length waiting ≤ 63
   pub rest : (moment : ℕ) (keys : List (List ℕ)) → AreBeside waiting keys

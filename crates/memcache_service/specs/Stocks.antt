@@ -8,7 +8,7 @@ use Rattle.memcache_model.specs.Outcomes.{Outcome, new_item, says, stores}
 use Rattle.memcache_service.specs.Lines.{reply_text, said_from}
 use Rattle.memcache_service.specs.declared.replies.Reply.{Reply}
 use Rattle.memcache_service.specs.declared.replies.Reply.TheVariants.{NoMemory, NoRoom}
-use Rattle.memcache_service.specs.Shelves.{IsMoment, Shelved, live_on}
+use Rattle.memcache_service.specs.Shelves.{MayComeAt, Shelved, live_on}
 use Rattle.memcache_service.specs.declared.stock.Stock.{Stock}
 use Rattle.memcache_service.specs.declared.stock.storing.Block.{Block}
 
@@ -34,9 +34,9 @@ abbrev pub block_item : Block → Item
 block_item block = new_item block.bytes.now block.flags block.deadline
 
 -- an item with more bytes is stored, if it may have them
-abbrev pub joins : List ℕ → Option Item → model.Stock → Outcome
-joins key None stock = says (codes "NOT_STORED\r\n") stock
-joins key (Some item) stock = stores (codes "STORED\r\n") key item stock
+abbrev pub appends_to : List ℕ → Option Item → model.Stock → Outcome
+appends_to key None stock = says (codes "NOT_STORED\r\n") stock
+appends_to key (Some item) stock = stores (codes "STORED\r\n") key item stock
 
 -- nothing was changed but the key that was named, and what was counted
 pub record Spares {T : Type 0} (old new : Stock T) : Type 0 where
@@ -55,34 +55,34 @@ module _ {T : Type 0} (view : T → Shelved) where
   }
 
   -- a call at a moment leaves all of this, but for items that left by themselves
-  pub record Leaves (moment : ℕ) (all : model.Stock) (old new : Stock T) : Type 0 where
+  pub record LeavesAll (moment : ℕ) (all : model.Stock) (old new : Stock T) : Type 0 where
     pub items : (key : List ℕ) → ((stock_at moment new).items key ≡ all.items key)
         ⊎ ((stock_at moment new).items key ≡ None)
     pub uniques : new.uniques ≡ all.uniques
     pub flush : new.flush ≡ all.flush
-    pub may_follow : IsMoment (view new.shelf) moment
+    pub may_follow : MayComeAt (view new.shelf) moment
     pub most : new.most ≡ old.most
     pub capacity : (view new.shelf).capacity ≡ (view old.shelf).capacity
 
   -- it changes nothing else
   abbrev pub Keeps : ℕ → (old new : Stock T) → Type 0
-  Keeps moment old new = Leaves moment (stock_at moment old) old new
+  Keeps moment old new = LeavesAll moment (stock_at moment old) old new
 
   -- it gives the items of these keys a deadline
   abbrev pub Touches : ℕ → Option ℕ → List (List ℕ) → (old new : Stock T) → Type 0
-  Touches moment deadline keys old new = Leaves moment (record (stock_at moment old) {
+  Touches moment deadline keys old new = LeavesAll moment (record (stock_at moment old) {
     items = touched deadline keys (stock_at moment old).items;
   }) old new
 
   -- a command at a moment said this, and had this outcome
-  pub record Does (moment : ℕ) (outcome : Outcome) (old new : Stock T) (text : List ℕ) : Type 0
+  pub record Did (moment : ℕ) (outcome : Outcome) (old new : Stock T) (text : List ℕ) : Type 0
     where
       pub said : text ≡ outcome.reply
-      pub leaves : Leaves moment outcome.stock old new
+      pub leaves : LeavesAll moment outcome.stock old new
 
   -- what it has at a moment, live or not
-  abbrev pub kept : ℕ → Stock T → model.Stock
-  kept moment stock = record {
+  abbrev pub kept_until : ℕ → Stock T → model.Stock
+  kept_until moment stock = record {
     items = (view stock.shelf).items moment;
     uniques = stock.uniques;
     flush = stock.flush;
@@ -91,13 +91,13 @@ module _ {T : Type 0} (view : T → Shelved) where
   -- a command that is refused leaves all exactly as it was, but that as many of the keys of a `gat` as it came to have their new deadline
   abbrev pub LeavesRefused : ℕ → Command → (all : model.Stock) → (old new : Stock T) → Type 0
   LeavesRefused moment (gat uniques exptime keys) all old new =
-      (count : ℕ) × Leaves moment (record all {
+      (count : ℕ) × LeavesAll moment (record all {
         items = touched (deadline_of moment exptime) (take count keys) all.items;
       }) old new
   LeavesRefused moment command all old new = stock_at moment new ≡ all
 
   -- there was no memory for a command
-  pub record Refuses (moment : ℕ) (command : Command) (all : model.Stock) (old new : Stock T)
+  pub record IsOutOfMemory (moment : ℕ) (command : Command) (all : model.Stock) (old new : Stock T)
       (text : List ℕ) : Type 0 where
     pub says : IsRefusal text
     pub keeps : LeavesRefused moment command all old new
@@ -107,18 +107,18 @@ module _ {T : Type 0} (view : T → Shelved) where
   abbrev pub DoesIfRoom : ℕ → Command → (all : model.Stock) → (old new : Stock T)
       → (text : List ℕ) → Type 0
   DoesIfRoom moment command all old new text =
-      Does moment (answer (service_of old.most text) moment command all) old new text
-      ⊎ Refuses moment command all old new text
+      Did moment (answer (service_of old.most text) moment command all) old new text
+      ⊎ IsOutOfMemory moment command all old new text
 
   -- the same, by what stood before its reply, what stands there then, and the reply that was returned
-  pub record Answers (moment : ℕ) (command : Command) (old new : Stock T) (before after : List ℕ)
+  pub record AnswersCommand (moment : ℕ) (command : Command) (old new : Stock T) (before after : List ℕ)
       (reply : Reply) : Type 0 where
     pub begun : take (length before) after ≡ before
     pub does : DoesIfRoom moment command (stock_at moment old) old new
         (said_from (length before) after reply)
 
   -- a request wrote its reply behind what stood there, unless it is quiet
-  pub record Serves (moment : ℕ) (all : model.Stock) (request : Request) (old new : Stock T)
+  pub record WritesReply (moment : ℕ) (all : model.Stock) (request : Request) (old new : Stock T)
       (before after : List ℕ) : Type 0 where
     pub text : List ℕ
     pub written : after ≡ before ++ (if request.quiet then [] else text)

@@ -12,7 +12,7 @@ pub record IsUnused (connection : Connection) : Type 0 where
   pub opened : connection.is_closed ≡ false
 
 -- its replies were taken, and nothing else of it changed
-pub record AreTaken (before after : Connection) : Type 0 where
+pub record RepliesAreTaken (before after : Connection) : Type 0 where
   pub output : after.output.items ≡ []
   pub same : after ≡ record before { output = after.output }
 
@@ -27,4 +27,4 @@ pub record HasOpened (conn : ℕ) (old new : Slab Connection) : Type 0 where
 abbrev pub HasTaken : {T : Type 0} → (told : List ℕ) → (before after : Connection)
     → (first new : Stock T) → Type 0
 HasTaken told before after first new =
-    (told ≡ before.output.items) × AreTaken before after × (new ≡ first)
+    (told ≡ before.output.items) × RepliesAreTaken before after × (new ≡ first)

@@ -14,12 +14,12 @@ module _ {T : Type 0} {shelf : Ghosts T} where
   connection_of conn service = get service.connections conn
 
   -- the moment of the last call
-  abbrev pub moment_of : Service T shelf → ℕ
-  moment_of service = service.moment
+  abbrev pub moment_of_last_call : Service T shelf → ℕ
+  moment_of_last_call service = service.moment
 
   -- a connection was opened
-  abbrev pub Opens : ℕ → (p q : Service T shelf) → Type 0
-  Opens conn p q = HasOpened conn p.connections q.connections
+  abbrev pub OpensTalk : ℕ → (p q : Service T shelf) → Type 0
+  OpensTalk conn p q = HasOpened conn p.connections q.connections
 
   -- a piece was fed to a connection that had not ended, and the requests that it completes were served
   abbrev pub Feeds : ℕ → List ℕ → (p q : Service T shelf) → Type 0

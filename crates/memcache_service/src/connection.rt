@@ -1,10 +1,10 @@
 //! A connection: the bytes that no request has used, and the replies that were not taken.
 ghost use Rattle.std.specs.Prelude.{◌≡◌, ◌↔◌, ◌≤◌, ◌-◌, ◌++◌, ℕ, List, IfOk, IsOk, OnOk, OnErr, IsTrue, true, false, drop, length, vec_len};
 ghost use Rattle.memcache_lines.specs.Said.{asks};
-ghost use Rattle.memcache_service.specs.Serving.{FailsToFeed, Feeds, HasLacked, HasRun, IsServed, ends_behind};
-ghost use Rattle.memcache_service.specs.Shelves.{IsMoment};
+ghost use Rattle.memcache_service.specs.Serving.{FailsToFeed, Feeds, HasLacked, HasRun, IsRequestServed, ends_behind};
+ghost use Rattle.memcache_service.specs.Shelves.{MayComeAt};
 ghost use Rattle.memcache_service.specs.Stocks.{Spares};
-ghost use Rattle.memcache_service.specs.Talking.{AreTaken, IsUnused};
+ghost use Rattle.memcache_service.specs.Talking.{RepliesAreTaken, IsUnused};
 
 use crate::shelf::Shelf;
 use crate::stock::Stock;
@@ -68,7 +68,7 @@ impl Connection {
     /// Moves the replies out, in exchange for an empty buffer.
     pub fn take_output(&mut self, into: &mut Vec<u8>)
         ensures taken { into.new.items ≡ self.old.output.items }
-        ensures left { AreTaken self.old self.new }
+        ensures left { RepliesAreTaken self.old self.new }
     {
         into.clear();
         mem::swap(&mut self.output, into);
@@ -84,14 +84,14 @@ impl Connection {
         piece: &[u8],
         moment: u64,
     ) -> Result<(), AllocError>
-        requires { IsMoment (T.view stock.old.shelf) moment }
+        requires { MayComeAt (T.view stock.old.shelf) moment }
         ensures feeds { self.old.is_closed ≡ false → OnOk result
             (Feeds T.view moment piece.now self.old self.new stock.old stock.new) }
         ensures lacks { OnErr result
             (FailsToFeed T.view moment piece.now self.old self.new stock.old stock.new) }
         ensures closed { self.old.is_closed ≡ true
             → IsOk result × (self.new ≡ self.old) × (stock.new ≡ stock.old) }
-        ensures may_follow { IsMoment (T.view stock.new.shelf) moment }
+        ensures may_follow { MayComeAt (T.view stock.new.shelf) moment }
     {
         if self.is_closed {
             return Ok(());
@@ -112,7 +112,7 @@ impl Connection {
         piece: &[u8],
         moment: u64,
     ) -> Result<(), AllocError>
-        requires in_time { IsMoment (T.view stock.old.shelf) moment }
+        requires in_time { MayComeAt (T.view stock.old.shelf) moment }
         requires going { self.old.is_closed ≡ false }
         ensures feeds { OnOk result
             (Feeds T.view moment piece.now self.old self.new stock.old stock.new) }
@@ -120,7 +120,7 @@ impl Connection {
             (self.old.input.items ++ drop self.old.skip piece.now)
             (self.old.skip - length piece.now) self.old.output.items stock.new
             self.new.output.items) }
-        ensures may_follow { IsMoment (T.view stock.new.shelf) moment }
+        ensures may_follow { MayComeAt (T.view stock.new.shelf) moment }
     {
         let piece = self.pass_over(piece);
         if self.input.is_empty() {
@@ -165,7 +165,7 @@ impl Connection {
 
     /// Runs the requests in the bytes that were kept.
     fn run_kept<T: Shelf>(&mut self, stock: &mut Stock<T>, moment: u64) -> Result<(), AllocError>
-        requires in_time { IsMoment (T.view stock.old.shelf) moment }
+        requires in_time { MayComeAt (T.view stock.old.shelf) moment }
         requires going { self.old.is_closed ≡ false }
         ensures ran { OnOk result ((left : List ℕ) × HasRun T.view moment stock.old.most stock.old
             self.old.input.items self.old.skip self.old.output.items stock.new left self.new
@@ -173,7 +173,7 @@ impl Connection {
         ensures lacks { OnErr result (HasLacked T.view moment stock.old.most stock.old
             self.old.input.items self.old.skip self.old.output.items stock.new
             self.new.output.items) }
-        ensures may_follow { IsMoment (T.view stock.new.shelf) moment }
+        ensures may_follow { MayComeAt (T.view stock.new.shelf) moment }
     {
         let mut input = Vec::new(self.alloc);
         mem::swap(&mut self.input, &mut input);
@@ -204,7 +204,7 @@ impl Connection {
         bytes: &[u8],
         moment: u64,
     ) -> Result<usize, AllocError>
-        requires in_time { IsMoment (T.view stock.old.shelf) moment }
+        requires in_time { MayComeAt (T.view stock.old.shelf) moment }
         requires going { self.old.is_closed ≡ false }
         ensures used { IfOk result (λ used. used ≤ length bytes.now) }
         ensures ran { IfOk result (λ used. HasRun T.view moment stock.old.most stock.old bytes.now
@@ -212,7 +212,7 @@ impl Connection {
         ensures lacks { OnErr result (HasLacked T.view moment stock.old.most stock.old bytes.now
             self.old.skip self.old.output.items stock.new self.new.output.items) }
         ensures kept { self.new.input ≡ self.old.input }
-        ensures may_follow { IsMoment (T.view stock.new.shelf) moment }
+        ensures may_follow { MayComeAt (T.view stock.new.shelf) moment }
     {
         let mut start = 0;
         while self.may_run() {
@@ -245,8 +245,8 @@ impl Connection {
         request: &Request<'_>,
         moment: u64,
     ) -> Result<(), AllocError>
-        requires { IsMoment (T.view stock.old.shelf) moment }
-        ensures served { OnOk result (IsServed T.view moment (record {
+        requires { MayComeAt (T.view stock.old.shelf) moment }
+        ensures served { OnOk result (IsRequestServed T.view moment (record {
           command = asks request.now.command;
           quiet = request.now.quiet;
         }) stock.old stock.new self.old.output.items self.new.output.items) }
@@ -255,7 +255,7 @@ impl Connection {
         ensures refused { OnErr result (Spares stock.old stock.new
             × (self.new.output.items ≡ self.old.output.items)) }
         ensures kept { self.new.input ≡ self.old.input }
-        ensures may_follow { IsMoment (T.view stock.new.shelf) moment }
+        ensures may_follow { MayComeAt (T.view stock.new.shelf) moment }
         ensures most { stock.new.most ≡ stock.old.most }
     {
         stock.serve(request, moment, &mut self.output)?;

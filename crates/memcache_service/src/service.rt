@@ -3,7 +3,7 @@ ghost use Rattle.slab.specs.Slab.{Updates, get};
 ghost use Rattle.std.specs.Prelude.{◌≡◌, ◌≢◌, ◌↔◌, ◌≤◌, ◌<◌, ◌^◌, ℕ, [], None, Ok, IfOk, IsTrue, MatchOption, OnErr, false, length};
 ghost use Rattle.memcache_service.specs.Serving.{FailsToFeed, HasFed, IsDoneFor};
 ghost use Rattle.memcache_service.specs.Talking.{HasOpened, HasTaken};
-ghost use Rattle.memcache_service.specs.Shelves.{IsBounded, IsMoment};
+ghost use Rattle.memcache_service.specs.Shelves.{IsWithinCapacity, MayComeAt};
 
 use crate::connection::Connection;
 use crate::counters::{Counters, Tally};
@@ -25,13 +25,13 @@ pub struct Service<T: Shelf> {
     stock: Stock<T>,
     connections: Slab<Connection>,
     moment: u64,
-    ghost in_time: { IsMoment (T.view stock.shelf) moment },
+    ghost in_time: { MayComeAt (T.view stock.shelf) moment },
 }
 
 impl<T: Shelf> Service<T> {
     /// Creates a service over a shelf, without connections. Returns an error if there is not enough memory.
     pub fn new(alloc: Global, shelf: T, setup: Setup, moment: u64) -> Result<Service<T>, AllocError>
-        requires { IsMoment (T.view shelf) moment }
+        requires { MayComeAt (T.view shelf) moment }
         ensures shelf { IfOk result (λ made. made.stock.shelf ≡ shelf) }
         ensures fresh { IfOk result (λ made. (made.stock.uniques ≡ 0) × (made.stock.flush ≡ None)
             × (made.moment ≡ moment)) }
@@ -122,7 +122,7 @@ impl<T: Shelf> Service<T> {
     /// Does nothing. Its contract bounds what the items weigh together: beside at most 63 keys, which were written since the last maintenance,
     /// at most the shelf's capacity.
     pub fn bounded(&self)
-        ensures { ∥ IsBounded T.weigh (T.view self.now.stock.shelf) ∥₁ }
+        ensures { ∥ IsWithinCapacity T.weigh (T.view self.now.stock.shelf) ∥₁ }
     {
         self.stock.shelf.bounded();
     }

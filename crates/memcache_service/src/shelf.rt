@@ -1,7 +1,7 @@
 //! Items by key, in a cache.
 ghost use Rattle.std.specs.Prelude.{◌≡◌, ℕ, List, OnOk, OnErr, Some, None, is_some, option_map};
 ghost use Rattle.memcache_model.specs.Items.{Item, nothing, with_item};
-ghost use Rattle.memcache_service.specs.Shelves.{Becomes, IsBounded, IsMoment, OnlyLeave, Shelved, live_on};
+ghost use Rattle.memcache_service.specs.Shelves.{Becomes, IsWithinCapacity, MayComeAt, OnlyLeave, Shelved, live_on};
 
 use crate::counters::Counters;
 use crate::item::StoredItem;
@@ -22,24 +22,24 @@ pub trait Shelf: Drop {
 
     /// Does nothing. Its contract bounds what the items weigh together.
     fn bounded(&self)
-        ensures { ∥ IsBounded weigh (view self.now) ∥₁ };
+        ensures { ∥ IsWithinCapacity weigh (view self.now) ∥₁ };
 
     /// Returns the live item of a key, or `None` if there is none. The call is not a use of the item.
     fn peek(&self, key: &Key, moment: u64) -> Option<&StoredItem>
-        requires { IsMoment (view self.now) moment }
+        requires { MayComeAt (view self.now) moment }
         ensures { option_map (λ item. item.now) result
             ≡ live_on (view self.now) moment key.now };
 
     /// Uses the live item of a key, and returns whether there is one.
     fn note_use(&mut self, key: &Key, moment: u64) -> bool
-        requires { IsMoment (view self.old) moment }
+        requires { MayComeAt (view self.old) moment }
         ensures found { result ≡ is_some (live_on (view self.old) moment key.now) }
         ensures used { Becomes moment ((view self.old).items moment) (view self.new) }
         ensures capacity { (view self.new).capacity ≡ (view self.old).capacity };
 
     /// Stores an item under a key. Returns an error if there is not enough memory; then nothing has changed.
     fn put(&mut self, key: &Key, item: StoredItem, moment: u64) -> Result<(), AllocError>
-        requires { IsMoment (view self.old) moment }
+        requires { MayComeAt (view self.old) moment }
         ensures puts { OnOk result (Becomes moment
             (with_item key.now (Some item) ((view self.old).items moment)) (view self.new)) }
         ensures capacity { (view self.new).capacity ≡ (view self.old).capacity }
@@ -47,7 +47,7 @@ pub trait Shelf: Drop {
 
     /// Removes the item of a key. Returns an error if there is not enough memory; then nothing has changed.
     fn remove(&mut self, key: &Key, moment: u64) -> Result<(), AllocError>
-        requires { IsMoment (view self.old) moment }
+        requires { MayComeAt (view self.old) moment }
         ensures removes { OnOk result
             (Becomes moment (with_item key.now None ((view self.old).items moment)) (view self.new)) }
         ensures capacity { (view self.new).capacity ≡ (view self.old).capacity }
@@ -55,7 +55,7 @@ pub trait Shelf: Drop {
 
     /// Removes all items. The call allocates nothing. Returns an error if it was made 2^64 - 1 times; then nothing has changed.
     fn clear(&mut self, moment: u64) -> Result<(), AllocError>
-        requires { IsMoment (view self.old) moment }
+        requires { MayComeAt (view self.old) moment }
         ensures clears { OnOk result (Becomes moment nothing (view self.new)) }
         ensures capacity { (view self.new).capacity ≡ (view self.old).capacity }
         ensures unchanged { OnErr result (self.new ≡ self.old) };

@@ -4,8 +4,8 @@ ghost use Rattle.memcache_lines.specs.Said.{asks};
 ghost use Rattle.memcache_model.specs.Answers.{answer};
 ghost use Rattle.memcache_model.specs.Items.{live_at, nothing};
 ghost use Rattle.memcache_service.specs.Lines.{reply_text, said_from};
-ghost use Rattle.memcache_service.specs.Shelves.{IsMoment};
-ghost use Rattle.memcache_service.specs.Stocks.{Answers, Does, Leaves, Serves, Spares, is_short, kept, service_of, stock_at};
+ghost use Rattle.memcache_service.specs.Shelves.{MayComeAt};
+ghost use Rattle.memcache_service.specs.Stocks.{AnswersCommand, Did, LeavesAll, WritesReply, Spares, is_short, kept_until, service_of, stock_at};
 
 use crate::counters::{Counters, Tally};
 use crate::replies::{Reply, SHORT};
@@ -62,7 +62,7 @@ pub struct Stock<T: Shelf> {
 impl<T: Shelf> Stock<T> {
     /// Creates a stock over a shelf, at a moment. Returns an error if there is not enough memory.
     pub fn new(alloc: Global, shelf: T, setup: Setup, moment: u64) -> Result<Stock<T>, AllocError>
-        requires { IsMoment (T.view shelf) moment }
+        requires { MayComeAt (T.view shelf) moment }
         ensures shelf { IfOk result (λ made. made.shelf ≡ shelf) }
         ensures fresh { IfOk result (λ made. (made.uniques ≡ 0) × (made.flush ≡ None)) }
         ensures most { IfOk result (λ made. made.most ≡ setup.item_size) }
@@ -90,14 +90,14 @@ impl<T: Shelf> Stock<T> {
         moment: u64,
         output: &mut Vec<u8>,
     ) -> Result<(), AllocError>
-        requires { IsMoment (T.view self.old.shelf) moment }
-        ensures served { OnOk result (Serves T.view moment
-            (live_at moment (kept T.view moment self.old))
+        requires { MayComeAt (T.view self.old.shelf) moment }
+        ensures served { OnOk result (WritesReply T.view moment
+            (live_at moment (kept_until T.view moment self.old))
             (record { command = asks request.now.command; quiet = request.now.quiet })
             self.old self.new output.old.items output.new.items) }
         ensures refused { OnErr result (Spares self.old self.new
             × (output.new.items ≡ output.old.items)) }
-        ensures may_follow { IsMoment (T.view self.new.shelf) moment }
+        ensures may_follow { MayComeAt (T.view self.new.shelf) moment }
         ensures most { self.new.most ≡ self.old.most }
     {
         output.reserve(SHORT)?;
@@ -111,11 +111,11 @@ impl<T: Shelf> Stock<T> {
 
     /// Takes all items away, if the moment for it has come.
     fn flush_if_due(&mut self, moment: u64) -> Result<(), AllocError>
-        requires { IsMoment (T.view self.old.shelf) moment }
+        requires { MayComeAt (T.view self.old.shelf) moment }
         ensures ok { OnOk result (stock_at T.view moment self.new
-            ≡ live_at moment (kept T.view moment self.old)) }
+            ≡ live_at moment (kept_until T.view moment self.old)) }
         ensures err { OnErr result (Spares self.old self.new) }
-        ensures may_follow { IsMoment (T.view self.new.shelf) moment }
+        ensures may_follow { MayComeAt (T.view self.new.shelf) moment }
         ensures most { self.new.most ≡ self.old.most }
         ensures capacity { (T.view self.new.shelf).capacity ≡ (T.view self.old.shelf).capacity }
     {
@@ -133,12 +133,12 @@ impl<T: Shelf> Stock<T> {
 
     /// Takes all items away.
     fn flush_now(&mut self, moment: u64) -> Result<(), AllocError>
-        requires { IsMoment (T.view self.old.shelf) moment }
-        ensures ok { OnOk result (Leaves T.view moment
+        requires { MayComeAt (T.view self.old.shelf) moment }
+        ensures ok { OnOk result (LeavesAll T.view moment
             (record (stock_at T.view moment self.old) { items = nothing; flush = None }) self.old
             self.new) }
         ensures err { OnErr result (Spares self.old self.new) }
-        ensures may_follow { IsMoment (T.view self.new.shelf) moment }
+        ensures may_follow { MayComeAt (T.view self.new.shelf) moment }
         ensures most { self.new.most ≡ self.old.most }
         ensures capacity { (T.view self.new.shelf).capacity ≡ (T.view self.old.shelf).capacity }
     {
@@ -150,10 +150,10 @@ impl<T: Shelf> Stock<T> {
     /// Does what a command asks for. It writes the reply, or returns it if it is one of a line.
     #[tactic(auto, using(crate::proofs::Keeping::may_follow, crate::proofs::Keeping::most_kept))]
     fn answer(&mut self, command: &Command<'_>, moment: u64, output: &mut Vec<u8>) -> Reply
-        requires { IsMoment (T.view self.old.shelf) moment }
-        ensures answered { Answers T.view moment (asks command.now) self.old self.new
+        requires { MayComeAt (T.view self.old.shelf) moment }
+        ensures answered { AnswersCommand T.view moment (asks command.now) self.old self.new
             output.old.items output.new.items result }
-        ensures may_follow { IsMoment (T.view self.new.shelf) moment }
+        ensures may_follow { MayComeAt (T.view self.new.shelf) moment }
         ensures most { self.new.most ≡ self.old.most }
         ensures capacity { vec_capacity output.old ≤ vec_capacity output.new }
     {
@@ -191,12 +191,12 @@ impl<T: Shelf> Stock<T> {
     /// Does what a command asks for whose reply is one of a line.
     #[tactic(auto, using(crate::proofs::Keeping::may_follow, crate::proofs::Keeping::most_kept))]
     fn answer_shortly(&mut self, command: &Command<'_>, moment: u64) -> Result<Reply, AllocError>
-        requires { IsMoment (T.view self.old.shelf) moment }
-        ensures ok { IfOk result (λ reply. is_short (asks command.now) ≡ true → Does T.view moment
+        requires { MayComeAt (T.view self.old.shelf) moment }
+        ensures ok { IfOk result (λ reply. is_short (asks command.now) ≡ true → Did T.view moment
             (answer (service_of self.old.most (reply_text reply)) moment (asks command.now)
             (stock_at T.view moment self.old)) self.old self.new (reply_text reply)) }
         ensures err { OnErr result (Spares self.old self.new) }
-        ensures may_follow { IsMoment (T.view self.new.shelf) moment }
+        ensures may_follow { MayComeAt (T.view self.new.shelf) moment }
         ensures most { self.new.most ≡ self.old.most }
     {
         match *command {

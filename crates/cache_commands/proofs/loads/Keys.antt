@@ -1,5 +1,5 @@
 -- What is known of the numbers and the keys of loads, when one is sent and as they change.
-use Rattle.std.proofs.Common.{cond, refl, sym, ap, ◌∙◌, arith, ◌≡◌, ℕ, suc, ◌+◌, ◌-◌, ◌≤◌, Bool, true, false, not, ◌==◌, ◌&&◌, ◌||◌, List, [], ◌∷◌, ◌++◌, length, map, nat_le, if◌then◌else◌}
+use Rattle.std.proofs.Common.{refl, sym, ap, ◌∙◌, arith, ◌≡◌, ℕ, suc, ◌+◌, ◌-◌, ◌≤◌, Bool, true, false, not, ◌==◌, ◌&&◌, ◌||◌, List, [], ◌∷◌, ◌++◌, length, map, nat_le}
 use Rattle.std.proofs.lemmas.Bool.{and_from, and_parts, eq-eqb, eqb-true, le-leb, leb-true}
 use Rattle.std.proofs.lemmas.Bool.Decides.{nat_tests}
 use Rattle.std.proofs.lemmas.List.{length-append}
@@ -16,11 +16,7 @@ use Rattle.std.proofs.lemmas.Slice.Eq.{bytes_eq-Decides}
 -- what is so of all is so of some
 pub all-filter : {X : Type 0} (p q : X → Bool) (xs : List X) → list_all q xs ≡ true → list_all q (filter p xs) ≡ true
 all-filter p q [] e = refl
-all-filter p q (x ∷ xs) e = let parts = and_parts (q x) (list_all q xs) e in go (p x) parts.0 (all-filter p q xs parts.1)
-  where
-    go : (b : Bool) → q x ≡ true → list_all q (filter p xs) ≡ true → list_all q (cond b (x ∷ filter p xs) (filter p xs)) ≡ true
-    go true here rest = and_from (q x) (list_all q (filter p xs)) (here) (rest)
-    go false here rest = rest
+all-filter p q (x ∷ xs) e = let parts = and_parts (q x) (list_all q xs) e in let rest = all-filter p q xs parts.1 in grind (arith, parts, rest)
 
 -- what follows of each
 pub all-on : {X : Type 0} (p q : X → Bool) → ((x : X) → p x ≡ true → q x ≡ true) → (xs : List X) → list_all p xs ≡ true → list_all q xs ≡ true
@@ -93,12 +89,8 @@ keys-more ns before b load loads outs out turn few all is number keyed have =
     list_all-append (has_its_key (load ∷ loads)) outs (out ∷ [])
     ∙ and_from (have_their_keys (load ∷ loads) outs) (has_its_key (load ∷ loads) out && true) (keys-before b load loads outs is (in-turn-below ns before b outs turn few) have) (and_from (has_its_key (load ∷ loads) out) true (and_from (agrees_on out load) (has_its_key loads out) own (keys-behind b out loads number all)) refl)
   where
-    either : (t : Bool) → (not t || true) ≡ true
-    either true = refl
-    either false = refl
-
     own : agrees_on out load ≡ true
-    own = ap (λ t. not (load.number == out.0.number) || t) keyed ∙ either (load.number == out.0.number)
+    own = grind (arith, keyed)
 
 -- ---- loads that change, but for their numbers and keys
 
@@ -116,18 +108,10 @@ keys-filtered p loads outs have = all-on (has_its_key loads) (has_its_key (filte
 -- ---- a connection that waits for a load under way
 
 waiting-number : (conn : ℕ) (key : List ℕ) (l : PendingLoad) → (with_waiting conn key l).number ≡ l.number
-waiting-number conn key l = go (same l.key key)
-  where
-    go : (b : Bool) → (if b then record l { waiting = l.waiting ++ conn ∷ [] } else l).number ≡ l.number
-    go true = refl
-    go false = refl
+waiting-number conn key l = grind arith
 
 waiting-key : (conn : ℕ) (key : List ℕ) (l : PendingLoad) → (with_waiting conn key l).key ≡ l.key
-waiting-key conn key l = go (same l.key key)
-  where
-    go : (b : Bool) → (if b then record l { waiting = l.waiting ++ conn ∷ [] } else l).key ≡ l.key
-    go true = refl
-    go false = refl
+waiting-key conn key l = grind arith
 
 pub joined-keys : (conn : ℕ) (key : List ℕ) (loads : List PendingLoad) (outs : List (LoadId × List ℕ)) → have_their_keys loads outs ≡ true → have_their_keys (map (with_waiting conn key) loads) outs ≡ true
 joined-keys conn key = keys-mapped (with_waiting conn key) (waiting-number conn key) (waiting-key conn key)

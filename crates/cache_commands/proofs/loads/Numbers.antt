@@ -1,8 +1,8 @@
 -- Loads by number: what a look-up finds there, and what a change leaves.
-use Rattle.std.proofs.Common.{cond, Result, Err, OnOk, OnErr, Bor, refl, sym, ap, ◌∙◌, arith, ◌<◌, subst, true≢false, suc, ◌≤◌, nat_le, is_some, All}
+use Rattle.std.proofs.Common.{cond, Result, Err, OnOk, OnErr, Bor, refl, sym, ap, ◌∙◌, arith, ◌<◌, true≢false, suc, ◌≤◌, nat_le, is_some, All}
 use Rattle.std.proofs.lemmas.Bool.{and_from, and_parts, eq-eqb, eqb-true}
 use Rattle.std.proofs.lemmas.Bool.Decides.{nat_tests}
-use Rattle.std.proofs.lemmas.Option.{none-some, same_Some}
+use Rattle.std.proofs.lemmas.Option.{none-some}
 use Rattle.std.specs.BTreeMap.{insert_entry}
 use Rattle.std.specs.List.{filter, AllByRecursion}
 use Rattle.std.specs.Map.{lookup, remove_entry, set_value}
@@ -50,11 +50,9 @@ pub falling-filtered : (p : PendingLoad → Bool) (ps : List PendingLoad) → ar
 falling-filtered p [] falls = refl
 falling-filtered p (x ∷ xs) falls =
     let parts = and_parts (are_below x.number xs) (are_falling xs) falls in
-    go (p x) (all-filter p (λ (l : PendingLoad). nat_lt l.number x.number) xs parts.0) (falling-filtered p xs parts.1)
-  where
-    go : (b : Bool) → are_below x.number (filter p xs) ≡ true → are_falling (filter p xs) ≡ true → are_falling (cond b (x ∷ filter p xs) (filter p xs)) ≡ true
-    go true below rest = and_from (are_below x.number (filter p xs)) (are_falling (filter p xs)) below rest
-    go false below rest = rest
+    let below = all-filter p (λ (l : PendingLoad). nat_lt l.number x.number) xs parts.0 in
+    let rest = falling-filtered p xs parts.1 in
+    grind (arith, below, rest)
 
 pub falling-mapped : (f : PendingLoad → PendingLoad) → ((p : PendingLoad) → (f p).number ≡ p.number) → (ps : List PendingLoad) → are_falling (map f ps) ≡ are_falling ps
 falling-mapped f numbers [] = refl
@@ -83,12 +81,7 @@ pub found-at : (n : ℕ) (es : Entries) → have_own_numbers es ≡ true → opt
 found-at n [] own = refl
 found-at n (e ∷ es) own =
     let parts = and_parts (e.0.0 == e.1.number) (have_own_numbers es) own in
-    ap (λ b. option_map pending_load (cond b (Some e.1) (lookup (at n) es))) (hit n e parts.0) ∙ go (e.1.number == n) (found-at n es parts.1)
-  where
-    go : (b : Bool) → option_map pending_load (lookup (at n) es) ≡ load_numbered n (loads_of es)
-        → option_map pending_load (cond b (Some e.1) (lookup (at n) es)) ≡ cond b (Some (pending_load e.1)) (load_numbered n (loads_of es))
-    go true next = refl
-    go false next = next
+    ap (λ b. option_map pending_load (cond b (Some e.1) (lookup (at n) es))) (hit n e parts.0) ∙ (let next = found-at n es parts.1 in grind (arith, next))
 
 -- a load taken out
 pub removed-is : (n : ℕ) (es : Entries) → have_own_numbers es ≡ true → are_falling (loads_of es) ≡ true → loads_of (remove_entry (at n) es) ≡ filter (λ p. not (p.number == n)) (loads_of es)
@@ -96,22 +89,17 @@ removed-is n [] own falls = refl
 removed-is n (e ∷ es) own falls =
     let parts = and_parts (e.0.0 == e.1.number) (have_own_numbers es) own in
     let falling = and_parts (are_below e.1.number (loads_of es)) (are_falling (loads_of es)) falls in
-    ap (λ b. loads_of (cond b es (e ∷ remove_entry (at n) es))) (hit n e parts.0) ∙ go (e.1.number == n) refl falling.0 (removed-is n es parts.1 falling.1)
-  where
-    go : (b : Bool) → (e.1.number == n) ≡ b → are_below e.1.number (loads_of es) ≡ true → loads_of (remove_entry (at n) es) ≡ filter (λ p. not (p.number == n)) (loads_of es)
-        → loads_of (cond b es (e ∷ remove_entry (at n) es)) ≡ cond (not b) (pending_load e.1 ∷ filter (λ p. not (p.number == n)) (loads_of es)) (filter (λ p. not (p.number == n)) (loads_of es))
-    go true is below next = sym (others-kept n (loads_of es) (ap (λ m. are_below m (loads_of es)) (sym (eqb-true e.1.number n is)) ∙ below))
-    go false is below next = ap (λ ps. pending_load e.1 ∷ ps) next
+    let here = hit n e parts.0 in
+    let next = removed-is n es parts.1 falling.1 in
+    let kept = others-kept e.1.number (loads_of es) falling.0 in
+    grind (arith, nat_tests, here, next, kept)
 
 removed-own : (n : ℕ) (es : Entries) → have_own_numbers es ≡ true → have_own_numbers (remove_entry (at n) es) ≡ true
 removed-own n [] own = refl
 removed-own n (e ∷ es) own =
     let parts = and_parts (e.0.0 == e.1.number) (have_own_numbers es) own in
-    go (at n e.0) parts.0 parts.1 (removed-own n es parts.1)
-  where
-    go : (b : Bool) → (e.0.0 == e.1.number) ≡ true → have_own_numbers es ≡ true → have_own_numbers (remove_entry (at n) es) ≡ true → have_own_numbers (cond b es (e ∷ remove_entry (at n) es)) ≡ true
-    go true here rest next = rest
-    go false here rest next = and_from (e.0.0 == e.1.number) (have_own_numbers (remove_entry (at n) es)) here next
+    let next = removed-own n es parts.1 in
+    grind (arith, parts, next)
 
 pub removed-kept : (n : ℕ) (es new : Entries) → new ≡ remove_entry (at n) es → have_own_numbers es ≡ true → are_falling (loads_of es) ≡ true → (have_own_numbers new ≡ true) × ((are_falling (loads_of new) ≡ true) × ⊤)
 removed-kept n es new is own falls =
@@ -127,16 +115,9 @@ changed-is n f (e ∷ es) was is own falls found does =
     let parts = and_parts (e.0.0 == e.1.number) (have_own_numbers es) own in
     let falling = and_parts (are_below e.1.number (loads_of es)) (are_falling (loads_of es)) falls in
     let here = hit n e parts.0 in
-    ap (λ b. loads_of (cond b ((e.0, is) ∷ es) (e ∷ set_value (at n) es is))) here
-    ∙ go (e.1.number == n) refl falling.0 (ap (λ b. cond b (Some e.1) (lookup (at n) es)) (sym here) ∙ found) (λ h. changed-is n f es was is parts.1 falling.1 h does)
-  where
-    go : (b : Bool) → (e.1.number == n) ≡ b → are_below e.1.number (loads_of es) ≡ true → cond b (Some e.1) (lookup (at n) es) ≡ Some was
-        → (lookup (at n) es ≡ Some was → loads_of (set_value (at n) es is) ≡ map (changed_at number_of n f) (loads_of es))
-        → loads_of (cond b ((e.0, is) ∷ es) (e ∷ set_value (at n) es is)) ≡ (if b then f (pending_load e.1) else pending_load e.1) ∷ map (changed_at number_of n f) (loads_of es)
-    go true number below h next =
-        ap (λ p. p ∷ loads_of es) (does ∙ ap (λ (l : Load). f (pending_load l)) (sym (same_Some e.1 was h)))
-        ∙ ap (λ ps. f (pending_load e.1) ∷ ps) (sym (others-same n f (loads_of es) (ap (λ m. are_below m (loads_of es)) (sym (eqb-true e.1.number n number)) ∙ below)))
-    go false number below h next = ap (λ ps. pending_load e.1 ∷ ps) (next h)
+    let next = λ (h : lookup (at n) es ≡ Some was). changed-is n f es was is parts.1 falling.1 h does in
+    let kept = others-same e.1.number f (loads_of es) falling.0 in
+    grind (arith, nat_tests, here, next, kept)
 
 -- there is none to change
 pub unchanged-is : (n : ℕ) (f : PendingLoad → PendingLoad) (es : Entries) → have_own_numbers es ≡ true → lookup (at n) es ≡ None → map (changed_at number_of n f) (loads_of es) ≡ loads_of es
@@ -144,31 +125,18 @@ unchanged-is n f [] own none = refl
 unchanged-is n f (e ∷ es) own none =
     let parts = and_parts (e.0.0 == e.1.number) (have_own_numbers es) own in
     let here = hit n e parts.0 in
-    go (e.1.number == n) (ap (λ b. cond b (Some e.1) (lookup (at n) es)) (sym here) ∙ none) (λ h. unchanged-is n f es parts.1 h)
-  where
-    go : (b : Bool) → cond b (Some e.1) (lookup (at n) es) ≡ None → (lookup (at n) es ≡ None → map (changed_at number_of n f) (loads_of es) ≡ loads_of es)
-        → (if b then f (pending_load e.1) else pending_load e.1) ∷ map (changed_at number_of n f) (loads_of es) ≡ pending_load e.1 ∷ loads_of es
-    go true h next = absurd (none-some e.1 (sym h))
-    go false h next = ap (λ ps. pending_load e.1 ∷ ps) (next h)
+    let next = unchanged-is n f es parts.1 in
+    grind (arith, here, next)
 
 changed-own : (n : ℕ) (es : Entries) (was is : Load) → have_own_numbers es ≡ true → lookup (at n) es ≡ Some was → is.number ≡ was.number → have_own_numbers (set_value (at n) es is) ≡ true
 changed-own n [] was is own found same = refl
 changed-own n (e ∷ es) was is own found same =
     let parts = and_parts (e.0.0 == e.1.number) (have_own_numbers es) own in
-    go (at n e.0) parts.0 parts.1 found (λ h. changed-own n es was is parts.1 h same)
-  where
-    go : (b : Bool) → (e.0.0 == e.1.number) ≡ true → have_own_numbers es ≡ true → cond b (Some e.1) (lookup (at n) es) ≡ Some was
-        → (lookup (at n) es ≡ Some was → have_own_numbers (set_value (at n) es is) ≡ true) → have_own_numbers (cond b ((e.0, is) ∷ es) (e ∷ set_value (at n) es is)) ≡ true
-    go true here rest h next =
-        and_from (e.0.0 == is.number) (have_own_numbers es) (ap (λ m. e.0.0 == m) (same ∙ ap (λ (l : Load). l.number) (sym (same_Some e.1 was h))) ∙ here) rest
-    go false here rest h next = and_from (e.0.0 == e.1.number) (have_own_numbers (set_value (at n) es is)) here (next h)
+    let next = λ (h : lookup (at n) es ≡ Some was). changed-own n es was is parts.1 h same in
+    grind (arith, parts, next)
 
 pub changed-number : (n : ℕ) (f : PendingLoad → PendingLoad) → ((p : PendingLoad) → (f p).number ≡ p.number) → (p : PendingLoad) → (changed_at number_of n f p).number ≡ p.number
-changed-number n f keeps p = go (p.number == n)
-  where
-    go : (b : Bool) → (if b then f p else p).number ≡ p.number
-    go true = keeps p
-    go false = refl
+changed-number n f keeps p = let h = keeps p in grind (arith, h)
 
 pub changed-kept : (n : ℕ) (f : PendingLoad → PendingLoad) → ((p : PendingLoad) → (f p).number ≡ p.number) → (es new : Entries) (was is : Load) → have_own_numbers es ≡ true → are_falling (loads_of es) ≡ true → lookup (at n) es ≡ Some was
     → new ≡ set_value (at n) es is → pending_load is ≡ f (pending_load was) → (have_own_numbers new ≡ true) × ((are_falling (loads_of new) ≡ true) × ⊤)
@@ -182,12 +150,7 @@ changed-kept n f keeps es new was is own falls found set does =
 -- a load as it was
 pub same-is : (n : ℕ) (es : Entries) (was is : Load) → lookup (at n) es ≡ Some was → pending_load is ≡ pending_load was → loads_of (set_value (at n) es is) ≡ loads_of es
 same-is n [] was is found same = refl
-same-is n (e ∷ es) was is found same = go (at n e.0) found (λ h. same-is n es was is h same)
-  where
-    go : (b : Bool) → cond b (Some e.1) (lookup (at n) es) ≡ Some was → (lookup (at n) es ≡ Some was → loads_of (set_value (at n) es is) ≡ loads_of es)
-        → loads_of (cond b ((e.0, is) ∷ es) (e ∷ set_value (at n) es is)) ≡ pending_load e.1 ∷ loads_of es
-    go true h next = ap (λ p. p ∷ loads_of es) (same ∙ ap pending_load (sym (same_Some e.1 was h)))
-    go false h next = ap (λ ps. pending_load e.1 ∷ ps) (next h)
+same-is n (e ∷ es) was is found same = let next = λ (h : lookup (at n) es ≡ Some was). same-is n es was is h same in grind (arith, next)
 
 -- a load for which one more waits, or as it was
 abbrev pub with_one : ℕ → PendingLoad → PendingLoad
@@ -230,11 +193,7 @@ added-kept (Err e) load es new own falls below ok err =
 -- a load that is found has the number
 pub found-number : (n : ℕ) (ps : List PendingLoad) (p : PendingLoad) → load_numbered n ps ≡ Some p → p.number ≡ n
 found-number n [] p e = let no : None ≡ Some p = e in cc
-found-number n (q ∷ qs) p e = go (λ h. found-number n qs p h) (q.number == n) refl e
-  where
-    go : (load_numbered n qs ≡ Some p → p.number ≡ n) → (b : Bool) → (q.number == n) ≡ b → cond b (Some q) (load_numbered n qs) ≡ Some p → p.number ≡ n
-    go next true is h = sym (ap number_of (same_Some q p h)) ∙ eqb-true q.number n is
-    go next false is h = next h
+found-number n (q ∷ qs) p e = let next = found-number n qs p in grind (arith, nat_tests, next)
 
 -- ---- the key's load
 
@@ -254,11 +213,7 @@ numbered keys key loads keyed live = go (number_at key keys) refl
 numbered-mapped : (f : PendingLoad → PendingLoad) → ((p : PendingLoad) → (f p).number ≡ p.number) → (n : ℕ) (ps : List PendingLoad) → is_some (load_numbered n (map f ps)) ≡ is_some (load_numbered n ps)
 numbered-mapped f numbers n [] = refl
 numbered-mapped f numbers n (p ∷ ps) =
-    ap (λ m. is_some (cond (m == n) (Some (f p)) (load_numbered n (map f ps)))) (numbers p) ∙ go (p.number == n) (numbered-mapped f numbers n ps)
-  where
-    go : (b : Bool) → is_some (load_numbered n (map f ps)) ≡ is_some (load_numbered n ps) → is_some (cond b (Some (f p)) (load_numbered n (map f ps))) ≡ is_some (cond b (Some p) (load_numbered n ps))
-    go true next = refl
-    go false next = next
+    ap (λ m. is_some (cond (m == n) (Some (f p)) (load_numbered n (map f ps)))) (numbers p) ∙ (let next = numbered-mapped f numbers n ps in grind (arith, next))
 
 pub live-mapped : (f : PendingLoad → PendingLoad) → ((p : PendingLoad) → (f p).number ≡ p.number) → (keys : Keys) (loads new : List PendingLoad) → new ≡ map f loads → AreUnderWay keys loads → AreUnderWay keys new
 live-mapped f numbers keys loads new is live key n e = ap (λ ps. is_some (load_numbered n ps)) is ∙ numbered-mapped f numbers n loads ∙ live key n e
@@ -286,65 +241,30 @@ were-sent {last} {keys} {joined} {loads} keeps =
 
 pub live-sent : (keys after : Keys) (key : List ℕ) (load : PendingLoad) (loads new : List PendingLoad) → new ≡ load ∷ loads → ((q : List ℕ) → number_at q after ≡ cond (same key q) (Some load.number) (number_at q keys))
     → AreUnderWay keys loads → AreUnderWay after new
-live-sent keys after key load loads new is puts live q n e = ap (λ ps. is_some (load_numbered n ps)) is ∙ go (same key q) (sym (puts q) ∙ e)
-  where
-    either : (b : Bool) → is_some (load_numbered n loads) ≡ true → is_some (cond b (Some load) (load_numbered n loads)) ≡ true
-    either true there = refl
-    either false there = there
-
-    go : (b : Bool) → cond b (Some load.number) (number_at q keys) ≡ Some n → is_some (load_numbered n (load ∷ loads)) ≡ true
-    go true h = ap (λ b. is_some (cond b (Some load) (load_numbered n loads))) (eq-eqb load.number n (same_Some load.number n h))
-    go false h = either (load.number == n) (live q n h)
+live-sent keys after key load loads new is puts live q n e = ap (λ ps. is_some (load_numbered n ps)) is
+    ∙ (let next = live q n in let put = puts q in grind (arith, nat_tests, next, put))
 
 -- ---- a load that is taken out
 
 others-numbered : (n m : ℕ) (ps : List PendingLoad) → (n == m) ≡ false → load_numbered n (filter (λ p. not (p.number == m)) ps) ≡ load_numbered n ps
 others-numbered n m [] e = refl
-others-numbered n m (p ∷ ps) e = go (p.number == m) refl (others-numbered n m ps e)
-  where
-    left : List PendingLoad
-    left = filter (λ q. not (q.number == m)) ps
-
-    other : (p.number == m) ≡ true → (p.number == n) ≡ false
-    other is = grind (arith, nat_tests)
-
-    go : (b : Bool) → (p.number == m) ≡ b → load_numbered n left ≡ load_numbered n ps → load_numbered n (cond (not b) (p ∷ left) left) ≡ cond (p.number == n) (Some p) (load_numbered n ps)
-    go true is next = next ∙ sym (ap (λ b. cond b (Some p) (load_numbered n ps)) (other is))
-    go false is next = ap (λ o. cond (p.number == n) (Some p) o) next
+others-numbered n m (p ∷ ps) e = let next = others-numbered n m ps e in grind (arith, nat_tests, next)
 
 all-numbered : (keys : Keys) (n : ℕ) (ps : List PendingLoad) (p : PendingLoad) → AllByRecursion (IsKeyed keys) ps → load_numbered n ps ≡ Some p → IsKeyed keys p
 all-numbered keys n [] p keyed e = absurd (none-some p e)
-all-numbered keys n (q ∷ qs) p keyed e = go (q.number == n) e (λ h. all-numbered keys n qs p keyed.1 h)
-  where
-    go : (b : Bool) → cond b (Some q) (load_numbered n qs) ≡ Some p → (load_numbered n qs ≡ Some p → IsKeyed keys p) → IsKeyed keys p
-    go true h next = let is : q ≡ p = same_Some q p h in subst (IsKeyed keys) is keyed.0
-    go false h next = next h
+all-numbered keys n (q ∷ qs) p keyed e = let next = all-numbered keys n qs p keyed.1 in grind (arith, keyed, next)
 
 pub live-removed : (keys after : Keys) (joined : Joined) (last m : ℕ) (load : PendingLoad) (loads new : List PendingLoad) → new ≡ filter (λ p. not (p.number == m)) loads → load_numbered m loads ≡ Some load
     → ((q : List ℕ) → number_at q after ≡ cond (same load.key q) None (number_at q keys)) → KeepsNumbers last keys joined loads → AreUnderWay keys loads → AreUnderWay after new
-live-removed keys after joined last m load loads new is found less keeps live q n e = ap (λ ps. is_some (load_numbered n ps)) is ∙ go (same load.key q) refl (sym (less q) ∙ e)
+live-removed keys after joined last m load loads new is found less keeps live q n e = ap (λ ps. is_some (load_numbered n ps)) is
+    ∙ (let there = live q n in let left = less q in let own = found-number m loads load found in let others = others-numbered n m loads in grind (arith, nat_tests, keyed, there, left, own, others))
   where
-    keyed : IsKeyed keys load
-    keyed = all-numbered keys m loads load (keyed-of keeps) found
-
-    -- the number that stands at another key is another one
-    other : same load.key q ≡ false → number_at q keys ≡ Some n → (b : Bool) → (n == m) ≡ b → (n == m) ≡ false
-    other far at false h = h
-    other far at true h =
-        absurd (true≢false (sym (keyed q ∙ ap (λ o. has_number o load) at ∙ eq-eqb load.number n (found-number m loads load found ∙ sym (eqb-true n m h))) ∙ far))
-
-    go : (b : Bool) → same load.key q ≡ b → cond b None (number_at q keys) ≡ Some n → is_some (load_numbered n (filter (λ p. not (p.number == m)) loads)) ≡ true
-    go true h at = absurd (none-some n at)
-    go false h at = ap is_some (others-numbered n m loads (other h at (n == m) refl)) ∙ live q n at
+    keyed : has_number (number_at q keys) load ≡ same load.key q
+    keyed = sym (all-numbered keys m loads load (keyed-of keeps) found q)
 
 none-left : (m : ℕ) (ps : List PendingLoad) → load_numbered m ps ≡ None → filter (λ p. not (p.number == m)) ps ≡ ps
 none-left m [] e = refl
-none-left m (p ∷ ps) e = go (p.number == m) e (λ h. none-left m ps h)
-  where
-    go : (b : Bool) → cond b (Some p) (load_numbered m ps) ≡ None → (load_numbered m ps ≡ None → filter (λ q. not (q.number == m)) ps ≡ ps)
-        → cond (not b) (p ∷ filter (λ q. not (q.number == m)) ps) (filter (λ q. not (q.number == m)) ps) ≡ p ∷ ps
-    go true h next = absurd (none-some p (sym h))
-    go false h next = ap (λ qs. p ∷ qs) (next h)
+none-left m (p ∷ ps) e = let next = none-left m ps in grind (arith, next)
 
 -- there was none
 pub live-none : (keys : Keys) (m : ℕ) (loads new : List PendingLoad) (o : Option Load) → option_map pending_load o ≡ load_numbered m loads → o ≡ None → new ≡ filter (λ p. not (p.number == m)) loads → AreUnderWay keys loads → AreUnderWay keys new

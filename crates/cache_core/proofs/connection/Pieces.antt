@@ -13,25 +13,25 @@ use Rattle.cache_commands.specs.Loads.Standings.{holds_line, keeps_line, waits_f
 use Rattle.cache_commands.specs.Right.{KeepsFrame, held_when_run, step_saying}
 use Rattle.cache_commands.specs.declared.loads.standing.Standing.{Standing}
 use Rattle.cache_core.specs.Connection.Fed.{FedRan, LinesLeft, LooksAsBefore, TakesWaiting, closing_by, unread_behind}
-use Rattle.cache_core.specs.Connection.Fits.{ClosesFor, Fits, RunsOn}
+use Rattle.cache_core.specs.Connection.Fits.{ClosesFor, FitsStanding, RunsOn}
 use Rattle.cache_core.specs.Connection.Parts.{put_parts, standing_as}
-use Rattle.cache_core.specs.Connection.Shown.{put_in, shown, with_piece}
+use Rattle.cache_core.specs.Connection.Shown.{put_in, shown_connection, with_piece}
 use Rattle.cache_lines.proofs.Drawn.{spends-same}
 use Rattle.cache_lines.proofs.LineRuns.{fresh-gather, gather-none, frames-more}
 use Rattle.cache_lines.proofs.WholeLines.{behind-more, held-more}
 use Rattle.cache_lines.specs.Bases.{Seen}
 use Rattle.cache_lines.specs.Drawing.{identifiers_in}
 use Rattle.cache_lines.specs.Ended.{RanReady, RanTasks, RunsReady, held_with}
-use Rattle.cache_lines.specs.Gathered.{IsFresh, Stage, gather, gathered, stage}
+use Rattle.cache_lines.specs.Gathered.{HasNothingOutside, LineStage, gather, gathered, stage}
 use Rattle.cache_lines.specs.Lines.{IsThere, ready, set_in, situation_behind, with_drops}
 use Rattle.cache_lines.specs.Making.{Making, making_of}
 use Rattle.cache_lines.specs.Ran.{RanLine, WaitsLine}
-use Rattle.cache_lines.specs.Waiting.{load_sent_for, loads_in, waiting, when_waiting, with_under_way}
+use Rattle.cache_lines.specs.Waiting.{load_sent_for, loads_in, waiting_with, when_waiting, with_under_way}
 use Rattle.cache_lines.specs.Whole.{has_line, held_line}
 use Rattle.cache_store.specs.Values.{IsSoundStore, Values}
 use Rattle.audit_model.specs.declared.command.Closing.TheVariants as by
 use Rattle.cache_commands.specs.declared.loads.standing.Standing.TheVariants as now
-use Rattle.cache_lines.specs.Ended.{holds_back, waits_now, ends_by_quit}
+use Rattle.cache_lines.specs.Ended.{holds_back, ends_waiting, ends_by_quit}
 use Rattle.cache_lines.proofs.HeldFeeds.{feeds-held, feeds-quit, feeds-waits}
 use Rattle.cache_lines.proofs.ReadyEnds.{stops-waiting, idle-by, joined}
 use Rattle.cache_core.specs.declared.connection.connection.Connection.{Connection}
@@ -40,21 +40,21 @@ use Rattle.cache_lines.proofs.Knowing.{due_if}
 -- ---- a connection whose `LOAD` waits, or that holds a line back
 
 -- a whole line stands there
-pub whole-kept : (standing : Standing) (times : ℕ) (closing : Option Closing) (bytes : List ℕ) → keeps_line standing ≡ true → Fits standing times closing bytes → has_line bytes ≡ true
+pub whole-kept : (standing : Standing) (times : ℕ) (closing : Option Closing) (bytes : List ℕ) → keeps_line standing ≡ true → FitsStanding standing times closing bytes → has_line bytes ≡ true
 whole-kept standing times closing bytes keeps f = subst (λ b. (not b || has_line bytes) ≡ true) keeps f.whole
 
 -- the connection with a piece more
 pub waits-with : (number : ℕ) (standing : Standing) (times : ℕ) (bytes piece : List ℕ) → standing ≡ now.Waiting → has_line bytes ≡ true
-    → with_piece piece (standing_as number standing times bytes) ≡ waiting number (held_line (bytes ++ piece)) (behind_lines 1 (bytes ++ piece)) times
+    → with_piece piece (standing_as number standing times bytes) ≡ waiting_with number (held_line (bytes ++ piece)) (behind_lines 1 (bytes ++ piece)) times
 waits-with number standing times bytes piece e whole =
     ap (λ st. with_piece piece (standing_as number st times bytes)) e
-    ∙ ap (λ b. waiting number (held_line bytes) b times) (sym (behind-more bytes piece whole))
-    ∙ ap (λ l. waiting number l (behind_lines 1 (bytes ++ piece)) times) (sym (held-more bytes piece whole))
+    ∙ ap (λ b. waiting_with number (held_line bytes) b times) (sym (behind-more bytes piece whole))
+    ∙ ap (λ l. waiting_with number l (behind_lines 1 (bytes ++ piece)) times) (sym (held-more bytes piece whole))
 
 -- ---- steps to another situation
 
 -- such steps ran, and the situation that they leave can be said so too
-pub tasks-to : (making : Making) (s : Situation) (tasks : List Task) (quit is_held is_silent : Bool) (target next : List HeldValue → Situation) (old new : Stage)
+pub tasks-to : (making : Making) (s : Situation) (tasks : List Task) (quit is_held is_silent : Bool) (target next : List HeldValue → Situation) (old new : LineStage)
     → RanTasks making s tasks quit is_held is_silent target old new → ((left : List HeldValue) → target left ≡ next left)
     → RanTasks making s tasks quit is_held is_silent next old new
 tasks-to making s tasks quit is_held is_silent target next old new r puts = record {
@@ -79,7 +79,7 @@ fed-so : (now_is number : ℕ) (old new : Connection) (piece : List ℕ) (quit i
     → ((s : Situation) → Agrees was.stage.values now_is s → IsThere number s → loads_in s ≡ was.loads
     → RanTasks (making_of was.stage.values.frame) (set_in s s.held (with_piece piece (standing_as number standing old.waited old.unread.bytes))) (tasks_to_feed number (holds_line standing)) quit is_held silent
     (λ left. put_in (with_under_way is.loads (with_drops is.stage.values.frame.dropped s)) left number new) was.stage is.stage)
-    → ClosesFor (closing_by (waits_for_load standing) quit silent) new.closing → RunsOn new.closing new.standing quit silent → KeepsFrame was.stage.values.frame is.stage.values.frame now_is → IsFresh (gathered is.stage)
+    → ClosesFor (closing_by (waits_for_load standing) quit silent) new.closing → RunsOn new.closing new.standing quit silent → KeepsFrame was.stage.values.frame is.stage.values.frame now_is → HasNothingOutside (gathered is.stage)
     → FedRan now_is number old piece new is_held was is
 fed-so now_is number old new piece quit is_held silent was is standing e ran closes runs frame fresh = record {
   quit = quit;
@@ -100,7 +100,7 @@ pub fed-ready : (now_is number : ℕ) (old new : Connection) (piece : List ℕ) 
 fed-ready now_is number old new piece is_held was is e l held =
     let making = making_of was.stage.values.frame in
     let quit = ends_by_quit l.end in
-    let silent = waits_now l.end in
+    let silent = ends_waiting l.end in
     let r = subst (λ st. RunsReady now_is number (unread_behind st old.unread.bytes ++ piece) l.rest l.end was is) e l.ran in
     fed-so now_is number old new piece quit is_held silent was is now.Ready e
     (λ s agrees there loads.
@@ -139,7 +139,7 @@ module _ (now_is number : ℕ) (old new : Connection) (piece : List ℕ) (was is
       → LinesLeft now_is number (unread_behind old.standing bytes ++ piece) new mid is → is_held ≡ holds_line new.standing → FedRan now_is number old piece new is_held was is
   fed-stays is_held mid line same l held =
       let quit = ends_by_quit l.end in
-      let silent = waits_now l.end in
+      let silent = ends_waiting l.end in
       let dropped = mid.stage.values.frame.dropped in
       let made = making_of mid.stage.values.frame in
       let r = subst (λ st. RunsReady now_is number (unread_behind st bytes ++ piece) l.rest l.end mid is) e l.ran in
@@ -171,9 +171,9 @@ module _ (now_is number : ℕ) (old new : Connection) (piece : List ℕ) (was is
 
 -- it is a `LOAD` that waits
 pub fed-waits : (now_is number : ℕ) (old new : Connection) (piece : List ℕ) (times : ℕ) (was is : Seen) → old.standing ≡ now.Held → has_line old.unread.bytes ≡ true
-    → IsSoundStore was.stage.values → was.stage.values.frame.latest ≤ now_is → IsFresh (gathered was.stage)
+    → IsSoundStore was.stage.values → was.stage.values.frame.latest ≤ now_is → HasNothingOutside (gathered was.stage)
     → WaitsLine now_is number (held_line old.unread.bytes) was is → is.stage.values ≡ was.stage.values → 1 + old.waited ≡ times
-    → ((base : Situation) (left : List HeldValue) → set_in base left (waiting number (held_line (old.unread.bytes ++ piece)) (behind_lines 1 (old.unread.bytes ++ piece)) times) ≡ put_in base left number new)
+    → ((base : Situation) (left : List HeldValue) → set_in base left (waiting_with number (held_line (old.unread.bytes ++ piece)) (behind_lines 1 (old.unread.bytes ++ piece)) times) ≡ put_in base left number new)
     → ClosesFor by.Behind new.closing → (new.closing ≡ None → new.standing ≡ now.Waiting) → FedRan now_is number old piece new false was is
 fed-waits now_is number old new piece times was is e whole sound in_time fresh w same counts put closes stands =
     let making = making_of was.stage.values.frame in
@@ -195,20 +195,20 @@ fed-waits now_is number old new piece times was is e whole sound in_time fresh w
     tasks-to making (set_in s s.held (held_with number old.waited bytes piece)) (tasks_to_feed number true) false false true _
     (λ left. put_in (with_under_way is.loads (with_drops values.frame.dropped s)) left number new) was.stage left_is.stage ran
     (λ left.
-    ap (λ u. set_in (with_under_way u s) left (waiting number line behind (1 + old.waited))) (joined number key s load sent ∙ ap (when_waiting number key) under ∙ sym w.loads_are)
-    ∙ ap (λ d. set_in (with_under_way is.loads (with_drops d s)) left (waiting number line behind (1 + old.waited))) agrees.dropped
-    ∙ ap (λ l. set_in (with_under_way is.loads (with_drops values.frame.dropped s)) left (waiting number l behind (1 + old.waited))) (sym (held-more bytes piece whole))
-    ∙ ap (λ b. set_in (with_under_way is.loads (with_drops values.frame.dropped s)) left (waiting number (held_line (bytes ++ piece)) b (1 + old.waited))) (sym (behind-more bytes piece whole))
-    ∙ ap (λ k. set_in (with_under_way is.loads (with_drops values.frame.dropped s)) left (waiting number (held_line (bytes ++ piece)) (behind_lines 1 (bytes ++ piece)) k)) counts
+    ap (λ u. set_in (with_under_way u s) left (waiting_with number line behind (1 + old.waited))) (joined number key s load sent ∙ ap (when_waiting number key) under ∙ sym w.loads_are)
+    ∙ ap (λ d. set_in (with_under_way is.loads (with_drops d s)) left (waiting_with number line behind (1 + old.waited))) agrees.dropped
+    ∙ ap (λ l. set_in (with_under_way is.loads (with_drops values.frame.dropped s)) left (waiting_with number l behind (1 + old.waited))) (sym (held-more bytes piece whole))
+    ∙ ap (λ b. set_in (with_under_way is.loads (with_drops values.frame.dropped s)) left (waiting_with number (held_line (bytes ++ piece)) b (1 + old.waited))) (sym (behind-more bytes piece whole))
+    ∙ ap (λ k. set_in (with_under_way is.loads (with_drops values.frame.dropped s)) left (waiting_with number (held_line (bytes ++ piece)) (behind_lines 1 (bytes ++ piece)) k)) counts
     ∙ put (with_under_way is.loads (with_drops values.frame.dropped s)) left))
     closes (λ a b. let no : now.Waiting ≡ now.Ready = sym (stands a) ∙ b in absurd (cc))
-    (record { rest = refl; latest = in_time }) (subst IsFresh (sym gathers) (fresh-gather (gathered was.stage) (step_silent number line load None [] ∷ []) fresh)))
+    (record { rest = refl; latest = in_time }) (subst HasNothingOutside (sym gathers) (fresh-gather (gathered was.stage) (step_silent number line load None [] ∷ []) fresh)))
 
 -- ---- a `LOAD` of the connection waited
 
 -- a `LOAD` of the connection waited, and no line ran
 pub fed-waiting : (now_is number : ℕ) (old new : Connection) (piece : List ℕ) (was : Seen)
-    → old.standing ≡ now.Waiting → TakesWaiting old piece new → was.stage.values.frame.latest ≤ now_is → IsFresh (gathered was.stage)
+    → old.standing ≡ now.Waiting → TakesWaiting old piece new → was.stage.values.frame.latest ≤ now_is → HasNothingOutside (gathered was.stage)
     → FedRan now_is number old piece new false was was
 fed-waiting now_is number old new piece was e took in_time fresh =
     fed-so now_is number old new piece false false false was was now.Waiting e
@@ -240,7 +240,7 @@ pub fed-from : (now_is number : ℕ) (old mid new : Connection) (piece : List �
     → LooksAsBefore old mid → FedRan now_is number mid piece new is_held was is
     → FedRan now_is number old piece new is_held was is
 fed-from now_is number old mid new piece is_held was is same f =
-    let shows : shown number mid ≡ shown number old =
+    let shows : shown_connection number mid ≡ shown_connection number old =
     ap (λ st. standing_as number st mid.waited mid.unread.bytes) same.standing ∙ ap (λ n. standing_as number old.standing n mid.unread.bytes) same.waited ∙ ap (standing_as number old.standing old.waited) same.bytes in
     record {
       quit = f.quit;
@@ -248,7 +248,7 @@ fed-from now_is number old mid new piece is_held was is same f =
       ran = λ s agrees there loads.
           let target : List HeldValue → Situation = λ left. put_in (with_under_way is.loads (with_drops is.stage.values.frame.dropped s)) left number new in
           subst (λ c. RanTasks (making_of was.stage.values.frame) (set_in s s.held (with_piece piece c)) (tasks_to_feed number (holds_line old.standing)) f.quit is_held f.silent target was.stage is.stage) shows
-          (subst (λ st. RanTasks (making_of was.stage.values.frame) (set_in s s.held (with_piece piece (shown number mid))) (tasks_to_feed number (holds_line st)) f.quit is_held f.silent target was.stage is.stage) same.standing (f.ran s agrees there loads));
+          (subst (λ st. RanTasks (making_of was.stage.values.frame) (set_in s s.held (with_piece piece (shown_connection number mid))) (tasks_to_feed number (holds_line st)) f.quit is_held f.silent target was.stage is.stage) same.standing (f.ran s agrees there loads));
       closing = subst (λ st. ClosesFor (closing_by (waits_for_load st) f.quit f.silent) new.closing) same.standing f.closing;
       runs = f.runs;
       frame = f.frame;

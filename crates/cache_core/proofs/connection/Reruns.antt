@@ -25,22 +25,22 @@ use Rattle.cache_commands.specs.Order.{Order, Unknown, order_by}
 use Rattle.cache_commands.specs.Right.{DoesRight, dropped_when_run, held_when_run, step_saying}
 use Rattle.cache_commands.specs.declared.loads.standing.Standing.{Standing}
 use Rattle.cache_core.specs.Connection.Fed.{EndsCalm, StepRan}
-use Rattle.cache_core.specs.Connection.Fits.{Fits}
+use Rattle.cache_core.specs.Connection.Fits.{FitsStanding}
 use Rattle.cache_core.specs.Connection.Parts.{standing_as}
-use Rattle.cache_core.specs.Connection.Shown.{put_in, shown}
+use Rattle.cache_core.specs.Connection.Shown.{put_in, shown_connection}
 use Rattle.cache_lines.proofs.Drawn.{draws-first}
 use Rattle.cache_lines.proofs.LineRuns.{fresh-gather}
 use Rattle.cache_lines.proofs.leads.Settling.{abandoned, answered, delivered, held_back, waits_again}
 use Rattle.cache_lines.specs.Bases.{Seen}
 use Rattle.cache_lines.specs.Drawing.{Identifiers, StepDraws, identifiers_in}
-use Rattle.cache_lines.specs.Gathered.{IsFresh, gather, gathered, stage}
+use Rattle.cache_lines.specs.Gathered.{HasNothingOutside, gather, gathered, stage}
 use Rattle.cache_lines.specs.Leads.Leads.{TasksLead}
 use Rattle.cache_lines.specs.Lines.{ready, says_quit, set_in, with_drops}
 use Rattle.cache_lines.specs.Making.{Making, making_of}
 use Rattle.cache_lines.specs.Ordered.{order_behind_step}
 use Rattle.cache_lines.specs.Ran.{IsMiss, RanLine}
 use Rattle.cache_lines.specs.Tape.Taped.{Taped, spends, step_held, text_left}
-use Rattle.cache_lines.specs.Waiting.{UnderWay, holding_load, is_load, load_sent_for, loads_in, waiting, when_waiting, with_under_way}
+use Rattle.cache_lines.specs.Waiting.{UnderWay, holding_load, is_load, load_sent_for, loads_in, waiting_with, when_waiting, with_under_way}
 use Rattle.cache_lines.specs.Whole.{held_line, is_long_line, is_near}
 use Rattle.cache_store.specs.Promises.{no_deed}
 use Rattle.cache_store.specs.Values.{IsSoundStore, Values}
@@ -56,7 +56,7 @@ use Rattle.cache_core.specs.declared.connection.connection.Connection.{Connectio
 -- ---- what is gathered
 
 -- a reply that was written
-pub said-gathered : (v : Values) (text new_text reply line : List ℕ) (n : ℕ) (t new : Option Taped) → IsFresh (gathered (stage v text t))
+pub said-gathered : (v : Values) (text new_text reply line : List ℕ) (n : ℕ) (t new : Option Taped) → HasNothingOutside (gathered (stage v text t))
     → new ≡ option_map (spends (step_saying n line (text ++ reply) None [])) t → new_text ≡ text_left t (text ++ reply)
     → gathered (stage v new_text new) ≡ gather (gathered (stage v text t)) (step_saying n line reply None [] ∷ [])
 said-gathered v text new_text reply line n None new fresh said left =
@@ -79,30 +79,30 @@ spent-none config making s t tasks left step a b drawn l = record {
 
 -- ---- the connection then
 
-put-is : (base : Situation) (held : List HeldValue) (n : ℕ) (new : Connection) (x : model.Connection) → new.closing ≡ None → shown n new ≡ x → put_in base held n new ≡ set_in base held x
-put-is base held n new x is_open shows = ap (λ o. if is_none o then set_in base held (shown n new) else without_connection n (record base { held = held })) is_open ∙ ap (set_in base held) shows
+put-is : (base : Situation) (held : List HeldValue) (n : ℕ) (new : Connection) (x : model.Connection) → new.closing ≡ None → shown_connection n new ≡ x → put_in base held n new ≡ set_in base held x
+put-is base held n new x is_open shows = ap (λ o. if is_none o then set_in base held (shown_connection n new) else without_connection n (record base { held = held })) is_open ∙ ap (set_in base held) shows
 
 -- put in its place, open
-put-alike : (s : Situation) (held : List HeldValue) (n : ℕ) (new : Connection) (x : model.Connection) (k : UnderWay) (dropping : Bool) → new.closing ≡ None → shown n new ≡ x → k ≡ loads_in s → dropping ≡ s.dropped
+put-alike : (s : Situation) (held : List HeldValue) (n : ℕ) (new : Connection) (x : model.Connection) (k : UnderWay) (dropping : Bool) → new.closing ≡ None → shown_connection n new ≡ x → k ≡ loads_in s → dropping ≡ s.dropped
     → put_in (with_under_way k (with_drops dropping s)) held n new ≡ set_in s held x
 put-alike s held n new x k dropping is_open shows loads drops =
     put-is (with_under_way k (with_drops dropping s)) held n new x is_open shows
     ∙ ap (λ (u : UnderWay). set_in (with_under_way u (with_drops dropping s)) held x) loads
     ∙ ap (λ b. set_in (with_under_way (loads_in s) (with_drops b s)) held x) drops
 
-found-waiting : (s : Situation) (n : ℕ) (old : Connection) → connection_in n s ≡ Some (shown n old) → old.standing ≡ now.Waiting → connection_in n s ≡ Some (waiting n (held_line old.unread.bytes) (behind_lines 1 old.unread.bytes) old.waited)
+found-waiting : (s : Situation) (n : ℕ) (old : Connection) → connection_in n s ≡ Some (shown_connection n old) → old.standing ≡ now.Waiting → connection_in n s ≡ Some (waiting_with n (held_line old.unread.bytes) (behind_lines 1 old.unread.bytes) old.waited)
 found-waiting s n old found e = found ∙ ap (λ st. Some (standing_as n st old.waited old.unread.bytes)) e
 
-shown-ready : (n : ℕ) (new : Connection) (bytes : List ℕ) → new.standing ≡ now.Ready → new.unread.bytes ≡ bytes → shown n new ≡ ready n bytes
+shown-ready : (n : ℕ) (new : Connection) (bytes : List ℕ) → new.standing ≡ now.Ready → new.unread.bytes ≡ bytes → shown_connection n new ≡ ready n bytes
 shown-ready n new bytes e b = ap (λ st. standing_as n st new.waited new.unread.bytes) e ∙ ap (ready n) b
 
-shown-held : (n : ℕ) (new : Connection) (bytes : List ℕ) (times : ℕ) → new.standing ≡ now.Held → new.unread.bytes ≡ bytes → new.waited ≡ times → shown n new ≡ holding_load n (held_line bytes) (behind_lines 1 bytes) times
+shown-held : (n : ℕ) (new : Connection) (bytes : List ℕ) (times : ℕ) → new.standing ≡ now.Held → new.unread.bytes ≡ bytes → new.waited ≡ times → shown_connection n new ≡ holding_load n (held_line bytes) (behind_lines 1 bytes) times
 shown-held n new bytes times e b t =
     ap (λ st. standing_as n st new.waited new.unread.bytes) e ∙ ap (λ x. holding_load n (held_line x) (behind_lines 1 x) new.waited) b ∙ ap (holding_load n (held_line bytes) (behind_lines 1 bytes)) t
 
-shown-waiting : (n : ℕ) (new : Connection) (bytes : List ℕ) (times : ℕ) → new.standing ≡ now.Waiting → new.unread.bytes ≡ bytes → new.waited ≡ times → shown n new ≡ waiting n (held_line bytes) (behind_lines 1 bytes) times
+shown-waiting : (n : ℕ) (new : Connection) (bytes : List ℕ) (times : ℕ) → new.standing ≡ now.Waiting → new.unread.bytes ≡ bytes → new.waited ≡ times → shown_connection n new ≡ waiting_with n (held_line bytes) (behind_lines 1 bytes) times
 shown-waiting n new bytes times e b t =
-    ap (λ st. standing_as n st new.waited new.unread.bytes) e ∙ ap (λ x. waiting n (held_line x) (behind_lines 1 x) new.waited) b ∙ ap (waiting n (held_line bytes) (behind_lines 1 bytes)) t
+    ap (λ st. standing_as n st new.waited new.unread.bytes) e ∙ ap (λ x. waiting_with n (held_line x) (behind_lines 1 x) new.waited) b ∙ ap (waiting_with n (held_line bytes) (behind_lines 1 bytes)) t
 
 -- nothing is known of the order of use behind a `LOAD`
 load-unknown : (config : Config) (step : Step) (key : List ℕ) → step.held ≡ false → reading config step.line ≡ Ok (says.Load key) → (n : ℕ) (order : Order) → order_behind_step config n order step ≡ Unknown
@@ -118,7 +118,7 @@ load-accepts config s key reply (Some a) told right = let no : false ≡ true = 
 
 -- ---- what became of it
 
-module _ (now_is n : ℕ) (old new : Connection) (was is : Seen) (waited : old.standing ≡ now.Waiting) (sound : IsSoundStore was.stage.values) (in_time : was.stage.values.frame.latest ≤ now_is) (clear : IsFresh (gathered was.stage)) where
+module _ (now_is n : ℕ) (old new : Connection) (was is : Seen) (waited : old.standing ≡ now.Waiting) (sound : IsSoundStore was.stage.values) (in_time : was.stage.values.frame.latest ≤ now_is) (clear : HasNothingOutside (gathered was.stage)) where
   abbrev config : Config
   config = was.stage.values.frame.config
 
@@ -131,15 +131,15 @@ module _ (now_is n : ℕ) (old new : Connection) (was is : Seen) (waited : old.s
   abbrev rest : List ℕ
   rest = behind_lines 1 old.unread.bytes
 
-  fresh-is : (steps : List Step) → gathered is.stage ≡ gather (gathered was.stage) steps → IsFresh (gathered is.stage)
-  fresh-is steps e = subst IsFresh (sym e) (fresh-gather (gathered was.stage) steps clear)
+  fresh-is : (steps : List Step) → gathered is.stage ≡ gather (gathered was.stage) steps → HasNothingOutside (gathered is.stage)
+  fresh-is steps e = subst HasNothingOutside (sym e) (fresh-gather (gathered was.stage) steps clear)
 
   -- one step was done, with the values and the loads as they were
   stayed-ran : (task : Task) (step : Step) (x : model.Connection)
-      → ((s : Situation) → was.stage.values.Stands s.held → connection_in n s ≡ Some (waiting n line rest old.waited)
+      → ((s : Situation) → was.stage.values.Stands s.held → connection_in n s ≡ Some (waiting_with n line rest old.waited)
       → (left : List HeldValue) × was.stage.values.Stands left
       × ((tasks : List Task) → TasksLead config making s (task ∷ tasks) (step ∷ []) (set_in s left x) tasks (identifiers_in was.stage.values) (identifiers_in was.stage.values)))
-      → step.conn ≡ n → new.closing ≡ None → shown n new ≡ x → gathered is.stage ≡ gather (gathered was.stage) (step ∷ []) → is.loads ≡ was.loads → is.stage.values ≡ was.stage.values
+      → step.conn ≡ n → new.closing ≡ None → shown_connection n new ≡ x → gathered is.stage ≡ gather (gathered was.stage) (step ∷ []) → is.loads ≡ was.loads → is.stage.values ≡ was.stage.values
       → ((places : ℕ) (order : Order) → order_behind_step config places order step ≡ Unknown) → (new.standing ≡ now.Ready → EndsCalm config (step ∷ [])) → StepRan now_is n task old new was is
   stayed-ran task step x does own is_open shows gathers loads same unknown calm = subst (λ v. StepRan now_is n task old new was (record { stage = stage v is.stage.text is.stage.tape; loads = is.loads })) (sym same) (record {
     ran = λ s agrees under found.
@@ -157,7 +157,7 @@ module _ (now_is n : ℕ) (old new : Connection) (was is : Seen) (waited : old.s
         };
     is_open = is_open;
     frame = record { rest = refl; latest = in_time };
-    fresh = subst (λ v. IsFresh (gathered (stage v is.stage.text is.stage.tape))) same (fresh-is (step ∷ []) gathers);
+    fresh = subst (λ v. HasNothingOutside (gathered (stage v is.stage.text is.stage.tape))) same (fresh-is (step ∷ []) gathers);
   })
 
   -- it was given up for the last time
@@ -211,9 +211,9 @@ module _ (now_is n : ℕ) (old new : Connection) (was is : Seen) (waited : old.s
           stands = y.left;
           leads = λ tasks. subst (λ l. TasksLead config making s (RunAgain n ∷ tasks) (step_silent n line l None [] ∷ []) (put_in (with_under_way is.loads (with_drops was.stage.values.frame.dropped s)) left n new) tasks (identifiers_in was.stage.values) (identifiers_in was.stage.values)) under_sent
               (subst (λ t. TasksLead config making s (RunAgain n ∷ tasks) (step_silent n line (number_to_send x.key s.sent s.pending) None [] ∷ []) t tasks (identifiers_in was.stage.values) (identifiers_in was.stage.values))
-              (sym (put-is (with_under_way is.loads (with_drops was.stage.values.frame.dropped s)) left n new (waiting n line rest (suc old.waited)) is_open (shown-waiting n new old.unread.bytes (suc old.waited) still bytes times)
-              ∙ ap (λ (u : UnderWay). set_in (with_under_way u (with_drops was.stage.values.frame.dropped s)) left (waiting n line rest (suc old.waited))) (loads ∙ ap (when_waiting n x.key) (sym under))
-              ∙ ap (λ d. set_in (with_under_way (when_waiting n x.key (loads_in s)) (with_drops d s)) left (waiting n line rest (suc old.waited))) (sym agrees.dropped)))
+              (sym (put-is (with_under_way is.loads (with_drops was.stage.values.frame.dropped s)) left n new (waiting_with n line rest (suc old.waited)) is_open (shown-waiting n new old.unread.bytes (suc old.waited) still bytes times)
+              ∙ ap (λ (u : UnderWay). set_in (with_under_way u (with_drops was.stage.values.frame.dropped s)) left (waiting_with n line rest (suc old.waited))) (loads ∙ ap (when_waiting n x.key) (sym under))
+              ∙ ap (λ d. set_in (with_under_way (when_waiting n x.key (loads_in s)) (with_drops d s)) left (waiting_with n line rest (suc old.waited))) (sym agrees.dropped)))
               (waits_again config making s n line rest x.key old.waited tasks (identifiers_in was.stage.values) (found-waiting s n old found waited) few x.reads none y.right));
           own = refl;
           gathered_is = ap (λ v. gathered (stage v is.stage.text is.stage.tape)) (sym same) ∙ gathers;
@@ -222,7 +222,7 @@ module _ (now_is n : ℕ) (old new : Connection) (was is : Seen) (waited : old.s
         };
     is_open = is_open;
     frame = record { rest = refl; latest = in_time };
-    fresh = subst (λ v. IsFresh (gathered (stage v is.stage.text is.stage.tape))) same (fresh-is (step_silent n line (load_sent_for x.key was.loads) None [] ∷ []) gathers);
+    fresh = subst (λ v. HasNothingOutside (gathered (stage v is.stage.text is.stage.tape))) same (fresh-is (step_silent n line (load_sent_for x.key was.loads) None [] ∷ []) gathers);
   })
 
   -- it is answered
@@ -281,7 +281,7 @@ cut-within (b ∷ bs) = ⊎_elim
     (eqb_tells b 10)
 
 -- what stood behind a `LOAD` that waited is no line that is too long
-pub fits-behind : (closing : Option Closing) (standing : Standing) (times : ℕ) (bytes left : List ℕ) → closing ≡ None → standing ≡ now.Waiting → Fits standing times closing bytes → left ≡ behind_lines 1 bytes → Fits now.Ready 0 closing left
+pub fits-behind : (closing : Option Closing) (standing : Standing) (times : ℕ) (bytes left : List ℕ) → closing ≡ None → standing ≡ now.Waiting → FitsStanding standing times closing bytes → left ≡ behind_lines 1 bytes → FitsStanding now.Ready 0 closing left
 fits-behind closing standing times bytes left is_open e f is =
     let close : is_near bytes ≡ true = subst (λ st. (not (waits_for_load st) || is_near bytes) ≡ true) e (subst (λ o. (is_some o || not (waits_for_load standing) || is_near bytes) ≡ true) is_open f.near) in
     let few = leb-true (length (behind_lines 1 bytes)) 8192 close in

@@ -4,13 +4,13 @@ use Rattle.std.proofs.lemmas.List.{map-set, set-set}
 use Rattle.std.proofs.lemmas.Option.{same_Some}
 use Rattle.std.specs.List.{slice_get}
 use Rattle.audit_model.specs.declared.command.Closing.{Closing}
-use Rattle.cache_core.specs.Connection.Shown.{shown}
-use Rattle.cache_core.specs.Connections.Presence.{Gone, Here, Out, Presence, closing_of, gone_if, open_from, reply_text_of, retired, retired_at}
+use Rattle.cache_core.specs.Connection.Shown.{shown_connection}
+use Rattle.cache_core.specs.Connections.Presence.{Gone, Here, Out, Presence, closing_of_presence, gone_if, open_from, reply_text_of, retired, retired_at}
 use Rattle.cache_core.specs.declared.connection.connection.Connection.{Connection}
 
 -- ---- one that is retired
 
-closing-if : (c : Connection) (o : Option Closing) (text : List ℕ) → c.closing ≡ o → closing_of (gone_if o text c) ≡ o
+closing-if : (c : Connection) (o : Option Closing) (text : List ℕ) → c.closing ≡ o → closing_of_presence (gone_if o text c) ≡ o
 closing-if c None text e = e
 closing-if c (Some why) [] e = refl
 closing-if c (Some why) (byte ∷ text) e = e
@@ -20,7 +20,7 @@ text-if c None text e = e
 text-if c (Some why) [] e = refl
 text-if c (Some why) (byte ∷ text) e = e
 
-pub closing-retired : (p : Presence) → closing_of (retired p) ≡ closing_of p
+pub closing-retired : (p : Presence) → closing_of_presence (retired p) ≡ closing_of_presence p
 closing-retired (Here c) = closing-if c c.closing c.output.text.items refl
 closing-retired Out = refl
 closing-retired (Gone why) = refl
@@ -33,7 +33,7 @@ text-retired (Gone why) = refl
 -- only a closed one goes
 open-if : (n : ℕ) (c : Connection) (o : Option Closing) (text : List ℕ) (ps : List Presence) → c.closing ≡ o → open_from n (gone_if o text c ∷ ps) ≡ open_from n (Here c ∷ ps)
 open-if n c None text ps e = refl
-open-if n c (Some why) [] ps e = sym (ap (λ o. if is_none o then shown n c ∷ open_from (suc n) ps else open_from (suc n) ps) e)
+open-if n c (Some why) [] ps e = sym (ap (λ o. if is_none o then shown_connection n c ∷ open_from (suc n) ps else open_from (suc n) ps) e)
 open-if n c (Some why) (byte ∷ text) ps e = refl
 
 open-one : (n : ℕ) (p : Presence) (ps : List Presence) → open_from n (retired p ∷ ps) ≡ open_from n (p ∷ ps)
@@ -43,7 +43,7 @@ open-one n (Gone why) ps = refl
 
 -- the connections behind one that stays
 pub open-behind : (n : ℕ) (p : Presence) (ps qs : List Presence) → open_from (suc n) ps ≡ open_from (suc n) qs → open_from n (p ∷ ps) ≡ open_from n (p ∷ qs)
-open-behind n (Here c) ps qs e = ap (λ ks. if is_none c.closing then shown n c ∷ ks else ks) e
+open-behind n (Here c) ps qs e = ap (λ ks. if is_none c.closing then shown_connection n c ∷ ks else ks) e
 open-behind n Out ps qs e = e
 open-behind n (Gone why) ps qs e = e
 
@@ -59,8 +59,8 @@ map-retired f same [] i = refl
 map-retired f same (p ∷ ps) zero = ap (λ x. x ∷ map f ps) (same p)
 map-retired f same (p ∷ ps) (suc i) = ap (λ xs. f p ∷ xs) (map-retired f same ps i)
 
-pub closings-retired : (ps : List Presence) (i : ℕ) → map closing_of (retired_at ps i) ≡ map closing_of ps
-closings-retired = map-retired closing_of closing-retired
+pub closings-retired : (ps : List Presence) (i : ℕ) → map closing_of_presence (retired_at ps i) ≡ map closing_of_presence ps
+closings-retired = map-retired closing_of_presence closing-retired
 
 pub texts-retired : (ps : List Presence) (i : ℕ) → map reply_text_of (retired_at ps i) ≡ map reply_text_of ps
 texts-retired = map-retired reply_text_of text-retired
@@ -83,10 +83,10 @@ pub put-back : (ps : List Presence) (i : ℕ) (c : Connection) → slice_set (sl
 put-back ps i c = set-set ps i Out (Here c)
 
 -- the same connections are open where one is put that is shown as the one before it
-pub open-same : (n i : ℕ) (old new : Connection) (ps : List Presence) → slice_get ps i ≡ Some (Here old) → new.closing ≡ old.closing → ((k : ℕ) → shown k new ≡ shown k old) → open_from n (slice_set ps i (Here new)) ≡ open_from n ps
+pub open-same : (n i : ℕ) (old new : Connection) (ps : List Presence) → slice_get ps i ≡ Some (Here old) → new.closing ≡ old.closing → ((k : ℕ) → shown_connection k new ≡ shown_connection k old) → open_from n (slice_set ps i (Here new)) ≡ open_from n ps
 open-same n i old new [] at closing shows = refl
 open-same n zero old new (p ∷ ps) at closing shows =
-    ap (λ x. if is_none x then shown n new ∷ open_from (suc n) ps else open_from (suc n) ps) closing
+    ap (λ x. if is_none x then shown_connection n new ∷ open_from (suc n) ps else open_from (suc n) ps) closing
     ∙ ap (λ k. if is_none old.closing then k ∷ open_from (suc n) ps else open_from (suc n) ps) (shows n)
     ∙ sym (ap (λ q. open_from n (q ∷ ps)) (same_Some p (Here old) at))
 open-same n (suc i) old new (p ∷ ps) at closing shows = open-behind n p (slice_set ps i (Here new)) ps (open-same (suc n) i old new ps at closing shows)

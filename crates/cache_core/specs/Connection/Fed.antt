@@ -15,10 +15,10 @@ use Rattle.cache_commands.specs.Loads.Standings.{holds_line, waits_for_load}
 use Rattle.cache_commands.specs.Order.{Order, Unknown}
 use Rattle.cache_commands.specs.Right.{KeepsFrame, step_saying}
 use Rattle.cache_commands.specs.declared.loads.standing.Standing.{Standing}
-use Rattle.cache_lines.specs.Bases.{Seen, seen}
+use Rattle.cache_lines.specs.Bases.{Seen, seen_on}
 use Rattle.cache_lines.specs.Drawing.{identifiers_in}
-use Rattle.cache_lines.specs.Ended.{ends_silent, RanTasks, RunsReady, left_by, ends_by_quit, holds_back, waits_now}
-use Rattle.cache_lines.specs.Gathered.{IsFresh, gather, gathered}
+use Rattle.cache_lines.specs.Ended.{ends_silent, RanTasks, RunsReady, left_by, ends_by_quit, holds_back, ends_waiting}
+use Rattle.cache_lines.specs.Gathered.{HasNothingOutside, gather, gathered}
 use Rattle.cache_lines.specs.Leads.Leads.{TasksLead}
 use Rattle.cache_lines.specs.Lines.{ends_quit, with_drops, IsThere, set_in, situation_behind}
 use Rattle.cache_lines.specs.Making.{Making, making_of}
@@ -29,7 +29,7 @@ use Rattle.cache_lines.specs.Whole.{held_line}
 use Rattle.cache_lines.specs.declared.base.Base.{Base}
 use Rattle.cache_lines.specs.declared.looping.End.{End}
 use Rattle.cache_core.specs.Connection.Fits.{ClosesFor, RunsOn}
-use Rattle.cache_core.specs.Connection.Shown.{put_in, shown, with_piece}
+use Rattle.cache_core.specs.Connection.Shown.{put_in, shown_connection, with_piece}
 use Rattle.cache_core.specs.declared.connection.connection.Connection.{Connection}
 use Rattle.cache_commands.specs.declared.loads.standing.Standing.TheVariants as now_is
 use Rattle.audit_model.specs.declared.command.Closing.TheVariants as by
@@ -75,11 +75,11 @@ pub record RanStep (making : Making) (s : Situation) (number : ℕ) (task : Task
 pub record StepRan (now number : ℕ) (task : Task) (old new : Connection) (was is : Seen) :
     Type 0 where
   pub ran : (s : Situation) → Agrees was.stage.values now s
-      → loads_in s ≡ was.loads → connection_in number s ≡ Some (shown number old)
+      → loads_in s ≡ was.loads → connection_in number s ≡ Some (shown_connection number old)
       → RanStep (making_of was.stage.values.frame) s number task new was is
   pub is_open : new.closing ≡ None
   pub frame : KeepsFrame was.stage.values.frame is.stage.values.frame now
-  pub fresh : IsFresh (gathered is.stage)
+  pub fresh : HasNothingOutside (gathered is.stage)
 
 -- What a feed does to a connection.
 
@@ -96,14 +96,14 @@ pub record FedRan (now number : ℕ) (old : Connection) (piece : List ℕ) (new 
   pub ran : (s : Situation) → Agrees was.stage.values now s → IsThere number s
       → loads_in s ≡ was.loads
       → RanTasks (making_of was.stage.values.frame)
-      (set_in s s.held (with_piece piece (shown number old)))
+      (set_in s s.held (with_piece piece (shown_connection number old)))
       (tasks_to_feed number (holds_line old.standing)) quit is_held silent
       (λ left. put_in (with_under_way is.loads (with_drops is.stage.values.frame.dropped s)) left
       number new) was.stage is.stage
   pub closing : ClosesFor (closing_by (waits_for_load old.standing) quit silent) new.closing
   pub runs : RunsOn new.closing new.standing quit silent
   pub frame : KeepsFrame was.stage.values.frame is.stage.values.frame now
-  pub fresh : IsFresh (gathered is.stage)
+  pub fresh : HasNothingOutside (gathered is.stage)
 
 -- the bytes that contain its next lines: those after a line that was held back, otherwise all
 abbrev pub unread_behind : Standing → List ℕ → List ℕ
@@ -117,8 +117,8 @@ pub record LinesLeft (now number : ℕ) (bytes : List ℕ) (new : Connection) (w
   pub ran : RunsReady now number bytes rest end was is
   pub put : (base : Situation) (values : List HeldValue) (n : ℕ) → situation_behind
       (ends_by_quit end) base values (left_by n end 1 rest) ≡ put_in base values n new
-  pub closing : ClosesFor (closing_by false (ends_by_quit end) (waits_now end)) new.closing
-  pub runs : RunsOn new.closing new.standing (ends_by_quit end) (waits_now end)
+  pub closing : ClosesFor (closing_by false (ends_by_quit end) (ends_waiting end)) new.closing
+  pub runs : RunsOn new.closing new.standing (ends_by_quit end) (ends_waiting end)
   pub held : holds_line new.standing ≡ holds_back end
 
 -- the connection looks the same
@@ -132,18 +132,18 @@ pub record LooksAsBefore (old new : Connection) : Type 0 where
 -- a piece was appended after a `LOAD` that waits, and the connection closes if too many bytes come after it
 pub record TakesWaiting (old : Connection) (piece : List ℕ) (new : Connection) : Type 0 where
   pub put : (base : Situation) (values : List HeldValue) (number : ℕ)
-      → set_in base values (with_piece piece (shown number old)) ≡ put_in base values number new
+      → set_in base values (with_piece piece (shown_connection number old)) ≡ put_in base values number new
   pub closing : ClosesFor by.Behind new.closing
 
 -- what the lines of a connection run over
-abbrev pub seen_of : {S T : Type 0} → (S → Values) → (T → Option Taped) → Base S T → Connection
+abbrev pub seen_by : {S T : Type 0} → (S → Values) → (T → Option Taped) → Base S T → Connection
     → Seen
-seen_of view tape base connection = seen view tape base connection.output
+seen_by view tape base connection = seen_on view tape base connection.output
 
 -- the same over a base as it was and as it is
 abbrev pub FedOver : {S T : Type 0} → (S → Values) → (T → Option Taped) → (now number : ℕ)
     → (base left : Base S T) → (old : Connection) → (piece : List ℕ) → (new : Connection)
     → (is_held : Bool) → Type 0
 FedOver view tape now number base left old piece new is_held =
-    FedRan now number old piece new is_held (seen_of view tape base old)
-    (seen_of view tape left new)
+    FedRan now number old piece new is_held (seen_by view tape base old)
+    (seen_by view tape left new)

@@ -11,7 +11,7 @@ use Rattle.cache_commands.specs.declared.loads.standing.Standing.TheVariants as 
 
 -- The line that is held back or waits is there; an open connection has no longer line, and not too many bytes after a `LOAD` that waits;
 -- and that began to wait at most 200 times.
-pub record Fits (standing : Standing) (times : ℕ) (closing : Option Closing) (bytes : List ℕ) :
+pub record FitsStanding (standing : Standing) (times : ℕ) (closing : Option Closing) (bytes : List ℕ) :
     Type 0 where
   pub whole : IsTrue (not (keeps_line standing) || has_line bytes)
   pub short : IsTrue (is_some closing || keeps_line standing || not (is_long_line bytes))

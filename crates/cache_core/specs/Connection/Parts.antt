@@ -6,7 +6,7 @@ use Rattle.audit_model.specs.declared.command.Closing.{Closing}
 use Rattle.cache_commands.specs.Loads.Standings.{keeps_line}
 use Rattle.cache_commands.specs.declared.loads.standing.Standing.{Standing}
 use Rattle.cache_lines.specs.Lines.{set_in}
-use Rattle.cache_lines.specs.Waiting.{waiting}
+use Rattle.cache_lines.specs.Waiting.{waiting_with}
 use Rattle.cache_lines.specs.Whole.{held_line}
 use Rattle.audit_model.specs.Situation as model
 use Rattle.cache_commands.specs.declared.loads.standing.Standing.TheVariants as now
@@ -35,4 +35,4 @@ put_parts base values number closing standing times bytes =
 
 -- the connection whose first line is a `LOAD` that waits, and began to do so this often
 abbrev pub waiting_before : ℕ → List ℕ → ℕ → model.Connection
-waiting_before number bytes times = waiting number (held_line bytes) (behind_lines 1 bytes) times
+waiting_before number bytes times = waiting_with number (held_line bytes) (behind_lines 1 bytes) times

@@ -6,8 +6,8 @@ use Rattle.cache_core.specs.Connection.Parts.{put_parts, standing_as}
 use Rattle.cache_core.specs.declared.connection.connection.Connection.{Connection}
 
 -- the connection in terms of the definitions
-abbrev pub shown : ℕ → Connection → model.Connection
-shown number c = standing_as number c.standing c.waited c.unread.bytes
+abbrev pub shown_connection : ℕ → Connection → model.Connection
+shown_connection number c = standing_as number c.standing c.waited c.unread.bytes
 
 -- the situation, with these values held and this connection as it is now
 abbrev pub put_in : Situation → List HeldValue → ℕ → Connection → Situation

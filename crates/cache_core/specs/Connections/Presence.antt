@@ -5,7 +5,7 @@ use Rattle.std.specs.Option.{option_map_or}
 use Rattle.audit_model.specs.declared.command.Closing.{Closing}
 use Rattle.audit_model.specs.Situation as model
 use Rattle.audit_model.specs.declared.command.Closing.TheVariants as by
-use Rattle.cache_core.specs.Connection.Shown.{shown}
+use Rattle.cache_core.specs.Connection.Shown.{shown_connection}
 use Rattle.cache_core.specs.declared.connection.connection.Connection.{Connection}
 
 -- A connection that was opened is here, open or closed with replies that were not taken; or out for a moment; or gone, closed for this
@@ -23,10 +23,10 @@ is_here (Some (Gone why)) = false
 is_here None = false
 
 -- why it has closed, if it has
-abbrev pub closing_of : Presence → Option Closing
-closing_of (Here c) = c.closing
-closing_of Out = Some by.Asked
-closing_of (Gone why) = Some why
+abbrev pub closing_of_presence : Presence → Option Closing
+closing_of_presence (Here c) = c.closing
+closing_of_presence Out = Some by.Asked
+closing_of_presence (Gone why) = Some why
 
 -- its replies that were not taken
 abbrev pub reply_text_of : Presence → List ℕ
@@ -36,7 +36,7 @@ reply_text_of (Gone why) = []
 
 -- why the connection at a place has closed, if it has
 abbrev pub closing_at : List Presence → ℕ → Option Closing
-closing_at presences index = option_map_or closing_of (slice_get presences index) None
+closing_at presences index = option_map_or closing_of_presence (slice_get presences index) None
 
 -- the replies of the connection at a place that were not taken
 abbrev pub text_at : List Presence → ℕ → List ℕ
@@ -64,6 +64,6 @@ retired_at (p ∷ ps) (suc index) = p ∷ retired_at ps index
 abbrev pub open_from : ℕ → List Presence → List model.Connection
 open_from n [] = []
 open_from n (Here c ∷ ps) =
-    if is_none c.closing then shown n c ∷ open_from (suc n) ps else open_from (suc n) ps
+    if is_none c.closing then shown_connection n c ∷ open_from (suc n) ps else open_from (suc n) ps
 open_from n (Out ∷ ps) = open_from (suc n) ps
 open_from n (Gone why ∷ ps) = open_from (suc n) ps

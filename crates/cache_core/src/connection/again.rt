@@ -3,7 +3,7 @@ ghost use Rattle.std.specs.Prelude.{◌≡◌, ◌+◌, ◌<◌, ◌≤◌, None
 ghost use Rattle.audit_model.specs.Grammar.{reading};
 ghost use Rattle.audit_model.specs.Steps.{RunAgain};
 ghost use Rattle.audit_model.specs.Stream.{behind_lines};
-ghost use Rattle.cache_core.specs.Connection.Fed.{IsReplied, StepRan, seen_of};
+ghost use Rattle.cache_core.specs.Connection.Fed.{IsReplied, StepRan, seen_by};
 ghost use Rattle.cache_lines.specs.Bases.{CanRun};
 ghost use Rattle.cache_lines.specs.Ended.{spare_of};
 ghost use Rattle.cache_lines.specs.Waiting.{is_load};
@@ -71,7 +71,7 @@ fn load_again<S: Store, T: Tape>(
     number: u64,
     connection: &mut Connection,
 )
-    requires can_run { CanRun now (seen_of S.view T.view base.old connection.old) }
+    requires can_run { CanRun now (seen_by S.view T.view base.old connection.old) }
     requires waits { connection.old.standing ≡ stands.Waiting }
     requires open { connection.old.closing ≡ None }
     requires load { is_load
@@ -79,8 +79,8 @@ fn load_again<S: Store, T: Tape>(
         ≡ true }
     requires few { connection.old.waited < 200 }
     ensures ran { StepRan now number (RunAgain number) connection.old
-        connection.new (seen_of S.view T.view base.old connection.old)
-        (seen_of S.view T.view base.new connection.new) }
+        connection.new (seen_by S.view T.view base.old connection.old)
+        (seen_by S.view T.view base.new connection.new) }
     ensures spare { spare_of (T.view base.old.tape) ≤ spare_of (T.view base.new.tape) + 1 }
     ensures goes { SameTaken base.old.loads base.new.loads }
 {
@@ -113,15 +113,15 @@ pub fn run_again<S: Store, T: Tape>(
     number: u64,
     connection: &mut Connection,
 )
-    requires can_run { CanRun now (seen_of S.view T.view base.old connection.old) }
+    requires can_run { CanRun now (seen_by S.view T.view base.old connection.old) }
     requires waits { connection.old.standing ≡ stands.Waiting }
     requires open { connection.old.closing ≡ None }
     requires load { is_load
         (reading (S.view base.old.store).frame.config (held_line connection.old.unread.bytes))
         ≡ true }
     ensures ran { StepRan now number (RunAgain number) connection.old
-        connection.new (seen_of S.view T.view base.old connection.old)
-        (seen_of S.view T.view base.new connection.new) }
+        connection.new (seen_by S.view T.view base.old connection.old)
+        (seen_by S.view T.view base.new connection.new) }
     ensures spare { spare_of (T.view base.old.tape) ≤ spare_of (T.view base.new.tape) + 1 }
     ensures goes { SameTaken base.old.loads base.new.loads }
 {

@@ -1,6 +1,6 @@
 //! One connection.
 ghost use Rattle.std.specs.Prelude.{◌≡◌, [], None, true};
-ghost use Rattle.cache_core.specs.Connection.Fits.{Fits};
+ghost use Rattle.cache_core.specs.Connection.Fits.{FitsStanding};
 ghost use Rattle.cache_lines.specs.Outputs.{IsRoomy};
 ghost use Rattle.cache_commands.specs.Loads.Standings.{waits_for_load};
 ghost use Rattle.cache_commands.specs.declared.loads.standing.Standing.TheVariants as now;
@@ -24,7 +24,7 @@ pub struct Connection {
     pub output: ReplyBuffer,
     /// Why the connection closed, or `None` while it is open.
     pub closing: Option<Closing>,
-    ghost fits: { Fits standing waited closing unread.bytes },
+    ghost fits: { FitsStanding standing waited closing unread.bytes },
     ghost roomy: { waits_for_load standing ≡ true → IsRoomy output },
 }
 

@@ -5,7 +5,7 @@ ghost use Rattle.cache_core.specs.Connection.Fed.{FedOver, LinesLeft, LooksAsBef
 ghost use Rattle.cache_core.specs.Connection.Fits.{ClosesFor};
 ghost use Rattle.cache_core.specs.Connection.Parts.{waiting_before};
 ghost use Rattle.cache_core.specs.Connection.Shown.{put_in};
-ghost use Rattle.cache_lines.specs.Bases.{CanRun, LooksSame, seen};
+ghost use Rattle.cache_lines.specs.Bases.{CanRun, LooksSame, seen_on};
 ghost use Rattle.cache_lines.specs.Ended.{spare_of};
 ghost use Rattle.cache_lines.specs.Lines.{set_in};
 ghost use Rattle.cache_lines.specs.Outputs.{IsRoomy};
@@ -45,13 +45,13 @@ impl Connection {
         number: u64,
         piece: &[u8],
     )
-        requires can_run { CanRun now (seen S.view T.view base.old self.old.output) }
+        requires can_run { CanRun now (seen_on S.view T.view base.old self.old.output) }
         requires fits { length piece.now ≤ self.old.unread.room }
         requires runs { waits_for_load self.old.standing ≡ false }
         ensures left { LinesLeft now number
             (unread_behind self.old.standing self.old.unread.bytes ++ piece.now) self.new
-            (seen S.view T.view base.old self.old.output)
-            (seen S.view T.view base.new self.new.output) }
+            (seen_on S.view T.view base.old self.old.output)
+            (seen_on S.view T.view base.new self.new.output) }
         ensures spare { spare_of (T.view base.old.tape) ≤ spare_of (T.view base.new.tape) + 1 }
         ensures goes { SameTaken base.old.loads base.new.loads }
     {
@@ -92,7 +92,7 @@ pub fn feed_ready<S: Store, T: Tape>(
     connection: &mut Connection,
     piece: &[u8],
 ) -> bool
-    requires can_run { CanRun now (seen S.view T.view base.old connection.old.output) }
+    requires can_run { CanRun now (seen_on S.view T.view base.old connection.old.output) }
     requires fits { length piece.now ≤ connection.old.unread.room }
     requires open { connection.old.closing ≡ None }
     requires ready { connection.old.standing ≡ now_is.Ready }
@@ -114,7 +114,7 @@ fn feed_held<S: Store, T: Tape>(
     connection: &mut Connection,
     piece: &[u8],
 ) -> Result<bool, AllocError>
-    requires can_run { CanRun now (seen S.view T.view base.old connection.old.output) }
+    requires can_run { CanRun now (seen_on S.view T.view base.old connection.old.output) }
     requires fits { length piece.now ≤ connection.old.unread.room }
     requires open { connection.old.closing ≡ None }
     requires held { connection.old.standing ≡ now_is.Held }
@@ -154,7 +154,7 @@ pub fn feed_connection<S: Store, T: Tape>(
     connection: &mut Connection,
     piece: &[u8],
 ) -> Result<bool, AllocError>
-    requires can_run { CanRun now (seen S.view T.view base.old connection.old.output) }
+    requires can_run { CanRun now (seen_on S.view T.view base.old connection.old.output) }
     requires fits { length piece.now ≤ connection.old.unread.room }
     requires open { connection.old.closing ≡ None }
     ensures ran { IfOk result (λ is_held. FedOver S.view T.view now number base.old base.new

@@ -2,7 +2,7 @@
 ghost use Rattle.std.specs.Prelude.{◌≡◌, ◌+◌, ◌≤◌, ℕ, None, length, suc, vec_len, vec_capacity};
 ghost use Rattle.audit_model.specs.Replies.{outcome_text};
 ghost use Rattle.audit_model.specs.Steps.{Deliver};
-ghost use Rattle.cache_core.specs.Connection.Fed.{AwaitsLoad, IsReplied, StepRan, seen_of};
+ghost use Rattle.cache_core.specs.Connection.Fed.{AwaitsLoad, IsReplied, StepRan, seen_by};
 ghost use Rattle.cache_core.specs.Settled.{HasSpareFor};
 ghost use Rattle.cache_lines.specs.Bases.{CanRun};
 ghost use Rattle.cache_lines.specs.Ended.{spare_of};
@@ -49,10 +49,10 @@ pub fn deliver<S: Store, T: Tape>(
     requires waits { AwaitsLoad (S.view base.old.store).frame.config connection.old }
     requires room { vec_len connection.old.output.text + length (outcome_text outcome.now)
         ≤ vec_capacity connection.old.output.text }
-    ensures ran { (now : ℕ) → CanRun now (seen_of S.view T.view base.old connection.old)
+    ensures ran { (now : ℕ) → CanRun now (seen_by S.view T.view base.old connection.old)
         → StepRan now number (Deliver number outcome.now) connection.old connection.new
-        (seen_of S.view T.view base.old connection.old)
-        (seen_of S.view T.view base.new connection.new) }
+        (seen_by S.view T.view base.old connection.old)
+        (seen_by S.view T.view base.new connection.new) }
     ensures spare { spare_of (T.view base.old.tape) ≤ spare_of (T.view base.new.tape) + 1 }
     ensures further { (lines : ℕ) → HasSpareFor (suc lines) (T.view base.old.tape)
         → HasSpareFor lines (T.view base.new.tape) }

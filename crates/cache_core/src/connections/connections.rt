@@ -2,10 +2,13 @@
 ghost use Rattle.std.specs.Prelude.{◌≡◌, ◌<◌, ◌++◌, ◌∷◌, [], Some, true, false, length, slice_set, OnOk, OnErr, MatchOption};
 ghost use Rattle.std.specs.List.{slice_get};
 ghost use Rattle.cache_core.specs.Connections.Presence.{Here, Out, closing_at, is_here, retired_at};
+ghost use Rattle.cache_core.specs.Taking.{TakesOwedAt};
 
-use crate::connection::Connection;
+use crate::connection::{Connection, Taken};
 use crate::connections::guesses::Guesses;
-use crate::connections::residents::{FIRST_REASON, Resident, find, gone_for, reason_of, remove_at};
+use crate::connections::residents::{
+    FIRST_REASON, Resident, find, gone_for, reason_of, remove_at, take_held,
+};
 use crate::connections::words::Words;
 use audit_model::Closing;
 use cache_commands::push_within;
@@ -122,6 +125,23 @@ impl Connections {
         let word = find(&self.residents, &self.words, &self.guesses, index);
         let resident = &mut self.residents[word as usize];
         resident.connection = Some(connection);
+    }
+
+    /// MovesCourse out what the connection at an index is owed. The call allocates nothing.
+    pub fn take_owed(&mut self, alloc: Global, index: usize) -> Taken
+        requires { index < length self.old }
+        ensures { TakesOwedAt self.old self.new index result }
+    {
+        let word = find(&self.residents, &self.words, &self.guesses, index);
+        if word >= FIRST_REASON {
+            return Taken {
+                replies: Vec::new(alloc),
+                closing: Some(reason_of(word)),
+                waits: false,
+            };
+        }
+        self.guesses.keep(index, word);
+        take_held(alloc, &mut self.residents[word as usize])
     }
 
     /// Drops the connection at an index if it has closed and its replies were taken. The cause of its closing is kept. The call allocates

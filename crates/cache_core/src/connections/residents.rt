@@ -3,11 +3,13 @@ ghost use Rattle.std.specs.Prelude.{◌≡◌, ◌+◌, ◌-◌, ◌<◌, ◌≤
 ghost use Rattle.std.specs.List.{slice_get};
 ghost use Rattle.cache_core.specs.Connections.Presence.{Gone, Here, Out, closing_at, is_here, retired, retired_at};
 ghost use Rattle.cache_core.specs.Connections.Residents.{AreSettled, first_reason, held_or_out, presences_of, reason_numbered, reason_word};
+ghost use Rattle.cache_core.specs.Taking.{IsLeftOf, IsOwed};
 
-use crate::connection::Connection;
+use crate::connection::{Connection, Taken, take_owed};
 use crate::connections::guesses::Guesses;
 use crate::connections::words::Words;
 use audit_model::Closing;
+use std::alloc::Global;
 
 /// The first of the words that say why a connection closed.
 pub const FIRST_REASON: u32 = 0xFFFF_FFF0;
@@ -55,6 +57,23 @@ pub fn gone_for(resident: &Resident) -> Option<Closing>
     match &resident.connection {
         Some(connection) if connection.output.text.is_empty() => connection.closing,
         _ => None,
+    }
+}
+
+/// MovesCourse out what the connection of a resident is owed; nothing while it is out.
+pub fn take_held(alloc: Global, resident: &mut Resident) -> Taken
+    ensures place { resident.new.place ≡ resident.old.place }
+    ensures left { IsLeftOf (held_or_out resident.old.connection)
+        (held_or_out resident.new.connection) }
+    ensures owed { IsOwed (held_or_out resident.old.connection) result }
+{
+    match &mut resident.connection {
+        Some(connection) => take_owed(alloc, connection),
+        None => Taken {
+            replies: Vec::new(alloc),
+            closing: Some(Closing::Asked),
+            waits: false,
+        },
     }
 }
 

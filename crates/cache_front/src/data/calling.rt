@@ -41,9 +41,9 @@ pub fn prepare(
     if count >= MOST_VALUES {
         return Err(AllocError);
     }
-    let bytes = Vec::from_slice(alloc, bytes)?;
+    let value = StoredValue::new(alloc, bytes, milliseconds)?;
     notes.reserve(count + 1)?;
-    Ok(StoredValue::new(bytes, milliseconds))
+    Ok(value)
 }
 
 /// Returns the bytes of a value, or `None` if there is none.

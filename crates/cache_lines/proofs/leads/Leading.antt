@@ -1,5 +1,5 @@
 -- Tasks run to their end as they do with others behind them.
-use Rattle.std.proofs.Common.{refl, sym, ap, ◌∙◌, ◌≡◌, ℕ, Bool, true, false, ◌&&◌, List, [], ◌∷◌, ◌++◌, Some, None, if◌then◌else◌, subst, append_assoc, Option}
+use Rattle.std.proofs.Common.{arith, refl, sym, ap, ◌∙◌, ◌≡◌, ℕ, Bool, true, false, ◌&&◌, List, [], ◌∷◌, ◌++◌, Some, None, if◌then◌else◌, subst, append_assoc, Option}
 use Rattle.std.proofs.lemmas.Bool.{and_from, and_parts}
 use Rattle.std.proofs.lemmas.Option.{same_Some}
 use Rattle.std.specs.List.{cons_option, list_all}
@@ -14,6 +14,7 @@ use Rattle.audit_model.specs.Situation.{Situation, may_run_in}
 use Rattle.audit_model.specs.Steps.{Task, Store, Deliver, RunAgain, RunHeld, RunLines, PlacedStep, is_right}
 use Rattle.audit_model.specs.declared.config.Config.{Config}
 use Rattle.audit_model.specs.declared.transcript.Step.{Step}
+use Rattle.audit_laws.proofs.Following.{passed}
 use Rattle.audit_laws.proofs.waiting.Records.{has_no_held, fit-due, no-held-due, no-held-left, told-due, told-left}
 use Rattle.audit_laws.proofs.waiting.Turns.{steps}
 use Rattle.audit_laws.specs.Leading.{is_parted}
@@ -34,12 +35,7 @@ due-behind may (Store key outcome ∷ front) tasks e = let no : Store key outcom
 due-behind may (Deliver conn outcome ∷ front) tasks e = let no : Deliver conn outcome ∷ front ≡ [] = e in cc
 due-behind may (RunAgain conn ∷ front) tasks e = let no : RunAgain conn ∷ front ≡ [] = e in cc
 due-behind may (RunHeld conn ∷ front) tasks e = let no : RunHeld conn ∷ front ≡ [] = e in cc
-due-behind may (RunLines conn ∷ front) tasks e = go (λ h. due-behind may front tasks h) (may conn) e
-  where
-    go : (due may front ≡ [] → due may (front ++ tasks) ≡ due may tasks) → (b : Bool) → (if b then RunLines conn ∷ front else due may front) ≡ []
-        → (if b then RunLines conn ∷ (front ++ tasks) else due may (front ++ tasks)) ≡ due may tasks
-    go next true h = let no : RunLines conn ∷ front ≡ [] = h in cc
-    go next false h = next h
+due-behind may (RunLines conn ∷ front) tasks e = let next = due-behind may front tasks in grind (arith, next)
 
 -- where some of the first are due, those behind stay behind
 due-front : (may : ℕ → Bool) (front tasks : List Task) (task : Task) (rest : List Task) → due may front ≡ task ∷ rest → due may (front ++ tasks) ≡ (task ∷ rest) ++ tasks
@@ -48,12 +44,7 @@ due-front may (Store key outcome ∷ front) tasks task rest e = ap (λ ts. ts ++
 due-front may (Deliver conn outcome ∷ front) tasks task rest e = ap (λ ts. ts ++ tasks) e
 due-front may (RunAgain conn ∷ front) tasks task rest e = ap (λ ts. ts ++ tasks) e
 due-front may (RunHeld conn ∷ front) tasks task rest e = ap (λ ts. ts ++ tasks) e
-due-front may (RunLines conn ∷ front) tasks task rest e = go (λ h. due-front may front tasks task rest h) (may conn) e
-  where
-    go : (due may front ≡ task ∷ rest → due may (front ++ tasks) ≡ (task ∷ rest) ++ tasks) → (b : Bool) → (if b then RunLines conn ∷ front else due may front) ≡ task ∷ rest
-        → (if b then RunLines conn ∷ (front ++ tasks) else due may (front ++ tasks)) ≡ (task ∷ rest) ++ tasks
-    go next true h = ap (λ ts. ts ++ tasks) h
-    go next false h = next h
+due-front may (RunLines conn ∷ front) tasks task rest e = let next = due-front may front tasks task rest in grind (arith, next)
 
 left-front : (task : Task) (rest tasks : List Task) → left_after ((task ∷ rest) ++ tasks) ≡ left_after (task ∷ rest) ++ tasks
 left-front (Store key outcome) rest tasks = refl
@@ -106,50 +97,43 @@ and-assoc false b c = refl
 
 -- steps that run the first tasks to their end do so with others behind them, which are due then
 pub frames : (config : Config) (s t : Situation) (front tasks : List Task) (steps more : List Step) → after_steps config s front steps ≡ Some t → Frames config s t front tasks steps more
-frames config s t front tasks [] more e = go (is_empty (due (may_run_in s) front)) refl e
-  where
-    go : (b : Bool) → is_empty (due (may_run_in s) front) ≡ b → (if b then Some s else None) ≡ Some t → Frames config s t front tasks [] more
-    go false is h = let no : None ≡ Some t = h in cc
-    go true is h =
-        let none = due-behind (may_run_in s) front tasks (empty-is _ is) in
-        let same : s ≡ t = same_Some s t h in
-        record {
-          after = same-due config s (front ++ tasks) tasks more none ∙ ap (λ u. after_steps config u tasks more) same;
-          placed = same-due-placed config s (front ++ tasks) tasks more none ∙ ap (λ u. placed_steps_in config u tasks more) same;
-          timely = λ made. same-due-timely config made s (front ++ tasks) tasks more none ∙ ap (λ u. are_timely config made u tasks more) same;
-        }
+frames config s t front tasks [] more e =
+    let ends = passed _ _ t e in
+    let none = due-behind (may_run_in s) front tasks (empty-is _ ends.test) in
+    let same : s ≡ t = same_Some s t ends.rest in
+    record {
+      after = same-due config s (front ++ tasks) tasks more none ∙ ap (λ u. after_steps config u tasks more) same;
+      placed = same-due-placed config s (front ++ tasks) tasks more none ∙ ap (λ u. placed_steps_in config u tasks more) same;
+      timely = λ made. same-due-timely config made s (front ++ tasks) tasks more none ∙ ap (λ u. are_timely config made u tasks more) same;
+    }
 frames config s t front tasks (step ∷ steps) more e = go (λ u left h. frames config u t left tasks steps more h) (due (may_run_in s) front) refl e
   where
     go : ((u : Situation) (left : List Task) → after_steps config u left steps ≡ Some t → Frames config u t left tasks steps more)
         → (ts : List Task) → due (may_run_in s) front ≡ ts → (if is_right config (step_of config s ts step) then after_steps config (stepped config s ts step) (left_after ts) steps else None) ≡ Some t
         → Frames config s t front tasks (step ∷ steps) more
     go next [] is h = let no : None ≡ Some t = h in cc
-    go next (task ∷ rest) is h = right (is_right config (step_of config s (task ∷ rest) step)) refl h
-      where
-        right : (b : Bool) → is_right config (step_of config s (task ∷ rest) step) ≡ b → (if b then after_steps config (stepped config s (task ∷ rest) step) (left_after (task ∷ rest)) steps else None) ≡ Some t
-            → Frames config s t front tasks (step ∷ steps) more
-        right false r k = let no : None ≡ Some t = k in cc
-        right true r k =
-            let u = stepped config s (task ∷ rest) step in
-            let f = next u (left_after (task ∷ rest)) k in
-            let behind = due-front (may_run_in s) front tasks task rest is in
-            record {
-              after =
-                  ap (λ ts. if is_right config (step_of config s ts step) then after_steps config (stepped config s ts step) (left_after ts) (steps ++ more) else None) behind
-                  ∙ ap (λ b. if b then after_steps config u (left_after ((task ∷ rest) ++ tasks)) (steps ++ more) else None) r
-                  ∙ ap (λ ts. after_steps config u ts (steps ++ more)) (left-front task rest tasks) ∙ f.after;
-              placed =
-                  ap (λ ts. step_of config s ts step ∷ placed_steps_in config (stepped config s ts step) (left_after ts) (steps ++ more)) behind
-                  ∙ ap (λ ts. step_of config s (task ∷ rest) step ∷ placed_steps_in config u ts (steps ++ more)) (left-front task rest tasks)
-                  ∙ ap (λ ps. step_of config s (task ∷ rest) step ∷ ps) f.placed
-                  ∙ sym (ap (λ ts. (step_of config s ts step ∷ placed_steps_in config (stepped config s ts step) (left_after ts) steps) ++ placed_steps_in config t tasks more) is);
-              timely = λ made.
-                  ap (λ ts. is_timely_after config made (step_of config s ts step).effect (stepped config s ts step) && are_timely config made (stepped config s ts step) (left_after ts) (steps ++ more)) behind
-                  ∙ ap (λ ts. is_timely_after config made (step_of config s (task ∷ rest) step).effect u && are_timely config made u ts (steps ++ more)) (left-front task rest tasks)
-                  ∙ ap (λ b. is_timely_after config made (step_of config s (task ∷ rest) step).effect u && b) (f.timely made)
-                  ∙ and-assoc (is_timely_after config made (step_of config s (task ∷ rest) step).effect u) (are_timely config made u (left_after (task ∷ rest)) steps) (are_timely config made t tasks more)
-                  ∙ sym (ap (λ ts. (is_timely_after config made (step_of config s ts step).effect (stepped config s ts step) && are_timely config made (stepped config s ts step) (left_after ts) steps) && are_timely config made t tasks more) is);
-            }
+    go next (task ∷ rest) is h =
+        let ends = passed _ _ t h in
+        let u = stepped config s (task ∷ rest) step in
+        let f = next u (left_after (task ∷ rest)) ends.rest in
+        let behind = due-front (may_run_in s) front tasks task rest is in
+        record {
+          after =
+              ap (λ ts. if is_right config (step_of config s ts step) then after_steps config (stepped config s ts step) (left_after ts) (steps ++ more) else None) behind
+              ∙ ap (λ b. if b then after_steps config u (left_after ((task ∷ rest) ++ tasks)) (steps ++ more) else None) ends.test
+              ∙ ap (λ ts. after_steps config u ts (steps ++ more)) (left-front task rest tasks) ∙ f.after;
+          placed =
+              ap (λ ts. step_of config s ts step ∷ placed_steps_in config (stepped config s ts step) (left_after ts) (steps ++ more)) behind
+              ∙ ap (λ ts. step_of config s (task ∷ rest) step ∷ placed_steps_in config u ts (steps ++ more)) (left-front task rest tasks)
+              ∙ ap (λ ps. step_of config s (task ∷ rest) step ∷ ps) f.placed
+              ∙ sym (ap (λ ts. (step_of config s ts step ∷ placed_steps_in config (stepped config s ts step) (left_after ts) steps) ++ placed_steps_in config t tasks more) is);
+          timely = λ made.
+              ap (λ ts. is_timely_after config made (step_of config s ts step).effect (stepped config s ts step) && are_timely config made (stepped config s ts step) (left_after ts) (steps ++ more)) behind
+              ∙ ap (λ ts. is_timely_after config made (step_of config s (task ∷ rest) step).effect u && are_timely config made u ts (steps ++ more)) (left-front task rest tasks)
+              ∙ ap (λ b. is_timely_after config made (step_of config s (task ∷ rest) step).effect u && b) (f.timely made)
+              ∙ and-assoc (is_timely_after config made (step_of config s (task ∷ rest) step).effect u) (are_timely config made u (left_after (task ∷ rest)) steps) (are_timely config made t tasks more)
+              ∙ sym (ap (λ ts. (is_timely_after config made (step_of config s ts step).effect (stepped config s ts step) && are_timely config made (stepped config s ts step) (left_after ts) steps) && are_timely config made t tasks more) is);
+        }
 
 -- Steps that lead on, whatever comes behind them.
 
@@ -224,27 +208,22 @@ empty-behind (task ∷ tasks) told e = let no : false ≡ true = e in cc
 
 -- steps that run those tasks to their end leave it tidy for those that are told behind them
 pub tidy-behind : (config : Config) (s t : Situation) (tasks : List Task) (told : List ℕ) (more : List Step) → has_no_held tasks ≡ true → Tidy (told_behind tasks told) s → after_steps config s tasks more ≡ Some t → Tidy told t
-tidy-behind config s t tasks told [] none tidy e = go (is_empty (due (may_run_in s) tasks)) refl e
-  where
-    go : (b : Bool) → is_empty (due (may_run_in s) tasks) ≡ b → (if b then Some s else None) ≡ Some t → Tidy told t
-    go false is h = let no : None ≡ Some t = h in cc
-    go true is h = subst (λ u. Tidy told u) (same_Some s t h) (subst (λ x. Tidy x s) (ap (λ x. x ++ told) (sym (told-due (may_run_in s) tasks)) ∙ empty-behind (due (may_run_in s) tasks) told is) tidy)
+tidy-behind config s t tasks told [] none tidy e =
+    let ends = passed _ _ t e in
+    let left = ap (λ x. x ++ told) (sym (told-due (may_run_in s) tasks)) ∙ empty-behind (due (may_run_in s) tasks) told ends.test in
+    subst (λ u. Tidy told u) (same_Some s t ends.rest) (subst (λ x. Tidy x s) left tidy)
 tidy-behind config s t tasks told (step ∷ more) none tidy e =
     go (λ u left h k. tidy-behind config u t left told more h k) (due (may_run_in s) tasks) refl (no-held-due (may_run_in s) tasks none) (subst (λ x. Tidy (x ++ told) s) (sym (told-due (may_run_in s) tasks)) tidy) e
   where
     go : ((u : Situation) (left : List Task) → has_no_held left ≡ true → Tidy (told_behind left told) u → after_steps config u left more ≡ Some t → Tidy told t)
         → (ts : List Task) → due (may_run_in s) tasks ≡ ts → has_no_held ts ≡ true → Tidy (told_behind ts told) s → after_one config s ts step more ≡ Some t → Tidy told t
     go next [] is h tidies k = let no : None ≡ Some t = k in cc
-    go next (task ∷ rest) is h tidies k = right (is_right config (placed_step_in config s (Some task) step)) refl k
-      where
-        right : (b : Bool) → is_right config (placed_step_in config s (Some task) step) ≡ b
-            → (if b then after_steps config (after_step config s (Some task) step (placed_step_in config s (Some task) step).effect) (left_after (task ∷ rest)) more else None) ≡ Some t → Tidy told t
-        right false r m = let no : None ≡ Some t = m in cc
-        right true r m =
-            next _ (left_after (task ∷ rest)) (no-held-left task rest h)
-            (subst (λ x. Tidy (x ++ told) (after_step config s (Some task) step (placed_step_in config s (Some task) step).effect)) (sym (told-left task rest))
-            (steps config s task step (told_behind rest told) (fit-due s tasks task rest is h) r
-            (subst (λ x. Tidy x s) (append_assoc (told_of_load task) (still_told rest) told) tidies))) m
+    go next (task ∷ rest) is h tidies k =
+        let ends = passed _ _ t k in
+        next _ (left_after (task ∷ rest)) (no-held-left task rest h)
+        (subst (λ x. Tidy (x ++ told) (after_step config s (Some task) step (placed_step_in config s (Some task) step).effect)) (sym (told-left task rest))
+        (steps config s task step (told_behind rest told) (fit-due s tasks task rest is h) ends.test
+        (subst (λ x. Tidy x s) (append_assoc (told_of_load task) (still_told rest) told) tidies))) ends.rest
 
 joined-parted : (part_of : List ℕ → ℕ) (ps qs : List PlacedStep) → list_all (is_parted part_of) (accepted_values ps) ≡ true → list_all (is_parted part_of) (accepted_values qs) ≡ true → list_all (is_parted part_of) (accepted_values (ps ++ qs)) ≡ true
 joined-parted part_of [] qs x y = y

@@ -47,7 +47,7 @@ use Rattle.cache_lines.specs.Lines.{has_its_part, is_timely_after, ready, set_in
 use Rattle.cache_lines.specs.Making.{Making}
 use Rattle.cache_lines.specs.Ordered.{HaveKeys, HasKeys, order_behind}
 use Rattle.cache_lines.specs.Tape.Taped.{step_held}
-use Rattle.cache_lines.specs.Waiting.{holding_load, waiting, with_loads}
+use Rattle.cache_lines.specs.Waiting.{holding_load, waiting_with, with_loads}
 use Rattle.audit_model.specs.declared.command.Command.TheVariants as says
 use Rattle.audit_model.specs.declared.event.Outcome.TheVariants as came
 use Rattle.audit_model.specs.declared.event.Event.TheVariants as event
@@ -57,11 +57,7 @@ use Rattle.audit_model.specs.declared.event.Event.TheVariants as event
 -- where something is counted of a connection that may be there, it is there, and its `LOAD` waits
 pub counted : (o : Option Connection) → 1 ≤ wait_of o → (c : Connection) × (o ≡ Some c) × (is_waiting_now c.standing ≡ true)
 counted None some = absurd (omega arith)
-counted (Some c) some = (c, refl, go (is_waiting_now c.standing) refl some)
-  where
-    go : (b : Bool) → is_waiting_now c.standing ≡ b → 1 ≤ (if b then 1 else 0) → is_waiting_now c.standing ≡ true
-    go true e h = e
-    go false e h = absurd (omega arith)
+counted (Some c) some = (c, refl, grind arith)
 
 pub told-waits : (n : ℕ) (told : List ℕ) (s : Situation) → Tidy (n ∷ told) s → (c : Connection) × (connection_in n s ≡ Some c) × (c.number ≡ n) × (is_waiting_now c.standing ≡ true)
 told-waits n told s tidy =
@@ -83,15 +79,15 @@ give-up-tidy load moment s tidy = subst (λ told. Tidy told (without_load load m
 
 -- a step of a connection that waits, in all that it leads to
 waiter : (config : Config) (making : Making) (s t : Situation) (n : ℕ) (line bytes : List ℕ) (times : ℕ) (task : Task) (rest : List Task) (action : Action) (step : Step) (drawn : Identifiers)
-    → connection_in step.conn s ≡ Some (waiting n line bytes times)
-    → due (may_run_in s) (task ∷ rest) ≡ task ∷ rest → left_after (task ∷ rest) ≡ rest → SuitsTask task s → line_in (Some task) (Some (waiting n line bytes times)) ≡ Some line → action_in config times (Some task) step ≡ action
+    → connection_in step.conn s ≡ Some (waiting_with n line bytes times)
+    → due (may_run_in s) (task ∷ rest) ≡ task ∷ rest → left_after (task ∷ rest) ≡ rest → SuitsTask task s → line_in (Some task) (Some (waiting_with n line bytes times)) ≡ Some line → action_in config times (Some task) step ≡ action
     → is_right config (placed_doing config s (Some task) (Some line) action step) ≡ true
     → after_step config s (Some task) step (placed_doing config s (Some task) (Some line) action step).effect ≡ t
     → has_its_part making.part_of (placed_doing config s (Some task) (Some line) action step).effect ≡ true
     → is_timely_after config making.made (placed_doing config s (Some task) (Some line) action step).effect t ≡ true
     → StepDraws config step drawn drawn → TasksLead config making s (task ∷ rest) (step ∷ []) t rest drawn drawn
 waiter config making s t n line bytes times task rest action step drawn found is_due leaves fit due_line does right after in_part in_time draws =
-    let placed = placed-is config s task step (waiting n line bytes times) line action found due_line does in
+    let placed = placed-is config s task step (waiting_with n line bytes times) line action found due_line does in
     one config making s t task rest step drawn drawn is_due leaves fit (ap (is_right config) placed ∙ right)
     (ap (λ p. after_step config s (Some task) step p.effect) placed ∙ after)
     (ap (λ p. has_its_part making.part_of p.effect) placed ∙ in_part)
@@ -126,7 +122,7 @@ put-after s n c d left more f found is none =
     ∙ ap (λ b. with_connection false d (record s { held = left; dropped = b })) (or-false s.dropped)
 
 pub delivered : (config : Config) (making : Making) (s : Situation) (n : ℕ) (line bytes : List ℕ) (times : ℕ) (outcome : Outcome) (tasks : List Task) (drawn : Identifiers)
-    → connection_in n s ≡ Some (waiting n line bytes times) → DoesRight config s (Delivering outcome) (step_saying 0 [] (outcome_text outcome) None [])
+    → connection_in n s ≡ Some (waiting_with n line bytes times) → DoesRight config s (Delivering outcome) (step_saying 0 [] (outcome_text outcome) None [])
     → TasksLead config making s (Deliver n outcome ∷ tasks) (step_saying n line (outcome_text outcome) None [] ∷ [])
     (set_in s (held_when_run config s (Delivering outcome) (step_saying 0 [] (outcome_text outcome) None [])) (ready n bytes)) tasks drawn drawn
 delivered config making s n line bytes times outcome tasks drawn found right =
@@ -134,11 +130,11 @@ delivered config making s n line bytes times outcome tasks drawn found right =
     let effect = effect_in config (view_in config s) (Delivering outcome) step in
     waiter config making s _ n line bytes times (Deliver n outcome) tasks (Delivering outcome) step drawn found refl refl tt refl refl
     (right-turn config s (Deliver n outcome) n line (Delivering outcome) step right (eq-eqb n n refl))
-    (put-after s n (waiting n line bytes times) (ready n bytes) (held_when_run config s (Delivering outcome) (step_saying 0 [] (outcome_text outcome) None [])) false (connection_after (Some (Deliver n outcome)) step effect) found refl refl)
+    (put-after s n (waiting_with n line bytes times) (ready n bytes) (held_when_run config s (Delivering outcome) (step_saying 0 [] (outcome_text outcome) None [])) false (connection_after (Some (Deliver n outcome)) step effect) found refl refl)
     refl refl (draws-no config step drawn (and-no (says_drop (reading config line)) (same (outcome_text outcome) (codes "ERR id\n")) (no-outcome outcome)))
 
 pub abandoned : (config : Config) (making : Making) (s : Situation) (n : ℕ) (line bytes : List ℕ) (times : ℕ) (tasks : List Task) (drawn : Identifiers)
-    → connection_in n s ≡ Some (waiting n line bytes times) → nat_le 200 times ≡ true → DoesRight config s Abandoning (step_saying 0 [] (codes "ERR abandoned\n") None [])
+    → connection_in n s ≡ Some (waiting_with n line bytes times) → nat_le 200 times ≡ true → DoesRight config s Abandoning (step_saying 0 [] (codes "ERR abandoned\n") None [])
     → TasksLead config making s (RunAgain n ∷ tasks) (step_saying n line (codes "ERR abandoned\n") None [] ∷ [])
     (set_in s (held_when_run config s Abandoning (step_saying 0 [] (codes "ERR abandoned\n") None [])) (ready n bytes)) tasks drawn drawn
 abandoned config making s n line bytes times tasks drawn found last right =
@@ -146,7 +142,7 @@ abandoned config making s n line bytes times tasks drawn found last right =
     let effect = effect_in config (view_in config s) Abandoning step in
     waiter config making s _ n line bytes times (RunAgain n) tasks Abandoning step drawn found refl refl tt refl (ap (λ b. if b then Abandoning else action_of_line config step) last)
     (right-turn config s (RunAgain n) n line Abandoning step right (eq-eqb n n refl))
-    (put-after s n (waiting n line bytes times) (ready n bytes) (held_when_run config s Abandoning (step_saying 0 [] (codes "ERR abandoned\n") None [])) false (connection_after (Some (RunAgain n)) step effect) found refl refl)
+    (put-after s n (waiting_with n line bytes times) (ready n bytes) (held_when_run config s Abandoning (step_saying 0 [] (codes "ERR abandoned\n") None [])) false (connection_after (Some (RunAgain n)) step effect) found refl refl)
     refl refl (draws-no config step drawn (and-no (says_drop (reading config line)) false refl))
 
 -- what the line of a `LOAD` that runs again does
@@ -157,7 +153,7 @@ runs-load config line key times step stays is few reads =
     ∙ ap (λ l. action_by (reading config l)) is ∙ ap action_by reads
 
 pub answered : (config : Config) (making : Making) (s : Situation) (n : ℕ) (line bytes key reply : List ℕ) (times : ℕ) (told : List Note) (tasks : List Task) (drawn : Identifiers)
-    → connection_in n s ≡ Some (waiting n line bytes times) → nat_le 200 times ≡ false → reading config line ≡ Ok (says.Load key)
+    → connection_in n s ≡ Some (waiting_with n line bytes times) → nat_le 200 times ≡ false → reading config line ≡ Ok (says.Load key)
     → DoesRight config s (Running (says.Load key)) (step_saying 0 [] reply None told)
     → TasksLead config making s (RunAgain n ∷ tasks) (step_saying n line reply None told ∷ [])
     (set_in s (held_when_run config s (Running (says.Load key)) (step_saying 0 [] reply None told)) (ready n bytes)) tasks drawn drawn
@@ -166,7 +162,7 @@ answered config making s n line bytes key reply times told tasks drawn found few
     let effect = effect_in config (view_in config s) (Running (says.Load key)) step in
     waiter config making s _ n line bytes times (RunAgain n) tasks (Running (says.Load key)) step drawn found refl refl tt refl (runs-load config line key times step refl refl few reads)
     (right-turn config s (RunAgain n) n line (Running (says.Load key)) step right (eq-eqb n n refl))
-    (put-after s n (waiting n line bytes times) (ready n bytes) (held_when_run config s (Running (says.Load key)) (step_saying 0 [] reply None told)) false (connection_after (Some (RunAgain n)) step effect) found refl refl)
+    (put-after s n (waiting_with n line bytes times) (ready n bytes) (held_when_run config s (Running (says.Load key)) (step_saying 0 [] reply None told)) false (connection_after (Some (RunAgain n)) step effect) found refl refl)
     refl refl (draws-no config step drawn (ap (λ r. says_drop r && same reply (codes "ERR id\n")) reads))
 
 -- ---- held back
@@ -178,7 +174,7 @@ right-held config s n line =
     (none_succeeded (map (candidate_at config s.latest) s.held ++ []))) refl) refl
 
 pub held_back : (config : Config) (making : Making) (s : Situation) (n : ℕ) (line bytes : List ℕ) (times : ℕ) (tasks : List Task) (drawn : Identifiers)
-    → connection_in n s ≡ Some (waiting n line bytes times) → nat_le 200 times ≡ false
+    → connection_in n s ≡ Some (waiting_with n line bytes times) → nat_le 200 times ≡ false
     → TasksLead config making s (RunAgain n ∷ tasks) (step_held n line ∷ [])
     (set_in s (held_when_run config s Holding (step_held n line)) (holding_load n line bytes times)) tasks drawn drawn
 held_back config making s n line bytes times tasks drawn found few =
@@ -186,38 +182,38 @@ held_back config making s n line bytes times tasks drawn found few =
     let effect = effect_in config (view_in config s) Holding step in
     waiter config making s _ n line bytes times (RunAgain n) tasks Holding step drawn found refl refl tt refl (ap (λ b. if b then Abandoning else action_of_line config step) few)
     (right-held config s n line)
-    (put-after s n (waiting n line bytes times) (holding_load n line bytes times) (held_when_run config s Holding step) false (connection_after (Some (RunAgain n)) step effect) found
+    (put-after s n (waiting_with n line bytes times) (holding_load n line bytes times) (held_when_run config s Holding step) false (connection_after (Some (RunAgain n)) step effect) found
     (let e : 0 + times ≡ times = omega arith in ap (λ k. holding_load n line bytes k) e) refl)
     refl refl (held-draws config n line drawn)
 
 -- ---- waiting again
 
 -- what the step does to the loads and to the connection
-put-waiting : (s : Situation) (n : ℕ) (line bytes key : List ℕ) (times : ℕ) (number : Option ℕ) (left : List HeldValue) (f : Connection → Connection) → connection_in n s ≡ Some (waiting n line bytes times) → f (waiting n line bytes times) ≡ waiting n line bytes (suc times)
+put-waiting : (s : Situation) (n : ℕ) (line bytes key : List ℕ) (times : ℕ) (number : Option ℕ) (left : List HeldValue) (f : Connection → Connection) → connection_in n s ≡ Some (waiting_with n line bytes times) → f (waiting_with n line bytes times) ≡ waiting_with n line bytes (suc times)
     → (let u = record s { held = left; dropped = s.dropped || false } in option_map_or (λ k. with_connection false (f k) (join_by n true (Some key) number u)) (connection_in n s) u)
-    ≡ set_in (with_loads (when_sent number s.sent) (when_joined n key number s.pending) s) left (waiting n line bytes (suc times))
+    ≡ set_in (with_loads (when_sent number s.sent) (when_joined n key number s.pending) s) left (waiting_with n line bytes (suc times))
 put-waiting s n line bytes key times number left f found is =
     ap (λ o. let u = record s { held = left; dropped = s.dropped || false } in option_map_or (λ k. with_connection false (f k) (join_by n true (Some key) number u)) o u) found
     ∙ ap (λ k. with_connection false k (join_by n true (Some key) number (record s { held = left; dropped = s.dropped || false }))) is
-    ∙ ap (λ b. with_connection false (waiting n line bytes (suc times)) (join_by n true (Some key) number (record s { held = left; dropped = b }))) (or-false s.dropped)
-    ∙ ap (with_connection false (waiting n line bytes (suc times))) (joins n key number (record s { held = left }))
+    ∙ ap (λ b. with_connection false (waiting_with n line bytes (suc times)) (join_by n true (Some key) number (record s { held = left; dropped = b }))) (or-false s.dropped)
+    ∙ ap (with_connection false (waiting_with n line bytes (suc times))) (joins n key number (record s { held = left }))
 
 pub waits_again : (config : Config) (making : Making) (s : Situation) (n : ℕ) (line bytes key : List ℕ) (times : ℕ) (tasks : List Task) (drawn : Identifiers)
-    → connection_in n s ≡ Some (waiting n line bytes times) → nat_le 200 times ≡ false → reading config line ≡ Ok (says.Load key) → live_at config s.latest s.held key ≡ None
+    → connection_in n s ≡ Some (waiting_with n line bytes times) → nat_le 200 times ≡ false → reading config line ≡ Ok (says.Load key) → live_at config s.latest s.held key ≡ None
     → DoesRight config s (Running (says.Load key)) (step_waiting config s key 0 [])
     → (let number = number_to_send key s.sent s.pending in
     TasksLead config making s (RunAgain n ∷ tasks) (step_silent n line number None [] ∷ [])
-    (set_in (with_loads (when_sent number s.sent) (when_joined n key number s.pending) s) (held_when_run config s (Running (says.Load key)) (step_waiting config s key 0 [])) (waiting n line bytes (suc times))) tasks drawn drawn)
+    (set_in (with_loads (when_sent number s.sent) (when_joined n key number s.pending) s) (held_when_run config s (Running (says.Load key)) (step_waiting config s key 0 [])) (waiting_with n line bytes (suc times))) tasks drawn drawn)
 waits_again config making s n line bytes key times tasks drawn found few reads none right =
     let number = load_sent_by (view_in config s) (Running (says.Load key)) in
     let step = step_silent n line number None [] in
     let effect = effect_in config (view_in config s) (Running (says.Load key)) step in
     let left = held_when_run config s (Running (says.Load key)) (step_waiting config s key 0 []) in
-    subst (λ k. TasksLead config making s (RunAgain n ∷ tasks) (step_silent n line k None [] ∷ []) (set_in (with_loads (when_sent k s.sent) (when_joined n key k s.pending) s) left (waiting n line bytes (suc times))) tasks drawn drawn)
+    subst (λ k. TasksLead config making s (RunAgain n ∷ tasks) (step_silent n line k None [] ∷ []) (set_in (with_loads (when_sent k s.sent) (when_joined n key k s.pending) s) left (waiting_with n line bytes (suc times))) tasks drawn drawn)
     (sends config s key none)
     (waiter config making s _ n line bytes times (RunAgain n) tasks (Running (says.Load key)) step drawn found refl refl tt refl (runs-load config line key times step refl refl few reads)
     (right-turn config s (RunAgain n) n line (Running (says.Load key)) step right (eq-eqb n n refl))
-    (put-waiting s n line bytes key times number left (connection_after (Some (RunAgain n)) step effect) found (let e : 1 + times ≡ suc times = omega arith in ap (λ k. waiting n line bytes k) e))
+    (put-waiting s n line bytes key times number left (connection_after (Some (RunAgain n)) step effect) found (let e : 1 + times ≡ suc times = omega arith in ap (λ k. waiting_with n line bytes k) e))
     refl refl (draws-no config step drawn (and-no (says_drop (reading config line)) false refl)))
 
 -- The records of an answer and of a give-up, from their steps.

@@ -1,18 +1,18 @@
 -- What waits are `LOAD`s, record after record.
-use Rattle.std.proofs.Common.{max, cond, refl, sym, ap, ◌∙◌, subst, inl, inr, ◌≡◌, ℕ, Bool, true, false, not, ◌&&◌, ◌||◌, ◌==◌, List, [], ◌∷◌, ◌++◌, map, Option, Some, None, if◌then◌else◌, Ok, Err, codes, is_none, is_some, nat_le, ◌⊎◌}
-use Rattle.std.proofs.lemmas.Bool.{and_parts, eqb-true}
+use Rattle.std.proofs.Common.{arith, max, refl, sym, ap, ◌∙◌, subst, inl, inr, ◌≡◌, ℕ, Bool, true, false, not, ◌&&◌, ◌||◌, ◌==◌, List, [], ◌∷◌, ◌++◌, map, Option, Some, None, if◌then◌else◌, Ok, Err, codes, is_none, is_some, ◌⊎◌}
+use Rattle.std.proofs.lemmas.Bool.{and_parts}
+use Rattle.std.proofs.lemmas.Bool.Decides.{nat_tests}
 use Rattle.std.proofs.lemmas.Option.{same_Some}
 use Rattle.std.specs.List.{find}
 use Rattle.std.specs.Option.{option_eq, option_map_or}
+use Rattle.audit_laws.proofs.Following.{passed}
 use Rattle.audit_laws.proofs.waiting.Standing.{found-left}
-use Rattle.audit_model.specs.Belongs.{refusal_of}
-use Rattle.audit_model.specs.Bytewise.{same, text_line, is_empty}
+use Rattle.audit_model.specs.Bytewise.{same, text_line}
 use Rattle.audit_model.specs.Changes.{after_step, connection_after, join_by, join_load}
 use Rattle.audit_model.specs.Commands.{quits}
-use Rattle.audit_model.specs.Follows.{Follows, after_event, after_steps, known_in, placed_step_in, tasks_in, without_load}
+use Rattle.audit_model.specs.Follows.{Follows, after_event, after_steps, placed_step_in, tasks_in, without_load}
 use Rattle.audit_model.specs.Grammar.{Reading, reading}
 use Rattle.audit_model.specs.History.{Action, Effect, Running, Faulting, Holding, Delivering, Abandoning, Storing, Value}
-use Rattle.audit_model.specs.Obeys.{has_right_own_value, is_numbered}
 use Rattle.audit_model.specs.Places.{due, first_due, left_after, steps_of}
 use Rattle.audit_model.specs.Replies.{may_refuse, reply_of}
 use Rattle.audit_model.specs.Situation.{Situation, Connection, Standing, Ready, Held, Waiting, connection_in, is_overlong, may_run_in, with_connection, without_number, without_waiting}
@@ -82,21 +82,13 @@ by-reading (Ok says.Sync) e = e
 by-reading (Ok says.Quit) e = e
 
 by-line : (config : Config) (step : Step) → is_loading (action_of_line config step) ≡ true → is_load (reading config step.line) ≡ true
-by-line config step e = go step.held e
-  where
-    go : (b : Bool) → is_loading (if b then Holding else action_by (reading config step.line)) ≡ true → is_load (reading config step.line) ≡ true
-    go true h = let no : false ≡ true = h in cc
-    go false h = by-reading (reading config step.line) h
+by-line config step e = let reads = by-reading (reading config step.line) in grind (arith, reads)
 
 by-task : (config : Config) (times : ℕ) (task : Option Task) (step : Step) → is_loading (action_in config times task step) ≡ true → is_load (reading config step.line) ≡ true
 by-task config times None step e = by-line config step e
 by-task config times (Some (Store key outcome)) step e = let no : false ≡ true = e in cc
 by-task config times (Some (Deliver conn outcome)) step e = let no : false ≡ true = e in cc
-by-task config times (Some (RunAgain conn)) step e = go (nat_le 200 times) e
-  where
-    go : (b : Bool) → is_loading (if b then Abandoning else action_of_line config step) ≡ true → is_load (reading config step.line) ≡ true
-    go true h = let no : false ≡ true = h in cc
-    go false h = by-line config step h
+by-task config times (Some (RunAgain conn)) step e = let line = by-line config step in grind (arith, line)
 by-task config times (Some (RunHeld conn)) step e = by-line config step e
 by-task config times (Some (RunLines conn)) step e = by-line config step e
 
@@ -150,48 +142,18 @@ numbered n ks = find (λ k. k.number == n) ks
 
 found-put : (n : ℕ) (k c : Connection) (ks : List Connection) → numbered n (map (λ x. if x.number == k.number then k else x) ks) ≡ Some c → (c ≡ k) ⊎ (numbered n ks ≡ Some c)
 found-put n k c [] e = inr e
-found-put n k c (x ∷ xs) e = go (found-put n k c xs) (x.number == k.number) refl e
-  where
-    go : (numbered n (map (λ y. if y.number == k.number then k else y) xs) ≡ Some c → (c ≡ k) ⊎ (numbered n xs ≡ Some c)) → (b : Bool) → (x.number == k.number) ≡ b
-        → cond ((if b then k else x).number == n) (Some (if b then k else x)) (numbered n (map (λ y. if y.number == k.number then k else y) xs)) ≡ Some c
-        → (c ≡ k) ⊎ (cond (x.number == n) (Some x) (numbered n xs) ≡ Some c)
-    go next false is h = at (x.number == n) h
-      where
-        at : (b : Bool) → cond b (Some x) (numbered n (map (λ y. if y.number == k.number then k else y) xs)) ≡ Some c → (c ≡ k) ⊎ (cond b (Some x) (numbered n xs) ≡ Some c)
-        at true i = inr i
-        at false i = next i
-    go next true is h = at (k.number == n) refl h
-      where
-        at : (b : Bool) → (k.number == n) ≡ b → cond b (Some k) (numbered n (map (λ y. if y.number == k.number then k else y) xs)) ≡ Some c → (c ≡ k) ⊎ (cond (x.number == n) (Some x) (numbered n xs) ≡ Some c)
-        at true own i = inl (sym (same_Some k c i))
-        at false own i = subst (λ b. (c ≡ k) ⊎ (cond b (Some x) (numbered n xs) ≡ Some c)) (sym (ap (λ m. m == n) (eqb-true x.number k.number is) ∙ own)) (next i)
+found-put n k c (x ∷ xs) e = let next = found-put n k c xs in grind (arith, nat_tests, next)
 
 found-none : (n : ℕ) (ks : List Connection) → numbered n (without_number n ks) ≡ None
 found-none n [] = refl
-found-none n (x ∷ xs) = go (found-none n xs) (x.number == n) refl
-  where
-    go : numbered n (without_number n xs) ≡ None → (b : Bool) → (x.number == n) ≡ b → numbered n (cond (not b) (x ∷ without_number n xs) (without_number n xs)) ≡ None
-    go next true is = next
-    go next false is = ap (λ b. cond b (Some x) (numbered n (without_number n xs))) is ∙ next
+found-none n (x ∷ xs) = let next = found-none n xs in grind (arith, next)
 
 found-without : (n m : ℕ) (c : Connection) (ks : List Connection) → numbered n (without_number m ks) ≡ Some c → numbered n ks ≡ Some c
-found-without n m c ks e = go (m == n) refl
-  where
-    go : (b : Bool) → (m == n) ≡ b → numbered n ks ≡ Some c
-    go true is = let no : None ≡ Some c = sym (found-none n ks) ∙ ap (λ k. numbered n (without_number k ks)) (sym (eqb-true m n is)) ∙ e in cc
-    go false is = sym (found-left n m ks is) ∙ e
+found-without n m c ks e = let none = found-none n ks in let left = found-left n m ks in grind (arith, nat_tests, none, left)
 
 found-more : (n : ℕ) (k c : Connection) (ks : List Connection) → numbered n (ks ++ k ∷ []) ≡ Some c → (c ≡ k) ⊎ (numbered n ks ≡ Some c)
-found-more n k c [] e = go (k.number == n) e
-  where
-    go : (b : Bool) → cond b (Some k) None ≡ Some c → (c ≡ k) ⊎ (None ≡ Some c)
-    go true h = inl (sym (same_Some k c h))
-    go false h = inr h
-found-more n k c (x ∷ xs) e = go (found-more n k c xs) (x.number == n) e
-  where
-    go : (numbered n (xs ++ k ∷ []) ≡ Some c → (c ≡ k) ⊎ (numbered n xs ≡ Some c)) → (b : Bool) → cond b (Some x) (numbered n (xs ++ k ∷ [])) ≡ Some c → (c ≡ k) ⊎ (cond b (Some x) (numbered n xs) ≡ Some c)
-    go next true h = inr h
-    go next false h = next h
+found-more n k c [] e = grind arith
+found-more n k c (x ∷ xs) e = let next = found-more n k c xs in grind (arith, next)
 
 -- a connection of which only a `LOAD` waits
 abbrev ReadsLoad : Config → Connection → Type 0
@@ -236,11 +198,7 @@ line-stores-not config step = go step.held (reading config step.line)
     go false (Err error) = refl
 
 again-stores-not : (config : Config) (times : ℕ) (conn : ℕ) (step : Step) → is_storing (action_in config times (Some (RunAgain conn)) step) ≡ false
-again-stores-not config times conn step = go (nat_le 200 times)
-  where
-    go : (b : Bool) → is_storing (if b then Abandoning else action_of_line config step) ≡ false
-    go true = refl
-    go false = line-stores-not config step
+again-stores-not config times conn step = let line = line-stores-not config step in grind (arith, line)
 
 step-waits : (config : Config) (s : Situation) (task : Option Task) (step : Step) → is_right config (placed_step_in config s task step) ≡ true → WaitForLoads config s
     → WaitForLoads config (after_step config s task step (placed_step_in config s task step).effect)
@@ -258,24 +216,12 @@ step-waits config s (Some (RunLines conn)) step right waits =
     own-waits config (Some (RunLines conn)) step (placed_step_in config s (Some (RunLines conn)) step).effect s _ refl waits (λ c line e. waits-for-load config s (Some (RunLines conn)) step c line right (line-stores-not config step) e) (connection_in step.conn s)
 
 steps-wait : (config : Config) (s t : Situation) (tasks : List Task) (steps : List Step) → after_steps config s tasks steps ≡ Some t → WaitForLoads config s → WaitForLoads config t
-steps-wait config s t tasks [] e waits = go (is_empty (due (may_run_in s) tasks)) e
-  where
-    go : (b : Bool) → (if b then Some s else None) ≡ Some t → WaitForLoads config t
-    go true h = subst (WaitForLoads config) (same_Some s t h) waits
-    go false h = let no : None ≡ Some t = h in cc
+steps-wait config s t tasks [] e waits = let ends = passed _ _ t e in subst (WaitForLoads config) (same_Some s t ends.rest) waits
 steps-wait config s t tasks (step ∷ steps) e waits =
-    go (λ u left h k. steps-wait config u t left steps h k) (is_right config (placed_step_in config s (first_due (due (may_run_in s) tasks)) step)) refl e
-  where
-    now_due : List Task
-    now_due = due (may_run_in s) tasks
-
-    u : Situation
-    u = after_step config s (first_due now_due) step (placed_step_in config s (first_due now_due) step).effect
-
-    go : ((v : Situation) (left : List Task) → after_steps config v left steps ≡ Some t → WaitForLoads config v → WaitForLoads config t)
-        → (b : Bool) → is_right config (placed_step_in config s (first_due now_due) step) ≡ b → (if b then after_steps config u (left_after now_due) steps else None) ≡ Some t → WaitForLoads config t
-    go next true is h = next u (left_after now_due) h (step-waits config s (first_due now_due) step is waits)
-    go next false is h = let no : None ≡ Some t = h in cc
+    let now_due = due (may_run_in s) tasks in
+    let runs = passed _ _ t e in
+    let next = λ (u : Situation) (left : List Task). steps-wait config u t left steps in
+    next _ (left_after now_due) runs.rest (step-waits config s (first_due now_due) step runs.test waits)
 
 -- ---- an event
 
@@ -293,8 +239,6 @@ event-waits config s (event.Answer load outcome moment) waits = same-waits confi
 event-waits config s (event.GiveUp load moment) waits = same-waits config s (without_load load moment.nanos s) refl waits
 
 pub records-wait : (config : Config) (s t : Situation) (entry : Record) → Follows config s entry t → WaitForLoads config s → WaitForLoads config t
-records-wait config s t entry e waits = go (is_none (refusal_of config (known_in s) entry.event) && is_numbered s.opened entry.event && has_right_own_value entry) e
-  where
-    go : (b : Bool) → (if b then after_steps config (after_event entry.event s) (tasks_in s entry.event) (steps_of entry) else None) ≡ Some t → WaitForLoads config t
-    go false h = let no : None ≡ Some t = h in cc
-    go true h = steps-wait config (after_event entry.event s) t (tasks_in s entry.event) (steps_of entry) h (event-waits config s entry.event waits)
+records-wait config s t entry e waits =
+    let runs = passed _ _ t e in
+    steps-wait config (after_event entry.event s) t (tasks_in s entry.event) (steps_of entry) runs.rest (event-waits config s entry.event waits)

@@ -25,7 +25,7 @@ use Rattle.cache_lines.specs.Drawing.{Identifiers, StepsDraw}
 use Rattle.cache_lines.specs.Lines.{ArePartedIn, are_timely, has_its_part, ready, set_in}
 use Rattle.cache_lines.specs.Tape.Taped.{step_held}
 use Rattle.cache_lines.specs.Making.{Making}
-use Rattle.cache_lines.specs.Waiting.{holding_load, waiting, with_loads}
+use Rattle.cache_lines.specs.Waiting.{holding_load, waiting_with, with_loads}
 use Rattle.cache_lines.specs.Leads.Leads.{BeginsUnknown, TasksLead, SettlingLeads, still_told}
 
 -- no step leads nowhere else
@@ -66,7 +66,7 @@ abbrev pub DeliveredLeads : Type 0
 DeliveredLeads =
     (config : Config) (making : Making) (s : Situation) (n : ℕ) (line bytes : List ℕ) (times : ℕ)
     (outcome : Outcome) (tasks : List Task) (drawn : Identifiers)
-    → connection_in n s ≡ Some (waiting n line bytes times)
+    → connection_in n s ≡ Some (waiting_with n line bytes times)
     → DoesRight config s (Delivering outcome) (step_saying 0 [] (outcome_text outcome) None [])
     → TasksLead config making s (Deliver n outcome ∷ tasks)
     (step_saying n line (outcome_text outcome) None [] ∷ [])
@@ -78,7 +78,7 @@ abbrev pub AbandonedLeads : Type 0
 AbandonedLeads =
     (config : Config) (making : Making) (s : Situation) (n : ℕ) (line bytes : List ℕ) (times : ℕ)
     (tasks : List Task) (drawn : Identifiers)
-    → connection_in n s ≡ Some (waiting n line bytes times) → nat_le 200 times ≡ true
+    → connection_in n s ≡ Some (waiting_with n line bytes times) → nat_le 200 times ≡ true
     → DoesRight config s Abandoning (step_saying 0 [] (codes "ERR abandoned\n") None [])
     → TasksLead config making s (RunAgain n ∷ tasks)
     (step_saying n line (codes "ERR abandoned\n") None [] ∷ [])
@@ -90,7 +90,7 @@ abbrev pub AnsweredLeads : Type 0
 AnsweredLeads =
     (config : Config) (making : Making) (s : Situation) (n : ℕ) (line bytes key reply : List ℕ)
     (times : ℕ) (told : List Note) (tasks : List Task) (drawn : Identifiers)
-    → connection_in n s ≡ Some (waiting n line bytes times) → nat_le 200 times ≡ false
+    → connection_in n s ≡ Some (waiting_with n line bytes times) → nat_le 200 times ≡ false
     → reading config line ≡ Ok (says.Load key)
     → DoesRight config s (Running (says.Load key)) (step_saying 0 [] reply None told)
     → TasksLead config making s (RunAgain n ∷ tasks) (step_saying n line reply None told ∷ [])
@@ -102,21 +102,21 @@ abbrev pub WaitsAgainLeads : Type 0
 WaitsAgainLeads =
     (config : Config) (making : Making) (s : Situation) (n : ℕ) (line bytes key : List ℕ)
     (times : ℕ) (tasks : List Task) (drawn : Identifiers)
-    → connection_in n s ≡ Some (waiting n line bytes times) → nat_le 200 times ≡ false
+    → connection_in n s ≡ Some (waiting_with n line bytes times) → nat_le 200 times ≡ false
     → reading config line ≡ Ok (says.Load key) → live_at config s.latest s.held key ≡ None
     → DoesRight config s (Running (says.Load key)) (step_waiting config s key 0 [])
     → (let number = number_to_send key s.sent s.pending in
     TasksLead config making s (RunAgain n ∷ tasks) (step_silent n line number None [] ∷ [])
     (set_in (with_loads (when_sent number s.sent) (when_joined n key number s.pending) s)
     (held_when_run config s (Running (says.Load key)) (step_waiting config s key 0 []))
-    (waiting n line bytes (suc times))) tasks drawn drawn)
+    (waiting_with n line bytes (suc times))) tasks drawn drawn)
 
 -- a `LOAD` that is given up, and for which memory is lacking, is held back; how often it waited stays
 abbrev pub HeldBackLeads : Type 0
 HeldBackLeads =
     (config : Config) (making : Making) (s : Situation) (n : ℕ) (line bytes : List ℕ) (times : ℕ)
     (tasks : List Task) (drawn : Identifiers)
-    → connection_in n s ≡ Some (waiting n line bytes times) → nat_le 200 times ≡ false
+    → connection_in n s ≡ Some (waiting_with n line bytes times) → nat_le 200 times ≡ false
     → TasksLead config making s (RunAgain n ∷ tasks) (step_held n line ∷ [])
     (set_in s (held_when_run config s Holding (step_held n line)) (holding_load n line bytes times))
     tasks drawn drawn

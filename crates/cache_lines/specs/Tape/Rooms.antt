@@ -10,7 +10,7 @@ journal_in journal None = journal
 journal_in journal (Some records) = record { made = journal.made; records = records.items }
 
 -- There is room for the record under way, for a step of each line that can be added to it without allocating, and also for the drafted one.
-pub record IsReady (apart : Option (Vec Record Global)) (drafted : Bool)
+pub record HasRecordRoom (apart : Option (Vec Record Global)) (drafted : Bool)
     (steps spares steps_room : ℕ) : Type 0 where
   pub record_fits : MatchOption apart (Unit {0}) (λ records. vec_len records < vec_capacity records)
   pub steps_fit : steps + spares ≤ steps_room

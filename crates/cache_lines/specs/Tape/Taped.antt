@@ -47,13 +47,13 @@ spends step t =
     record t { steps = t.steps ++ step ∷ []; spare = t.spare - 1; drafted = None }
 
 -- no record is under way any more
-abbrev pub forgets : Taped → Taped
-forgets t = record { journal = t.journal; begun = false; steps = []; spare = 0; drafted = None }
+abbrev pub between_records : Taped → Taped
+between_records t = record { journal = t.journal; begun = false; steps = []; spare = 0; drafted = None }
 
 -- the record is added after the others
 abbrev pub finishes : Event → Option Accepted → List Note → Taped → Taped
 finishes event own notices t =
-    record (forgets t) {
+    record (between_records t) {
       journal = with_entry (record { event = event; own = own; notices = notices; steps = t.steps }) t.journal;
     }
 

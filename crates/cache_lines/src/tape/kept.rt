@@ -29,7 +29,7 @@ pub struct Kept {
 impl Model for Kept {
     ghost use Rattle.std.specs.Prelude.{is_some, vec_len, vec_capacity};
     ghost use Rattle.std.specs.Option.{option_map};
-    ghost use Rattle.cache_lines.specs.Tape.Rooms.{IsReady, journal_in};
+    ghost use Rattle.cache_lines.specs.Tape.Rooms.{HasRecordRoom, journal_in};
     ghost use Rattle.cache_lines.specs.Tape.Taped.{Taped};
 
     ghost Value = { Taped };
@@ -42,8 +42,8 @@ impl Model for Kept {
       drafted = option_map (λ line. line.items) k.draft;
     } };
 
-    ghost invariant = { λ k. IsReady k.apart (is_some k.draft) (vec_len k.steps) (vec_len k.spares)
-        (vec_capacity k.steps) };
+    ghost invariant = { λ k. HasRecordRoom k.apart (is_some k.draft) (vec_len k.steps)
+        (vec_len k.spares) (vec_capacity k.steps) };
 }
 
 impl Kept {

@@ -3,7 +3,7 @@ ghost use Rattle.std.specs.Prelude.{◌≡◌, ◌≤◌, [], Option, None, Some
 ghost use Rattle.std.specs.Option.{option_map};
 ghost use Rattle.cache_commands.specs.Loading.{step_silent};
 ghost use Rattle.cache_commands.specs.Right.{step_saying};
-ghost use Rattle.cache_lines.specs.Tape.Taped.{Taped, IsAtRest, IsBegun, IsDrafted, HasSpare, started, drafts, ends, spends, forgets, finishes, step_held, text_left};
+ghost use Rattle.cache_lines.specs.Tape.Taped.{Taped, IsAtRest, IsBegun, IsDrafted, HasSpare, started, drafts, ends, spends, between_records, finishes, step_held, text_left};
 
 use audit_lines::MAX_LINE;
 use audit_model::{Accepted, Event, Note, Seq};
@@ -69,7 +69,7 @@ pub trait Tape: Drop {
 
     /// Drops the record under way. The tape is then as it was before the record, apart from room.
     fn abandon(&mut self)
-        ensures { (before : Self) → view before ≡ option_map forgets (view self.old)
+        ensures { (before : Self) → view before ≡ option_map between_records (view self.old)
             → self.new ≡ before };
 
     /// Puts the record under way behind the others.

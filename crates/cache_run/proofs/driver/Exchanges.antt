@@ -18,10 +18,10 @@ use Rattle.cache_run.specs.Devices.Sent.{SentBut}
 use Rattle.cache_run.specs.Devices.Sources.{Askings, Readings, Asking}
 use Rattle.cache_run.specs.Devices.Watched.{device, failures}
 use Rattle.cache_run.specs.Driver.Causes.{Because, HasAsked, RunsFor, RunsOut, GoesOn, Reads}
-use Rattle.cache_run.specs.Driver.Driven.{Moves, Spot, EndsBroke, EndsOn, IsClosed, Settles, asks_nobody, IsFresh, Stopped, Underway, unfed, ComesTo, Finished, Goes, IsSettled, Since, Stands, beside}
-use Rattle.cache_run.specs.Driver.Drives.{IsLate, IsOfHand, Rest, Outside, Talks, asked_of, late_of, lost_of, no_rest}
-use Rattle.cache_run.specs.Driver.Exchanges.{Doing, Exchange, Hands, asks_of, bytes_of, told_of, AreDone, Fed, HaveClosed, HoldsNothing, Keeps, LeavesNothing, Outs, EachOut, IsLastOf, Leaves, Looked, Settled, load_number, settling_asking, Chain, askings_in, moments_in, pieces_in, replies_in}
-use Rattle.cache_run.specs.Driver.Hosting.{Stops, HandsOut, footing_by, SettlesBy, Suits, exchange_of, text_of}
+use Rattle.cache_run.specs.Driver.Driven.{MovesSession, Spot, EndsBroke, EndsOn, IsClosed, Settles, asks_nobody, HasReadNothing, Stopped, Underway, unfed, ComesToProgress, Finished, GoesForward, IsAnyFooting, Since, StandsAsLeft, beside}
+use Rattle.cache_run.specs.Driver.Drives.{IsLate, IsOfHand, LeftUndone, Outside, Talks, asked_of, late_of, lost_of, no_rest}
+use Rattle.cache_run.specs.Driver.Exchanges.{Doing, Exchange, Hands, asks_of, bytes_fed, readings_of, AreDone, Fed, HaveClosed, HoldsNothing, Keeps, LeavesNothing, Outs, EachOut, IsLastInHand, LeavesInHand, Looked, Settled, load_number, settling_asking, Chain, askings_in, moments_in, pieces_in, replies_in}
+use Rattle.cache_run.specs.Driver.Hosting.{Stops, WereSent, footing_by, SettlesBy, SuitsRequest, exchange_of, text_of}
 use Rattle.cache_run.specs.declared.devices.errors.RunError.{RunError}
 use Rattle.cache_run.specs.declared.devices.errors.RunError.TheVariants.{Moment, Read, Write, OutOfMemory, UsedUp}
 use Rattle.cache_run.specs.declared.devices.watched.Watched.{Watched}
@@ -33,23 +33,23 @@ use Rattle.cache_run.specs.declared.driver.session.Footing.TheVariants.{Closed, 
 use Rattle.cache_run.specs.declared.driver.session.Session.{Session}
 
 -- what is left of one exchange
-abbrev pub rest_of : List ℕ → ℕ → Rest
+abbrev pub rest_of : List ℕ → ℕ → LeftUndone
 rest_of unsent untaken = record { refused = None; unfed = []; unsent = unsent; untaken = untaken }
 
 -- what is left where something was refused
-abbrev pub refused_of : Doing → Rest
+abbrev pub refused_of : Doing → LeftUndone
 refused_of doing = record { refused = Some doing; unfed = []; unsent = []; untaken = 0 }
 
 pub refused-some : (doing : Doing) → (refused_of doing).refused ≢ None
 refused-some doing is = let no : Some doing ≡ None = is in cc
 
 -- an error by which a host refused
-pub refused-broke : (e : RunError) (used_up : Type 0) (doing : Doing) (moment : ℕ) → told_of doing ≡ moment ∷ [] → Stops used_up (2 ^ 63 ≤ moment) e → (0 ≤ 1) × (e ≡ Moment → IsLate (refused_of doing))
+pub refused-broke : (e : RunError) (used_up : Type 0) (doing : Doing) (moment : ℕ) → readings_of doing ≡ moment ∷ [] → Stops used_up (2 ^ 63 ≤ moment) e → (0 ≤ 1) × (e ≡ Moment → IsLate (refused_of doing))
 refused-broke e used_up doing moment told why = (omega arith, λ is. record { doing = doing; refused = refl; moment = moment; told = told; late = subst (Stops used_up (2 ^ 63 ≤ moment)) is why })
 
-module _ {H K D : Type 0} {Came : Conn → H → Exchange → H → Type 0} {Closes : Conn → H → H → Type 0} {reads : K → ℕ → K → Type 0} {loads : D → List ℕ → Option Outcome → D → Type 0} {End : H → List Exchange → Rest → Type 0} (s t : Session) (p q : Spot H K D) where
-  pub moves-one : (x : Exchange) (unsent : List ℕ) (untaken : ℕ) → cond (is_none x.text) 1 0 ≡ untaken → Came s.conn p.place x q.place → Hands x s.taken.items t.taken.items → s.inbox ≡ bytes_of x.doing ++ t.inbox → SentBut unsent (unwrap_or x.text []) p.contents q.contents
-      → Readings reads p.clock (told_of x.doing) q.clock → Askings loads p.loader (asks_of x.doing) q.loader → End q.place (x ∷ []) (rest_of unsent untaken) → Moves Came Closes reads loads End s t p q
+module _ {H K D : Type 0} {Came : Conn → H → Exchange → H → Type 0} {Closes : Conn → H → H → Type 0} {reads : K → ℕ → K → Type 0} {loads : D → List ℕ → Option Outcome → D → Type 0} {End : H → List Exchange → LeftUndone → Type 0} (s t : Session) (p q : Spot H K D) where
+  pub moves-one : (x : Exchange) (unsent : List ℕ) (untaken : ℕ) → cond (is_none x.text) 1 0 ≡ untaken → Came s.conn p.place x q.place → Hands x s.taken.items t.taken.items → s.inbox ≡ bytes_fed x.doing ++ t.inbox → SentBut unsent (unwrap_or x.text []) p.contents q.contents
+      → Readings reads p.clock (readings_of x.doing) q.clock → Askings loads p.loader (asks_of x.doing) q.loader → End q.place (x ∷ []) (rest_of unsent untaken) → MovesSession Came Closes reads loads End s t p q
   moves-one x unsent untaken count came hands fed sends told asked ends = record {
     place = q.place;
     behind = λ r closes. closes;
@@ -57,11 +57,11 @@ module _ {H K D : Type 0} {Came : Conn → H → Exchange → H → Type 0} {Clo
     talks = record {
       exchanges = x ∷ [];
       chain = (q.place, t.taken.items, came, hands, (refl, refl));
-      read = subst (λ z. s.inbox ≡ z ++ t.inbox) (sym (append-nil (bytes_of x.doing)) ∙ sym (append-nil (bytes_of x.doing ++ []))) fed;
+      read = subst (λ z. s.inbox ≡ z ++ t.inbox) (sym (append-nil (bytes_fed x.doing)) ∙ sym (append-nil (bytes_fed x.doing ++ []))) fed;
       sent = sends.sent;
       wrote = sends.wrote;
       replies = sends.whole ∙ sym (append-nil (unwrap_or x.text []));
-      clock = subst (λ z. Readings reads p.clock z q.clock) (sym (append-nil (told_of x.doing)) ∙ sym (append-nil (told_of x.doing ++ []))) told;
+      clock = subst (λ z. Readings reads p.clock z q.clock) (sym (append-nil (readings_of x.doing)) ∙ sym (append-nil (readings_of x.doing ++ []))) told;
       loader = subst (λ z. Askings loads p.loader z q.loader) (sym (append-nil (asks_of x.doing)) ∙ sym (append-nil (asks_of x.doing ++ []))) asked;
       refused = tt;
       untaken = omega (arith, count);
@@ -69,8 +69,8 @@ module _ {H K D : Type 0} {Came : Conn → H → Exchange → H → Type 0} {Clo
     ends = ends;
   }
 
-  pub moves-refused : (doing : Doing) → s.inbox ≡ bytes_of doing ++ t.inbox → t.taken.items ≡ s.taken.items → q.contents ≡ p.contents → Readings reads p.clock (told_of doing) q.clock → Askings loads p.loader (asks_of doing) q.loader → IsOfHand s.taken.items doing
-      → ((r : H) → Closes s.conn q.place r → Closes s.conn p.place r) → End p.place [] (refused_of doing) → Moves Came Closes reads loads End s t p q
+  pub moves-refused : (doing : Doing) → s.inbox ≡ bytes_fed doing ++ t.inbox → t.taken.items ≡ s.taken.items → q.contents ≡ p.contents → Readings reads p.clock (readings_of doing) q.clock → Askings loads p.loader (asks_of doing) q.loader → IsOfHand s.taken.items doing
+      → ((r : H) → Closes s.conn q.place r → Closes s.conn p.place r) → End p.place [] (refused_of doing) → MovesSession Came Closes reads loads End s t p q
   moves-refused doing fed hand same told asked of_hand behind ends = record {
     place = p.place;
     behind = behind;
@@ -78,7 +78,7 @@ module _ {H K D : Type 0} {Came : Conn → H → Exchange → H → Type 0} {Clo
     talks = record {
       exchanges = [];
       chain = (refl, hand);
-      read = subst (λ z. s.inbox ≡ z ++ t.inbox) (sym (append-nil (bytes_of doing))) fed;
+      read = subst (λ z. s.inbox ≡ z ++ t.inbox) (sym (append-nil (bytes_fed doing))) fed;
       sent = [];
       wrote = subst (λ z. Appends p.contents z []) (sym same) (same_appends p.contents);
       replies = refl;
@@ -91,14 +91,14 @@ module _ {H K D : Type 0} {Came : Conn → H → Exchange → H → Type 0} {Clo
   }
 
 -- replies that were taken were sent
-hands-some : (o : Result (Unit {0}) RunError) (items : List ℕ) (a b : Option (List ℕ)) → OnOk o (SentBut [] items a b) → OnErr o ((rest : List ℕ) × SentBut rest items a b) → HandsOut o (Some items) a b
+hands-some : (o : Result (Unit {0}) RunError) (items : List ℕ) (a b : Option (List ℕ)) → OnOk o (SentBut [] items a b) → OnErr o ((rest : List ℕ) × SentBut rest items a b) → WereSent o (Some items) a b
 hands-some (Ok done) items a b ok err = (refl, ok)
 hands-some (Err e) items a b ok err = err
 
 pub hands-out : (o : Result (Unit {0}) RunError) (text : Option (List ℕ)) (items sent : List ℕ) (a b : Option (List ℕ)) → text ≡ Some items → sent ≡ items → OnOk o (SentBut [] sent a b) → OnErr o ((rest : List ℕ) × SentBut rest sent a b)
-    → HandsOut o text a b
+    → WereSent o text a b
 hands-out o text items sent a b is same ok err =
-    subst (λ t. HandsOut o t a b) (sym is)
+    subst (λ t. WereSent o t a b) (sym is)
     (hands-some o items a b (subst (λ z. OnOk o (SentBut [] z a b)) same ok) (subst (λ z. OnErr o ((rest : List ℕ) × SentBut rest z a b)) same err))
 
 -- the last of several
@@ -156,17 +156,17 @@ holds-closed doing None closed = absurd (closed refl)
 -- ---- an exchange that hands out what a connection is owed
 
 module _ {H K D : Type 0} {Came : Conn → H → Exchange → H → Type 0} {Closes : Conn → H → H → Type 0} {reads : K → ℕ → K → Type 0} {loads : D → List ℕ → Option Outcome → D → Type 0} (lent : Bool) (s t : Session) (p q : Spot H K D) (x : Exchange)
-    (came : Came s.conn p.place x q.place) (hands : Hands x s.taken.items t.taken.items) (fed : s.inbox ≡ bytes_of x.doing ++ t.inbox) (told : Readings reads p.clock (told_of x.doing) q.clock) (asked : Askings loads p.loader (asks_of x.doing) q.loader) where
-  pub one-broke : (e : RunError) → e ≢ Moment → (unsent : List ℕ) → SentBut unsent (unwrap_or x.text []) p.contents q.contents → Moves Came Closes reads loads (EndsBroke e) s t p q
+    (came : Came s.conn p.place x q.place) (hands : Hands x s.taken.items t.taken.items) (fed : s.inbox ≡ bytes_fed x.doing ++ t.inbox) (told : Readings reads p.clock (readings_of x.doing) q.clock) (asked : Askings loads p.loader (asks_of x.doing) q.loader) where
+  pub one-broke : (e : RunError) → e ≢ Moment → (unsent : List ℕ) → SentBut unsent (unwrap_or x.text []) p.contents q.contents → MovesSession Came Closes reads loads (EndsBroke e) s t p q
   one-broke e early unsent sends = moves-one s t p q x unsent _ refl came hands fed sends told asked (few-one (is_none x.text), λ is. absurd (early is))
 
   pub one-went : (AtRest : Footing → Type 0) → (t.footing ≡ Closed → x.closing ≢ None) → (lent ≡ true → t.taken.items ≡ [] → AtRest t.footing → LeavesNothing x) → (is_none x.text ≡ false) × SentBut [] (unwrap_or x.text []) p.contents q.contents
-      → Moves Came Closes reads loads (EndsOn lent AtRest t q.place) s t p q
+      → MovesSession Came Closes reads loads (EndsOn lent AtRest t q.place) s t p q
   one-went AtRest closes leaves sent =
       moves-one s t p q x [] 0 (ap (λ (z : Bool). cond z 1 0) sent.0) came hands fed sent.1 told asked
       (refl, refl, λ before. record { closed = λ is. closed-behind before x (closes is); done = λ is none settled. done-behind before x (leaves is none settled) })
 
-  pub one-settles : (t.footing ≡ Closed → x.closing ≢ None) → (lent ≡ true → t.taken.items ≡ [] → x.loads ≡ Some []) → (w : Type 0) (o : Result (Unit {0}) RunError) → HandsOut o x.text p.contents q.contents → IfErr o (Because ⊥ w ⊥ ⊥) → Settles Came Closes reads loads lent o s t p q
+  pub one-settles : (t.footing ≡ Closed → x.closing ≢ None) → (lent ≡ true → t.taken.items ≡ [] → x.loads ≡ Some []) → (w : Type 0) (o : Result (Unit {0}) RunError) → WereSent o x.text p.contents q.contents → IfErr o (Because ⊥ w ⊥ ⊥) → Settles Came Closes reads loads lent o s t p q
   one-settles closes empty w (Ok done) sent why = one-went IsClosed closes (λ is none settled. record { none = empty is none; all = holds-closed x.doing x.closing (closes settled) }) sent
   one-settles closes empty w (Err e) sent why = one-broke e (not-late w e why) sent.0 sent.1
 
@@ -182,12 +182,12 @@ none-there (out ∷ hand) count empty counted is e = let no : false ≡ true = s
 -- what is true of each
 module _ (Fact : ℕ → List ℕ → Type 0) where
   -- is true of the last one, which is settled, and of the rest
-  pub each-last : (hand : Outs) (load : ℕ) (key : List ℕ) (rest : Outs) → IsLastOf hand load key rest → EachOut Fact hand → EachOut Fact rest × Fact load key
+  pub each-last : (hand : Outs) (load : ℕ) (key : List ℕ) (rest : Outs) → IsLastInHand hand load key rest → EachOut Fact hand → EachOut Fact rest × Fact load key
   each-last hand load key rest last all =
       let parts = All-pop (λ (out : LoadId × List ℕ). Fact out.0.number out.1) hand rest (Some (last.0, key)) last.2 all in (parts.0, subst (λ n. Fact n key) last.1 parts.1)
 
   -- of those that are left, whatever was done
-  pub each-rest : (doing : Doing) (hand rest : Outs) → Leaves doing hand rest → EachOut Fact hand → EachOut Fact rest
+  pub each-rest : (doing : Doing) (hand rest : Outs) → LeavesInHand doing hand rest → EachOut Fact hand → EachOut Fact rest
   each-rest (Fed piece moment held) hand rest leaves all = subst (EachOut Fact) (sym leaves) all
   each-rest (Settled settling moment) hand rest leaves all = (each-last hand (load_number settling) (settling_asking settling).key rest leaves all).0
   each-rest Looked hand rest leaves all = subst (EachOut Fact) (sym leaves) all
@@ -211,7 +211,7 @@ last-count (o ∷ hand) out at = omega arith
 
 -- the last in hand, as it is looked up and taken out
 pub hand-last : (hand seen after : Outs) (out : LoadId × List ℕ) (last : Option (LoadId × List ℕ)) (count : ℕ) (key : List ℕ) → seen ≡ hand → last ≡ slice_get seen (length seen - 1) → last ≡ Some out → key ≡ out.1 → count ≡ length hand → after ≡ take (count - 1) hand
-    → IsLastOf hand out.0.number key after
+    → IsLastInHand hand out.0.number key after
 hand-last hand seen after out last count key same at is keyed counted rest =
     let found : slice_get hand (length hand - 1) ≡ Some out = ap (λ (l : Outs). slice_get l (length l - 1)) (sym same) ∙ sym at ∙ is in
     let left : after ≡ take (length hand - 1) hand = rest ∙ ap (λ (k : ℕ). take (k - 1) hand) counted in
@@ -229,23 +229,23 @@ pub wanted-by : (n count : ℕ) → count ≡ n → n ≤ 1 → nat_le count 1 �
 wanted-by n count counted few = le-leb count 1 (omega (arith, counted, few))
 
 -- where loads are wanted behind the last in hand, and none is in hand then, they were taken and there was none
-settled-none : (wants : Bool) (loads : Option Outs) (hand rest after : Outs) (load : ℕ) (key : List ℕ) → IsLastOf hand load key rest → (length hand ≤ 1 → wants ≡ true) → (wants ≡ true → is_some loads ≡ true) → Keeps loads rest after → after ≡ [] → loads ≡ Some []
+settled-none : (wants : Bool) (loads : Option Outs) (hand rest after : Outs) (load : ℕ) (key : List ℕ) → IsLastInHand hand load key rest → (length hand ≤ 1 → wants ≡ true) → (wants ≡ true → is_some loads ≡ true) → Keeps loads rest after → after ≡ [] → loads ≡ Some []
 settled-none wants (Some l) hand rest after load key last wanted given keeps none = keeps-none (Some l) rest after keeps refl none
 settled-none wants None hand rest after load key last wanted given keeps none = grind arith
 
 module _ {H K D : Type 0} {Came : Conn → H → Exchange → H → Type 0} {Closes : Conn → H → H → Type 0} {reads : K → ℕ → K → Type 0} {loads : D → List ℕ → Option Outcome → D → Type 0} (lent : Bool) (s t : Session) (p q : Spot H K D) (load moment : ℕ) (key : List ℕ) (said : Option Outcome) (rest : Outs)
-    (last : IsLastOf s.taken.items load key rest) (told : reads p.clock moment q.clock) (asked : loads p.loader key said q.loader) (inbox : t.inbox ≡ s.inbox) where
+    (last : IsLastInHand s.taken.items load key rest) (told : reads p.clock moment q.clock) (asked : loads p.loader key said q.loader) (inbox : t.inbox ≡ s.inbox) where
   -- the last load in hand was settled, and what came of it is handed out
-  pub settle-goes : (wants : Bool) (one : Given) (doing : Doing) → SettlesBy load moment (record { key = key; answer = said }) doing → Came s.conn p.place (exchange_of doing one) q.place → Keeps (option_map (λ loads. loads.items) one.loads) rest t.taken.items → t.footing ≡ footing_by one.closing one.waits
-      → Suits lent wants one → (length s.taken.items ≤ 1 → wants ≡ true) → (w : Type 0) (o : Result (Unit {0}) RunError) → HandsOut o (text_of one) p.contents q.contents → IfErr o (Because ⊥ w ⊥ ⊥) → Settles Came Closes reads loads lent o s t p q
+  pub settle-goes : (wants : Bool) (one : Given) (doing : Doing) → SettlesBy load moment (record { key = key; answer = said }) doing → Came s.conn p.place (exchange_of doing one) q.place → Keeps (option_map (λ loads. loads.items) one.owed.loads) rest t.taken.items → t.footing ≡ footing_by one.owed.closing one.owed.waits
+      → SuitsRequest lent wants one → (length s.taken.items ≤ 1 → wants ≡ true) → (w : Type 0) (o : Result (Unit {0}) RunError) → WereSent o (text_of one) p.contents q.contents → IfErr o (Because ⊥ w ⊥ ⊥) → Settles Came Closes reads loads lent o s t p q
   settle-goes wants one doing by came keeps footing suits wanted =
       let asking : Asking = record { key = key; answer = said } in
       let settling = by.settling in
-      let leaves = subst (λ n. IsLastOf s.taken.items n (settling_asking settling).key rest) (sym by.numbered) (subst (λ (x : Asking). IsLastOf s.taken.items load x.key rest) (sym by.of) last) in
+      let leaves = subst (λ n. IsLastInHand s.taken.items n (settling_asking settling).key rest) (sym by.numbered) (subst (λ (x : Asking). IsLastInHand s.taken.items load x.key rest) (sym by.of) last) in
       one-settles lent s t p q (exchange_of (Settled settling moment) one) (subst (λ d. Came s.conn p.place (exchange_of d one) q.place) by.done came) (record { rest = rest; leaves = leaves; keeps = keeps }) (sym inbox) (q.clock, told, refl)
       (subst (λ x. Askings loads p.loader (x ∷ []) q.loader) (sym by.of) (q.loader, asked, refl))
-      (λ is. footing-closed one.closing one.waits (sym footing ∙ is))
-      (λ is none. settled-none wants (option_map (λ loads. loads.items) one.loads) s.taken.items rest t.taken.items load key last wanted (λ want. some-mapped (λ loads. loads.items) one.loads (suits.wanted is want)) keeps none)
+      (λ is. footing-closed one.owed.closing one.owed.waits (sym footing ∙ is))
+      (λ is none. settled-none wants (option_map (λ loads. loads.items) one.owed.loads) s.taken.items rest t.taken.items load key last wanted (λ want. some-mapped (λ loads. loads.items) one.owed.loads (suits.wanted is want)) keeps none)
 
 -- the loader was asked
 pub asked-once : {D : Type 0} (loads : D → List ℕ → Option Outcome → D → Type 0) (l m : D) (key : List ℕ) (said : Option Outcome) → loads l key said m → HasAsked loads l 1 m
@@ -258,9 +258,9 @@ asked-nobody l [] m asked = refl
 asked-nobody l (k ∷ ks) m asked = absurd asked.1
 
 -- seen beside a loader
-pub moves-beside : {H K D : Type 0} {Came : Conn → H → Exchange → H → Type 0} {Closes : Conn → H → H → Type 0} {reads : K → ℕ → K → Type 0} (loads : D → List ℕ → Option Outcome → D → Type 0) {End : H → List Exchange → Rest → Type 0} {s t : Session} {h k : H} {a b : Option (List ℕ)} {c d : K} (l : D)
-    → Moves Came Closes reads asks_nobody End s t (record { place = h; contents = a; clock = c; loader = tt }) (record { place = k; contents = b; clock = d; loader = tt })
-    → Moves Came Closes reads loads End s t (record { place = h; contents = a; clock = c; loader = l }) (record { place = k; contents = b; clock = d; loader = l })
+pub moves-beside : {H K D : Type 0} {Came : Conn → H → Exchange → H → Type 0} {Closes : Conn → H → H → Type 0} {reads : K → ℕ → K → Type 0} (loads : D → List ℕ → Option Outcome → D → Type 0) {End : H → List Exchange → LeftUndone → Type 0} {s t : Session} {h k : H} {a b : Option (List ℕ)} {c d : K} (l : D)
+    → MovesSession Came Closes reads asks_nobody End s t (record { place = h; contents = a; clock = c; loader = tt }) (record { place = k; contents = b; clock = d; loader = tt })
+    → MovesSession Came Closes reads loads End s t (record { place = h; contents = a; clock = c; loader = l }) (record { place = k; contents = b; clock = d; loader = l })
 moves-beside loads l x = record {
   place = x.place;
   behind = x.behind;
@@ -314,19 +314,19 @@ joined x y z = ap (λ l. l ++ (y ++ z)) (append-nil x) ∙ sym (append_assoc x y
 
 module _ {H C L : Type 0} (Came : H → Exchange → H → Type 0) (reads : C → ℕ → C → Type 0) (loads : L → List ℕ → Option Outcome → L → Type 0) where
   -- one after another
-  abbrev pub talks-more : (h m k : H) (a b c : Outside C L) (before between after : Outs) (rest : Rest) → Talks Came reads loads h m a b before between no_rest → Talks Came reads loads m k b c between after rest → Talks Came reads loads h k a c before after rest
+  abbrev pub talks-more : (h m k : H) (a b c : Outside C L) (before between after : Outs) (rest : LeftUndone) → Talks Came reads loads h m a b before between no_rest → Talks Came reads loads m k b c between after rest → Talks Came reads loads h k a c before after rest
   talks-more h m k a b c before between after rest x y =
       let xs = x.exchanges in
       let ys = y.exchanges in
       record {
         exchanges = xs ++ ys;
         chain = chain-more Came h before xs m between ys k after x.chain y.chain;
-        read = subst (Consumes a.remaining c.remaining) (joined (pieces_in xs) (pieces_in ys) (lost_of rest) ∙ ap (λ z. z ++ lost_of rest) (sym (flat_map-append (λ (e : Exchange). bytes_of e.doing) xs ys)))
+        read = subst (Consumes a.remaining c.remaining) (joined (pieces_in xs) (pieces_in ys) (lost_of rest) ∙ ap (λ z. z ++ lost_of rest) (sym (flat_map-append (λ (e : Exchange). bytes_fed e.doing) xs ys)))
             (consumes_more a.remaining b.remaining c.remaining (pieces_in xs ++ []) (pieces_in ys ++ lost_of rest) x.read y.read);
         sent = x.sent ++ y.sent;
         wrote = appends_more a.contents b.contents c.contents x.sent y.sent x.wrote y.wrote;
         replies = append_assoc x.sent y.sent rest.unsent ∙ ap (λ z. x.sent ++ z) y.replies ∙ ap (λ z. z ++ replies_in ys) (sym (append-nil x.sent) ∙ x.replies) ∙ sym (flat_map-append (λ (e : Exchange). unwrap_or e.text []) xs ys);
-        clock = subst (λ ts. Readings reads a.clock ts c.clock) (joined (moments_in xs) (moments_in ys) (late_of rest) ∙ ap (λ z. z ++ late_of rest) (sym (flat_map-append (λ (e : Exchange). told_of e.doing) xs ys)))
+        clock = subst (λ ts. Readings reads a.clock ts c.clock) (joined (moments_in xs) (moments_in ys) (late_of rest) ∙ ap (λ z. z ++ late_of rest) (sym (flat_map-append (λ (e : Exchange). readings_of e.doing) xs ys)))
             (readings_more reads a.clock (moments_in xs ++ []) b.clock (moments_in ys ++ late_of rest) c.clock x.clock y.clock);
         loader = subst (λ ks. Askings loads a.loader ks c.loader) (joined (askings_in xs) (askings_in ys) (asked_of rest) ∙ ap (λ z. z ++ asked_of rest) (sym (flat_map-append (λ (e : Exchange). asks_of e.doing) xs ys)))
             (askings_more loads a.loader (askings_in xs ++ []) b.loader (askings_in ys ++ asked_of rest) c.loader x.loader y.loader);
@@ -340,7 +340,7 @@ asking_then b loader = record b { loader = loader }
 
 module _ {H K D : Type 0} (lent : Bool) (Came : Conn → H → Exchange → H → Type 0) (Closes : Conn → H → H → Type 0) (reads : K → ℕ → K → Type 0) (loads : D → List ℕ → Option Outcome → D → Type 0) (start : H) (a : Outside K D) (s : Session) where
   -- a connection that was opened is under way
-  pub fresh-underway : IsFresh s → Underway lent Came Closes reads loads start a s start a
+  pub fresh-underway : HasReadNothing s → Underway lent Came Closes reads loads start a s start a
   fresh-underway fresh = record {
     talks = record {
       exchanges = [];
@@ -421,11 +421,11 @@ consumes-fed None inbox inbox' xs ys zs e = tt
 consumes-fed (Some b) inbox inbox' xs ys zs e = ap (λ z. z ++ b) (e ∙ append_assoc xs (ys ++ zs) inbox' ∙ ap (λ z. xs ++ z) (append_assoc ys zs inbox'))
 
 -- what is left, and what an inbox holds behind it
-abbrev pub rest_then : Rest → List ℕ → Rest
+abbrev pub rest_then : LeftUndone → List ℕ → LeftUndone
 rest_then rest inbox = record rest { unfed = rest.unfed ++ inbox }
 
 -- the same, but for what is left to read and what was read and not fed
-abbrev pub reread : {H K D : Type 0} {Came : H → Exchange → H → Type 0} {reads : K → ℕ → K → Type 0} {loads : D → List ℕ → Option Outcome → D → Type 0} {h k : H} {a b : Outside K D} {hand hand' : Outs} {rest : Rest} (r r' : Option (List ℕ)) (unfed' : List ℕ) (x : Talks Came reads loads h k a b hand hand' rest)
+abbrev pub reread : {H K D : Type 0} {Came : H → Exchange → H → Type 0} {reads : K → ℕ → K → Type 0} {loads : D → List ℕ → Option Outcome → D → Type 0} {h k : H} {a b : Outside K D} {hand hand' : Outs} {rest : LeftUndone} (r r' : Option (List ℕ)) (unfed' : List ℕ) (x : Talks Came reads loads h k a b hand hand' rest)
     → Consumes r r' (pieces_in x.exchanges ++ lost_of (record rest { unfed = unfed' })) → Talks Came reads loads h k (record a { remaining = r }) (record b { remaining = r' }) hand hand' (record rest { unfed = unfed' })
 reread r r' unfed' x read = record {
   exchanges = x.exchanges;
@@ -446,7 +446,7 @@ of-conn P s t same p = subst (λ conn. P (record t { conn = conn })) (sym same) 
 
 module _ {H K D : Type 0} {Came : H → Exchange → H → Type 0} {reads : K → ℕ → K → Type 0} {loads : D → List ℕ → Option Outcome → D → Type 0} {start : H} {a : Outside K D} where
   -- exchanges since the opening, and then those that fed an inbox
-  abbrev pub talks-then : (s t : Session) (remaining : Option (List ℕ)) (p q : Spot H K D) (k : H) (rest : Rest) → Talks Came reads loads start p.place a (beside remaining p) [] s.taken.items (unfed s)
+  abbrev pub talks-then : (s t : Session) (remaining : Option (List ℕ)) (p q : Spot H K D) (k : H) (rest : LeftUndone) → Talks Came reads loads start p.place a (beside remaining p) [] s.taken.items (unfed s)
       → Talks Came reads loads p.place k (beside (Some s.inbox) p) (beside (Some t.inbox) q) s.taken.items t.taken.items rest → Talks Came reads loads start k a (beside remaining q) [] t.taken.items (rest_then rest t.inbox)
   talks-then s t remaining p q k rest x y =
       let all : Option (List ℕ) = option_map (λ z. s.inbox ++ z) remaining in
@@ -464,7 +464,7 @@ module _ {H K D : Type 0} {Came : H → Exchange → H → Type 0} {reads : K �
 
 module _ {H K D : Type 0} {lent : Bool} {Came : Conn → H → Exchange → H → Type 0} {Closes : Conn → H → H → Type 0} {reads : K → ℕ → K → Type 0} {loads : D → List ℕ → Option Outcome → D → Type 0} {start : H} {a : Outside K D} where
   -- it is over, where no load is in hand
-  finished-by : (s : Session) (h k : H) (b : Outside K D) (rest : Rest) (hand : Outs) → ((r : H) → Closes s.conn h r → Closes s.conn k r) → hand ≡ [] → (rest.unsent ≡ []) × (rest.untaken ≡ 0) → (lent ≡ true → rest ≡ no_rest)
+  finished-by : (s : Session) (h k : H) (b : Outside K D) (rest : LeftUndone) (hand : Outs) → ((r : H) → Closes s.conn h r → Closes s.conn k r) → hand ≡ [] → (rest.unsent ≡ []) × (rest.untaken ≡ 0) → (lent ≡ true → rest ≡ no_rest)
       → (talks : Talks (Came s.conn) reads loads start k a b [] hand rest) → (lent ≡ true → AreDone talks.exchanges) → IsAtEnd b.remaining ⊎ HaveClosed talks.exchanges ⊎ (rest.refused ≢ None) → Finished lent Came Closes reads loads start a s h b
   finished-by s h k b rest hand behind none sent whole =
       let P : Outs → Type 0 = λ hand. (talks : Talks (Came s.conn) reads loads start k a b [] hand rest) → (lent ≡ true → AreDone talks.exchanges) → IsAtEnd b.remaining ⊎ HaveClosed talks.exchanges ⊎ (rest.refused ≢ None) → Finished lent Came Closes reads loads start a s h b in
@@ -479,15 +479,15 @@ module _ {H K D : Type 0} {lent : Bool} {Came : Conn → H → Exchange → H �
 module _ {H K D : Type 0} {lent : Bool} {Came : Conn → H → Exchange → H → Type 0} {Closes : Conn → H → H → Type 0} {reads : K → ℕ → K → Type 0} {loads : D → List ℕ → Option Outcome → D → Type 0} {start : H} {a : Outside K D} (s t : Session) (remaining : Option (List ℕ)) (p q : Spot H K D) (same : t.conn ≡ s.conn)
     (talks : Talks (Came s.conn) reads loads start p.place a (beside remaining p) [] s.taken.items (unfed s)) where
   -- it goes on
-  pub moves-on : (AtRest : Footing → Type 0) → Moves Came Closes reads loads (EndsOn lent AtRest t q.place) s t p q → Since lent Came Closes reads loads start a AtRest t q.place (beside remaining q)
+  pub moves-on : (AtRest : Footing → Type 0) → MovesSession Came Closes reads loads (EndsOn lent AtRest t q.place) s t p q → Since lent Came Closes reads loads start a AtRest t q.place (beside remaining q)
   moves-on AtRest x =
-      let P : H → Rest → Type 0 = λ k rest. (y : Talks (Came s.conn) reads loads start k a (beside remaining q) [] t.taken.items (rest_then rest t.inbox)) → Stands lent AtRest t y.exchanges → Since lent Came Closes reads loads start a AtRest t q.place (beside remaining q) in
+      let P : H → LeftUndone → Type 0 = λ k rest. (y : Talks (Came s.conn) reads loads start k a (beside remaining q) [] t.taken.items (rest_then rest t.inbox)) → StandsAsLeft lent AtRest t y.exchanges → Since lent Came Closes reads loads start a AtRest t q.place (beside remaining q) in
       let base : P q.place no_rest = λ y stands. of-conn (λ u. Since lent Came Closes reads loads start a AtRest u q.place (beside remaining q)) s t same (record { talks = y; stands = record { closed = stands.closed; done = stands.done } }) in
       subst (λ k. P k x.rest) (sym x.ends.0) (subst (λ rest. P q.place rest) (sym x.ends.1) base) (talks-then s t remaining p q x.place x.rest talks x.talks) (x.ends.2 talks.exchanges)
 
   -- it comes to what ends it
-  pub moves-comes : (lent ≡ true → t.inbox ≡ []) → (r : Result Progress RunError) → Goes Came Closes reads loads lent r s t p q → ComesTo lent Came Closes reads loads start a r t q.place (beside remaining q)
-  moves-comes whole (Ok More) x = let y = moves-on IsSettled x in record { talks = y.talks; stands = y.stands; whole = whole }
+  pub moves-comes : (lent ≡ true → t.inbox ≡ []) → (r : Result Progress RunError) → GoesForward Came Closes reads loads lent r s t p q → ComesToProgress lent Came Closes reads loads start a r t q.place (beside remaining q)
+  moves-comes whole (Ok More) x = let y = moves-on IsAnyFooting x in record { talks = y.talks; stands = y.stands; whole = whole }
   moves-comes whole (Ok Over) x =
       of-conn (λ u. Finished lent Came Closes reads loads start a u q.place (beside remaining q)) s t same
       (finished-by (record t { conn = s.conn }) q.place x.place (beside remaining q) (rest_then x.rest t.inbox) t.taken.items x.behind x.ends.1 (x.ends.3, x.ends.4) (λ is. let no : true ≡ false = sym is ∙ x.ends.0 in cc)

@@ -2,8 +2,8 @@
 use Rattle.std.specs.Prelude.{ℕ, ◌+◌, ◌-◌, ◌<◌, ◌^◌, min, Bool, true, not, ◌&&◌, ◌==◌, List, length, Result, Ok, Err, if◌then◌else◌}
 
 -- the count after a call
-abbrev pub counted : Bool → ℕ → ℕ
-counted failed before = if failed then min (before + 1) (2 ^ 64 - 1) else before
+abbrev pub failures_after : Bool → ℕ → ℕ
+failures_after failed before = if failed then min (before + 1) (2 ^ 64 - 1) else before
 
 -- the device failed in between, unless the count was full
 abbrev pub HasFailed : ℕ → ℕ → Type 0

@@ -45,16 +45,16 @@ pub record Exchange : Type 0 where
   pub closing : Option Closing
 
 -- the bytes that were fed
-abbrev pub bytes_of : Doing → List ℕ
-bytes_of (Fed piece moment held) = piece
-bytes_of (Settled settling moment) = []
-bytes_of Looked = []
+abbrev pub bytes_fed : Doing → List ℕ
+bytes_fed (Fed piece moment held) = piece
+bytes_fed (Settled settling moment) = []
+bytes_fed Looked = []
 
 -- the clock's reading
-abbrev pub told_of : Doing → List ℕ
-told_of (Fed piece moment held) = moment ∷ []
-told_of (Settled settling moment) = moment ∷ []
-told_of Looked = []
+abbrev pub readings_of : Doing → List ℕ
+readings_of (Fed piece moment held) = moment ∷ []
+readings_of (Settled settling moment) = moment ∷ []
+readings_of Looked = []
 
 -- the request to the loader, and its result
 abbrev pub asks_of : Doing → List Asking
@@ -64,10 +64,10 @@ asks_of Looked = []
 
 -- the same for several
 abbrev pub pieces_in : List Exchange → List ℕ
-pieces_in exchanges = flat_map (λ exchange. bytes_of exchange.doing) exchanges
+pieces_in exchanges = flat_map (λ exchange. bytes_fed exchange.doing) exchanges
 
 abbrev pub moments_in : List Exchange → List ℕ
-moments_in exchanges = flat_map (λ exchange. told_of exchange.doing) exchanges
+moments_in exchanges = flat_map (λ exchange. readings_of exchange.doing) exchanges
 
 abbrev pub askings_in : List Exchange → List Asking
 askings_in exchanges = flat_map (λ exchange. asks_of exchange.doing) exchanges
@@ -76,8 +76,8 @@ abbrev pub replies_in : List Exchange → List ℕ
 replies_in exchanges = flat_map (λ exchange. unwrap_or exchange.text []) exchanges
 
 -- after how many of them the replies were not taken
-abbrev pub untaken_in : List Exchange → ℕ
-untaken_in exchanges = count_by (λ exchange. is_none exchange.text) exchanges
+abbrev pub untaken_among : List Exchange → ℕ
+untaken_among exchanges = count_by (λ exchange. is_none exchange.text) exchanges
 
 -- ---- the loads in hand
 
@@ -86,15 +86,15 @@ abbrev pub EachOut : (ℕ → List ℕ → Type 0) → Outs → Type 0
 EachOut Fact outs = All (λ (out : LoadId × List ℕ). Fact out.0.number out.1) outs
 
 -- the last load in hand has this number and this key, and the rest are these
-abbrev pub IsLastOf : Outs → ℕ → List ℕ → Outs → Type 0
-IsLastOf hand load key rest = (id : LoadId) × (id.number ≡ load) × (hand ≡ rest ++ (id, key) ∷ [])
+abbrev pub IsLastInHand : Outs → ℕ → List ℕ → Outs → Type 0
+IsLastInHand hand load key rest = (id : LoadId) × (id.number ≡ load) × (hand ≡ rest ++ (id, key) ∷ [])
 
 -- the load that is settled or dropped is the last one in hand, and is removed from it; the loader was asked for its key
-abbrev pub Leaves : Doing → Outs → Outs → Type 0
-Leaves (Fed piece moment held) hand rest = rest ≡ hand
-Leaves (Settled settling moment) hand rest =
-    IsLastOf hand (load_number settling) (settling_asking settling).key rest
-Leaves Looked hand rest = rest ≡ hand
+abbrev pub LeavesInHand : Doing → Outs → Outs → Type 0
+LeavesInHand (Fed piece moment held) hand rest = rest ≡ hand
+LeavesInHand (Settled settling moment) hand rest =
+    IsLastInHand hand (load_number settling) (settling_asking settling).key rest
+LeavesInHand Looked hand rest = rest ≡ hand
 
 -- loads that are taken come into the hand, if none was left there
 abbrev pub Keeps : Option Outs → Outs → Outs → Type 0
@@ -104,7 +104,7 @@ Keeps (Some loads) rest after = (rest ≡ []) × (after ≡ loads)
 -- from one hand to the other
 pub record Hands (exchange : Exchange) (before after : Outs) : Type 0 where
   pub rest : Outs
-  pub leaves : Leaves exchange.doing before rest
+  pub leaves : LeavesInHand exchange.doing before rest
   pub keeps : Keeps exchange.loads rest after
 
 -- ---- one after another

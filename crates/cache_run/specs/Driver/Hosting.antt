@@ -15,9 +15,9 @@ use Rattle.cache_run.specs.declared.driver.session.Footing.TheVariants.{Ready, W
 abbrev pub exchange_of : Doing → Given → Exchange
 exchange_of doing given = record {
   doing = doing;
-  text = option_map (λ text. text.items) given.replies;
-  loads = option_map (λ loads. loads.items) given.loads;
-  closing = given.closing;
+  text = option_map (λ text. text.items) given.owed.replies;
+  loads = option_map (λ loads. loads.items) given.owed.loads;
+  closing = given.owed.closing;
 }
 
 -- at this moment the load with this number was settled, after this request to the loader
@@ -28,10 +28,10 @@ pub record SettlesBy (load moment : ℕ) (asking : Asking) (doing : Doing) : Typ
   pub done : doing ≡ Settled settling moment
 
 -- Loads are given only if they were requested; and if nobody else has the service, they are given then, and no `LOAD` waits for others.
-pub record Suits (lent wants_loads : Bool) (given : Given) : Type 0 where
-  pub unwanted : wants_loads ≡ false → given.loads ≡ None
-  pub wanted : lent ≡ true → wants_loads ≡ true → is_some given.loads ≡ true
-  pub waits : lent ≡ true → given.waits ≡ false
+pub record SuitsRequest (lent wants_loads : Bool) (given : Given) : Type 0 where
+  pub unwanted : wants_loads ≡ false → given.owed.loads ≡ None
+  pub wanted : lent ≡ true → wants_loads ≡ true → is_some given.owed.loads ≡ true
+  pub waits : lent ≡ true → given.owed.waits ≡ false
 
 -- why a host refuses
 abbrev pub Stops : (used_up late : Type 0) → RunError → Type 0
@@ -49,12 +49,12 @@ footing_by None false = Ready
 
 -- the replies that were taken
 abbrev pub text_of : Given → Option (List ℕ)
-text_of given = option_map (λ text. text.items) given.replies
+text_of given = option_map (λ text. text.items) given.owed.replies
 
 -- they were taken and all sent, unless there was an error
-abbrev pub HandsOut : {X E : Type 0} → Result X E → Option (List ℕ) → Option (List ℕ)
+abbrev pub WereSent : {X E : Type 0} → Result X E → Option (List ℕ) → Option (List ℕ)
     → Option (List ℕ) → Type 0
-HandsOut result text before after =
+WereSent result text before after =
     MatchResult result
     (λ done. (is_none text ≡ false) × SentBut [] (unwrap_or text []) before after)
     (λ e. (rest : List ℕ) × SentBut rest (unwrap_or text []) before after)

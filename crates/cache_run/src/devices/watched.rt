@@ -4,7 +4,7 @@ ghost use Rattle.std.specs.Result.{is_err};
 ghost use Rattle.std.specs.Io.KnownBytes.{Keeps, ReadConsumes, WriteAppends};
 ghost use Rattle.std.specs.Io.{ReadsAtMost, WritesAtMost};
 ghost use Rattle.cache_run.specs.Devices.Watched.{device, failures};
-ghost use Rattle.cache_run.specs.Devices.Failures.{HasFailed, counted, took_none};
+ghost use Rattle.cache_run.specs.Devices.Failures.{HasFailed, failures_after, took_none};
 
 use std::io;
 use std::io::{Read, Write};
@@ -55,7 +55,7 @@ impl<R: Read> Watched<R> {
         ensures bound { ReadsAtMost result buf.new }
         ensures bytes { ReadConsumes (R.remaining (device self.old)) (R.remaining (device self.new))
             result buf.new }
-        ensures counts { failures self.new ≡ counted (is_err result) (failures self.old) }
+        ensures counts { failures self.new ≡ failures_after (is_err result) (failures self.old) }
         ensures later { failures self.old ≤ failures self.new }
         ensures failed { OnErr result (HasFailed (failures self.old) (failures self.new)) }
     {
@@ -75,7 +75,7 @@ impl<W: Write> Watched<W> {
         ensures bytes { WriteAppends (W.contents (device self.old)) (W.contents (device self.new))
             result buf.now }
         ensures counts { failures self.new
-            ≡ counted (took_none buf.now result) (failures self.old) }
+            ≡ failures_after (took_none buf.now result) (failures self.old) }
         ensures later { failures self.old ≤ failures self.new }
         ensures failed { MatchResult result
             (λ n. n ≡ 0 → 0 < length buf.now → HasFailed (failures self.old) (failures self.new))
@@ -95,7 +95,7 @@ impl<W: Write> Watched<W> {
     /// Flushes the device. An error is counted and passed on.
     pub fn flush(&mut self) -> io::Result<()>
         ensures bytes { Keeps (W.contents (device self.old)) (W.contents (device self.new)) }
-        ensures counts { failures self.new ≡ counted (is_err result) (failures self.old) }
+        ensures counts { failures self.new ≡ failures_after (is_err result) (failures self.old) }
         ensures later { failures self.old ≤ failures self.new }
         ensures failed { OnErr result (HasFailed (failures self.old) (failures self.new)) }
     {

@@ -3,7 +3,7 @@ ghost use Rattle.std.specs.Prelude.{◌≡◌, ◌≤◌, ◌⊎◌, [], true, I
 ghost use Rattle.cache_run.specs.Devices.Sources.{HasToldLate};
 ghost use Rattle.cache_run.specs.Devices.Watched.{failures};
 ghost use Rattle.cache_run.specs.Driver.Causes.{Because, Fails, RunsFor, RunsOut, outcome_by};
-ghost use Rattle.cache_run.specs.Driver.Driven.{ClosesAfter, Converses, Holds, IsFresh};
+ghost use Rattle.cache_run.specs.Driver.Driven.{ClosesAfter, Converses, HoldsSession, HasReadNothing};
 
 use crate::devices::{Clock, Loader, RunError, Watched};
 use crate::driver::feeding::feed_piece;
@@ -42,8 +42,8 @@ pub fn open<H: Host>(
     namespace: u64,
 ) -> Result<Session, RunError>
     ensures opens { IfOk result
-        (λ session. H.opens namespace session.conn place.old place.new × IsFresh session) }
-    ensures known { IfOk result (λ session. Holds H.LENT H.knows session place.new) }
+        (λ session. H.opens namespace session.conn place.old place.new × HasReadNothing session) }
+    ensures known { IfOk result (λ session. HoldsSession H.LENT H.knows session place.new) }
     ensures rests { OnErr result ((place.new ≡ place.old) ⊎ H.rests place.old place.new) }
     ensures why { IfErr result
         (Because ⊥ ⊥ (H.exhausts (H.counted place.old) (H.counted place.new)) ⊥) }
@@ -73,8 +73,8 @@ fn take_turn<H: Host, I: Read, O: Write, K: Clock, D: Loader>(
     clock: &mut K,
     loader: &mut D,
 ) -> Result<Progress, RunError>
-    requires known { Holds H.LENT H.knows session.old place.old }
-    ensures known { Holds H.LENT H.knows session.new place.new
+    requires known { HoldsSession H.LENT H.knows session.old place.old }
+    ensures known { HoldsSession H.LENT H.knows session.new place.new
         × (session.new.conn ≡ session.old.conn) }
     ensures goes { Converses H.Host K.reads D.loads I.remaining O.contents result session.old
         session.new place.old place.new reader.old reader.new writer.old writer.new clock.old
@@ -118,8 +118,8 @@ pub fn converse<H: Host, I: Read, O: Write, K: Clock, D: Loader>(
     clock: &mut K,
     loader: &mut D,
 ) -> Result<Progress, RunError>
-    requires known { Holds H.LENT H.knows session.old place.old }
-    ensures known { Holds H.LENT H.knows session.new place.new
+    requires known { HoldsSession H.LENT H.knows session.old place.old }
+    ensures known { HoldsSession H.LENT H.knows session.new place.new
         × (session.new.conn ≡ session.old.conn) }
     ensures goes { Converses H.Host K.reads D.loads I.remaining O.contents result session.old
         session.new place.old place.new reader.old reader.new writer.old writer.new clock.old
@@ -152,7 +152,7 @@ pub fn close<H: Host, D: Loader>(
     outcome: Result<(), RunError>,
     loader: &mut D,
 ) -> Result<(), RunError>
-    requires known { Holds H.LENT H.knows session.now place.old }
+    requires known { HoldsSession H.LENT H.knows session.now place.old }
     ensures same { result ≡ outcome }
     ensures closes { ClosesAfter H.closes H.drops D.loads outcome session.now place.old place.new
         loader.old loader.new }

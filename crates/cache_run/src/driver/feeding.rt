@@ -3,7 +3,7 @@ ghost use Rattle.std.specs.Prelude.{◌≡◌, ◌≤◌, [], length, take, drop
 ghost use Rattle.cache_run.specs.Devices.Sources.{HasToldLate};
 ghost use Rattle.cache_run.specs.Devices.Watched.{failures};
 ghost use Rattle.cache_run.specs.Driver.Causes.{Because, Fails};
-ghost use Rattle.cache_run.specs.Driver.Driven.{Goes, Holds, asks_nobody, spot};
+ghost use Rattle.cache_run.specs.Driver.Driven.{GoesForward, HoldsSession, asks_nobody, spot};
 ghost use Rattle.cache_run.specs.Driver.Interludes.{InterludeBut, together};
 
 use crate::devices::{Clock, RunError, Watched};
@@ -24,12 +24,13 @@ pub fn feed_piece<H: Host, O: Write, K: Clock>(
     writer: &mut Watched<O>,
     clock: &mut K,
 ) -> Result<Progress, RunError>
-    requires known { Holds H.LENT H.knows session.old place.old × (session.old.taken.items ≡ []) }
+    requires known { HoldsSession H.LENT H.knows session.old place.old
+        × (session.old.taken.items ≡ []) }
     requires fits { (count ≤ length session.old.inbox) × H.fits (take count session.old.inbox) }
     ensures same { (session.new.conn ≡ session.old.conn)
         × (session.new.inbox ≡ drop count session.old.inbox) }
-    ensures known { Holds H.LENT H.knows session.new place.new }
-    ensures goes { Goes H.came H.closes K.reads asks_nobody H.LENT result
+    ensures known { HoldsSession H.LENT H.knows session.new place.new }
+    ensures goes { GoesForward H.came H.closes K.reads asks_nobody H.LENT result
         session.old session.new (spot O.contents place.old writer.old clock.old tt)
         (spot O.contents place.new writer.new clock.new tt) }
     ensures among { InterludeBut H.Host K.reads asks_nobody session.old.conn

@@ -5,11 +5,12 @@ ghost use Rattle.cache_run.specs.Devices.Sent.{SentBut};
 ghost use Rattle.cache_run.specs.Devices.Watched.{device, failures};
 ghost use Rattle.cache_run.specs.Driver.Exchanges.{Keeps};
 ghost use Rattle.cache_run.specs.Driver.Causes.{Because, Fails};
-ghost use Rattle.cache_run.specs.Driver.Hosting.{HandsOut, footing_by, text_of};
+ghost use Rattle.cache_run.specs.Driver.Hosting.{WereSent, footing_by, text_of};
 
 use crate::devices::{RunError, Watched, send};
 use crate::driver::host::Given;
 use crate::driver::session::{Session, footing_of};
+use cache_spaces::Owed;
 use std::io::Write;
 
 /// Sends all of a text, and flushes the writer.
@@ -38,23 +39,22 @@ pub fn hand_out<W: Write>(
     given: Given,
     writer: &mut Watched<W>,
 ) -> Result<(), RunError>
-    requires empty { given.loads ≢ None → session.old.taken.items ≡ [] }
-    ensures keeps { Keeps (option_map (λ loads. loads.items) given.loads) session.old.taken.items
-        session.new.taken.items }
+    requires empty { given.owed.loads ≢ None → session.old.taken.items ≡ [] }
+    ensures keeps { Keeps (option_map (λ loads. loads.items) given.owed.loads)
+        session.old.taken.items session.new.taken.items }
     ensures same { (session.new.conn ≡ session.old.conn) × (session.new.inbox ≡ session.old.inbox) }
-    ensures footing { session.new.footing ≡ footing_by given.closing given.waits }
-    ensures sent { HandsOut result (text_of given) (W.contents (device writer.old))
+    ensures footing { session.new.footing ≡ footing_by given.owed.closing given.owed.waits }
+    ensures sent { WereSent result (text_of given) (W.contents (device writer.old))
         (W.contents (device writer.new)) }
     ensures why { IfErr result (Because ⊥ (Fails writer.old writer.new) ⊥ ⊥) }
     ensures count { failures writer.old ≤ failures writer.new }
 {
-    let Given {
+    let Owed {
         replies,
         loads,
         closing,
         waits,
-        ..
-    } = given;
+    } = given.owed;
     session.footing = footing_of(closing, waits);
     match loads {
         Some(loads) => session.taken = loads,

@@ -2,25 +2,20 @@
 ghost use Rattle.std.specs.Prelude.{◌≡◌, ◌≤◌, ◌<◌, ◌^◌, ℕ, Bool, true, false, [], List, length, take, IfOk, IfErr, IfSome, OnErr, IsNone};
 ghost use Rattle.cache_run.specs.Devices.Sources.{Asking, Askings};
 ghost use Rattle.cache_run.specs.Driver.Exchanges.{Doing, Exchange, Fed, Looked, Outs};
-ghost use Rattle.cache_run.specs.Driver.Hosting.{SettlesBy, Stops, Suits, exchange_of};
+ghost use Rattle.cache_run.specs.Driver.Hosting.{SettlesBy, Stops, SuitsRequest, exchange_of};
 ghost use Rattle.audit_model.specs.declared.input.Conn.{Conn};
 
 use crate::devices::{Loader, RunError};
-use audit_model::{Bytes, Closing, Conn, LoadId, Outcome};
+use audit_model::{Bytes, Conn, LoadId, Outcome};
+use cache_spaces::Owed;
 
 /// What a connection is given after an exchange.
 #[derive(Drop)]
 pub struct Given {
     /// Whether a command is held back for lack of memory.
     pub held: bool,
-    /// The connection's replies that were not taken, or `None` if there was not enough memory for them.
-    pub replies: Option<Vec<u8>>,
-    /// The loads of the connection's namespace that had gone out and were not taken, if they were requested.
-    pub loads: Option<Vec<(LoadId, Bytes)>>,
-    /// Why the connection has closed, or `None` while it is open.
-    pub closing: Option<Closing>,
-    /// Whether a `LOAD` of the connection waits for a load that is requested from another connection's loader.
-    pub waits: bool,
+    /// What the connection was owed; it waits only for a load that is requested from another connection's loader.
+    pub owed: Owed,
 }
 
 /// Whoever serves connections: a lent service, or a seat of one that threads share.
@@ -85,7 +80,7 @@ pub trait Host {
         requires known { knows conn place.old }
         requires fits { fits piece.now }
         ensures came { IfOk result (λ given. IfSome given (λ one. came conn place.old (exchange_of
-            (Fed piece.now moment one.held) one) place.new × Suits LENT true one)) }
+            (Fed piece.now moment one.held) one) place.new × SuitsRequest LENT true one)) }
         ensures closed { IfOk result
             (λ given. IsNone given → (LENT ≡ false) × rests place.old place.new) }
         ensures rests { OnErr result (rests place.old place.new) }
@@ -109,7 +104,7 @@ pub trait Host {
         ensures came { IfOk result (λ given. (key : List ℕ)
             → (doing : Doing) × SettlesBy load moment (record { key = key; answer = said }) doing
             × came conn place.old (exchange_of doing given) place.new) }
-        ensures suits { IfOk result (Suits LENT wants_loads) }
+        ensures suits { IfOk result (SuitsRequest LENT wants_loads) }
         ensures rests { OnErr result (rests place.old place.new) }
         ensures known { knows conn place.new }
         ensures count { counted place.old ≤ counted place.new }
@@ -120,7 +115,7 @@ pub trait Host {
     fn await_owed(&mut self, place: &mut Self::Place, conn: Conn) -> Given
         requires known { knows conn place.old }
         ensures came { came conn place.old (exchange_of Looked result) place.new }
-        ensures suits { Suits LENT true result }
+        ensures suits { SuitsRequest LENT true result }
         ensures count { counted place.old ≤ counted place.new }
         ensures known { knows conn place.new };
 

@@ -3,7 +3,7 @@ ghost use Rattle.std.specs.Prelude.{◌≡◌, ◌≤◌, [], true, IfErr};
 ghost use Rattle.cache_run.specs.Devices.Sources.{HasToldLate};
 ghost use Rattle.cache_run.specs.Devices.Watched.{failures};
 ghost use Rattle.cache_run.specs.Driver.Causes.{Because, Fails, HasAsked};
-ghost use Rattle.cache_run.specs.Driver.Driven.{Holds, Settles, Turns, spot};
+ghost use Rattle.cache_run.specs.Driver.Driven.{HoldsSession, Settles, TurnsUnread, spot};
 ghost use Rattle.cache_run.specs.Driver.Interludes.{InterludeBut, together};
 
 use crate::devices::{Clock, Loader, RunError, Watched};
@@ -25,10 +25,10 @@ fn settle_one<H: Host, O: Write, K: Clock, D: Loader>(
     clock: &mut K,
     loader: &mut D,
 ) -> Result<(), RunError>
-    requires known { Holds H.LENT H.knows session.old place.old
+    requires known { HoldsSession H.LENT H.knows session.old place.old
         × (session.old.taken.items ≡ [] → session.old.footing ≡ Footing.Waiting) }
     ensures same { (session.new.conn ≡ session.old.conn) × (session.new.inbox ≡ session.old.inbox) }
-    ensures known { Holds H.LENT H.knows session.new place.new }
+    ensures known { HoldsSession H.LENT H.knows session.new place.new }
     ensures goes { Settles H.came H.closes K.reads D.loads H.LENT result session.old
         session.new (spot O.contents place.old writer.old clock.old loader.old)
         (spot O.contents place.new writer.new clock.new loader.new) }
@@ -63,11 +63,11 @@ pub fn settle_next<H: Host, O: Write, K: Clock, D: Loader>(
     clock: &mut K,
     loader: &mut D,
 ) -> Result<Progress, RunError>
-    requires known { Holds H.LENT H.knows session.old place.old
+    requires known { HoldsSession H.LENT H.knows session.old place.old
         × (session.old.taken.items ≡ [] → session.old.footing ≡ Footing.Waiting) }
     ensures same { (session.new.conn ≡ session.old.conn) × (session.new.inbox ≡ session.old.inbox) }
-    ensures known { Holds H.LENT H.knows session.new place.new }
-    ensures goes { Turns H.Host K.reads D.loads result session.old session.new
+    ensures known { HoldsSession H.LENT H.knows session.new place.new }
+    ensures goes { TurnsUnread H.Host K.reads D.loads result session.old session.new
         (spot O.contents place.old writer.old clock.old loader.old)
         (spot O.contents place.new writer.new clock.new loader.new) }
     ensures among { InterludeBut H.Host K.reads D.loads session.old.conn

@@ -5,13 +5,13 @@ use Rattle.std.specs.declared.io.ErrorKind.TheVariants as kind
 use Rattle.cache_run.specs.declared.devices.watched.Watched.{Watched}
 use Rattle.cache_run.specs.Devices.Watched.{device, failures}
 use Rattle.cached_server.proofs.script.Twice.{tells-alone}
-use Rattle.cached_server.specs.Script.Faults.{EndsBy, EndsCallBy, EndsScriptBy, EndsTelling, HasCause, MayEnd, Tells, fault_message}
+use Rattle.cached_server.specs.Script.Faults.{EndsByFault, EndsCallBy, EndsScriptBy, EndsTelling, HasCause, MayEnd, WritesPrefix, fault_message}
 use Rattle.cached_server.specs.declared.script.faults.Fault.{Fault}
 use Rattle.cached_server.specs.declared.script.faults.Fault.TheVariants as fault
 
 -- a fault whose text alone was written
-pub ends-alone : (read write used_up serves : Type 0) (f : Fault) (behind told : Option (List ℕ)) (before failed : ℕ) → HasCause read write used_up serves f → Tells (fault_message f) behind told before failed
-    → EndsBy read write used_up serves told failed
+pub ends-alone : (read write used_up serves : Type 0) (f : Fault) (behind told : Option (List ℕ)) (before failed : ℕ) → HasCause read write used_up serves f → WritesPrefix (fault_message f) behind told before failed
+    → EndsByFault read write used_up serves told failed
 ends-alone read write used_up serves f behind told before failed cause tells = record {
   fault = f;
   cause = cause;
@@ -31,8 +31,8 @@ caused fault.UsedUp other = tt
 caused fault.BadConfiguration other = tt
 caused fault.CannotListen other = tt
 
-ends-server : (behind told : Option (List ℕ)) (before failed : ℕ) → ((f : Fault) × (more : List ℕ) × (f ≢ fault.Read) × Tells (fault_message f ++ more) behind told before failed)
-    → EndsBy ⊥ (Unit {0}) (Unit {0}) (Unit {0}) told failed
+ends-server : (behind told : Option (List ℕ)) (before failed : ℕ) → ((f : Fault) × (more : List ℕ) × (f ≢ fault.Read) × WritesPrefix (fault_message f ++ more) behind told before failed)
+    → EndsByFault ⊥ (Unit {0}) (Unit {0}) (Unit {0}) told failed
 ends-server behind told before failed t = record { fault = t.0; cause = caused t.0 t.2; more = t.1; alone = λ some. tt; behind = behind; before = before; tells = t.3 }
 
 -- ---- words that cannot be had
@@ -59,7 +59,7 @@ wordless-ends call k status none memory other = elim (is-memory k) [
 ]
 
 module _ {R W E : Type 0} (contents : E → Option (List ℕ)) (reader reader' : Watched R) (writer writer' : Watched W) (errors errors' : Watched E) where
-  memory-ends : (call : Option (Option (List ℕ))) → Tells (fault_message fault.OutOfMemory) (contents (device errors)) (contents (device errors')) (failures errors) (failures errors')
+  memory-ends : (call : Option (Option (List ℕ))) → WritesPrefix (fault_message fault.OutOfMemory) (contents (device errors)) (contents (device errors')) (failures errors) (failures errors')
       → EndsCallBy call contents reader reader' writer writer' errors errors'
   memory-ends None tells = ends-alone _ _ _ _ fault.OutOfMemory _ _ _ _ tt tells
   memory-ends (Some None) tells = ends-alone _ _ _ _ fault.OutOfMemory _ _ _ _ tt tells
@@ -77,6 +77,6 @@ module _ {R W E : Type 0} (contents : E → Option (List ℕ)) (reader reader' :
   script-stops call is stopped = subst (λ call. EndsCallBy call contents reader reader' writer writer' errors errors') (sym is) stopped
 
   pub server-stops : (call : Option (Option (List ℕ))) (path : List ℕ) → call ≡ Some (Some path)
-      → ((f : Fault) × (more : List ℕ) × (f ≢ fault.Read) × Tells (fault_message f ++ more) (contents (device errors)) (contents (device errors')) (failures errors) (failures errors'))
+      → ((f : Fault) × (more : List ℕ) × (f ≢ fault.Read) × WritesPrefix (fault_message f ++ more) (contents (device errors)) (contents (device errors')) (failures errors) (failures errors'))
       → EndsCallBy call contents reader reader' writer writer' errors errors'
   server-stops call path is told = subst (λ call. EndsCallBy call contents reader reader' writer writer' errors errors') (sym is) (ends-server _ _ _ _ told)

@@ -16,14 +16,14 @@ use Rattle.audit_model.specs.declared.command.Closing.TheVariants as by
 use Rattle.cache_run.specs.Devices.Sources.{Readings}
 use Rattle.cache_run.specs.Worlds.{Carried, nothing_left, records_of, outside, world}
 use Rattle.cache_run.specs.Connected.{IsEnded}
-use Rattle.cache_run.specs.Happened.{Turn, moment_in, turn_notes, piece_in, replies_in}
+use Rattle.cache_run.specs.Happened.{HostTurn, moment_in, turn_notes, piece_in, replies_in}
 use Rattle.audit_model.specs.declared.event.Outcome.{Outcome}
-use Rattle.cache_run.specs.Runs.{EndsRun, ServesWhole}
+use Rattle.cache_run.specs.Runs.{EndsConnection, ServesWhole}
 use Rattle.cache_run.proofs.Happening.{IsSoundAt, listed-is}
 use Rattle.cache_spaces.proofs.Placing.{at-is}
-use Rattle.cache_spaces.specs.Services.{BareSpace, bare_tape, AreNew, IsSound}
+use Rattle.cache_spaces.specs.Services.{BareSpace, bare_tape, AreNewSpaces, IsSoundSpace}
 use Rattle.cache_spaces.specs.Calls.{At}
-use Rattle.cache_spaces.specs.Spaces.{StandsFor, closing_of, config_of, notices_of}
+use Rattle.cache_spaces.specs.Spaces.{StandsFor, closing_of, config_of, untaken_notes}
 use Rattle.cached_server.specs.Script.Notes.{notes_text, notices_at}
 use Rattle.cached_server.specs.Script.Scripts.{EndsScript, ServesScript, script_config, script_transcript}
 
@@ -31,10 +31,10 @@ use Rattle.cached_server.specs.Script.Scripts.{EndsScript, ServesScript, script_
 abbrev pub stands_still : {C : Type 0} → C → ℕ → C → Type 0
 stands_still c t d = t ≡ 0
 
-all-still : {C : Type 0} (c d : C) (turns : List Turn) → Readings stands_still c (map moment_in turns ++ []) d → list_all (λ (turn : Turn). moment_in turn == 0) turns ≡ true
+all-still : {C : Type 0} (c d : C) (turns : List HostTurn) → Readings stands_still c (map moment_in turns ++ []) d → list_all (λ (turn : HostTurn). moment_in turn == 0) turns ≡ true
 all-still c d [] told = refl
 all-still c d (turn ∷ turns) told =
-    ap (λ b. b && list_all (λ (f : Turn). moment_in f == 0) turns) (eq-eqb (moment_in turn) 0 told.1) ∙ all-still told.0 d turns told.2
+    ap (λ b. b && list_all (λ (f : HostTurn). moment_in f == 0) turns) (eq-eqb (moment_in turn) 0 told.1) ∙ all-still told.0 d turns told.2
 
 -- what stands where it went well
 pub where-ok : {T E P : Type 0} (r : Result T E) → IsOk r → OnOk r P → P
@@ -53,7 +53,7 @@ opened-closed [] why e = absurd (none-some why e)
 opened-closed (c ∷ cs) why e = le-leb 1 (length (c ∷ cs)) (omega arith)
 
 -- and is not listed
-unlisted : (space : BareSpace) (s : Situation) (why : Closing) → IsSound bare_tape space → StandsFor space s → closing_of space 1 ≡ Some why → connection_in 1 s ≡ None
+unlisted : (space : BareSpace) (s : Situation) (why : Closing) → IsSoundSpace bare_tape space → StandsFor space s → closing_of space 1 ≡ Some why → connection_in 1 s ≡ None
 unlisted space s why sound stands closed = go (connection_in 1 s) (listed-is space s 1 sound stands (opened-closed space.closings why closed) ∙ ap is_none closed)
   where
     go : (o : Option Connection) → is_some o ≡ false → o ≡ None
@@ -66,17 +66,17 @@ ended-why closing (inr (inl quit)) = (by.Quit, quit)
 ended-why closing (inr (inr behind)) = (by.Behind, behind)
 
 -- the script came to its end
-ends-so : (space : BareSpace) (s : Situation) (turns : List Turn) (closes : Bool) (rest : Option (List ℕ)) → IsSound bare_tape space → StandsFor space s
-    → after_records script_config (empty_situation 0) (records_of 1 true turns closes []) ≡ Some s → EndsRun closes (closing_of space 1) rest → EndsScript closes turns rest
+ends-so : (space : BareSpace) (s : Situation) (turns : List HostTurn) (closes : Bool) (rest : Option (List ℕ)) → IsSoundSpace bare_tape space → StandsFor space s
+    → after_records script_config (empty_situation 0) (records_of 1 true turns closes []) ≡ Some s → EndsConnection closes (closing_of space 1) rest → EndsScript closes turns rest
 ends-so space s turns true rest sound stands leads ends = ends.1
 ends-so space s turns false rest sound stands leads ends = λ t other.
     let why = ended-why (closing_of space 1) ends in
     subst (λ u. connection_in 1 u ≡ None) (same_Some s t (sym leads ∙ other)) (unlisted space s why.0 sound stands why.1)
 
 module _ {C L : Type 0} (loads : L → List ℕ → Option Outcome → L → Type 0) (input rest output written errors told : Option (List ℕ)) (clock after : C) (loader later : L) where
-  carried-script : (was is : BareSpace) (number : ℕ) (closes : Bool) (s : Situation) → number ≡ 1 → config_of was ≡ script_config → notices_of was ≡ []
+  carried-script : (was is : BareSpace) (number : ℕ) (closes : Bool) (s : Situation) → number ≡ 1 → config_of was ≡ script_config → untaken_notes was ≡ []
       → Carried (config_of was) number stands_still loads (world was (empty_situation 0) (outside input output clock loader)) (world is s (outside rest written after later)) true closes [] nothing_left
-      → IsSound bare_tape is → StandsFor is s → EndsRun closes (closing_of is number) rest → Appends errors told (notes_text (notices_of is))
+      → IsSoundSpace bare_tape is → StandsFor is s → EndsConnection closes (closing_of is number) rest → Appends errors told (notes_text (untaken_notes is))
       → ServesScript input rest output written errors told
   carried-script was is number closes s first configured none c sound stands ends notes =
       let leads : after_records script_config (empty_situation 0) (records_of 1 true c.turns closes []) ≡ Some s =
@@ -90,12 +90,12 @@ module _ {C L : Type 0} (loads : L → List ℕ → Option Outcome → L → Typ
         admitted = o.1;
         still = all-still clock after c.turns (subst (λ ms. Readings stands_still clock ms after) refl c.clock);
         read = subst (Consumes input rest) (append-nil (flat_map piece_in c.turns)) c.read;
-        ends = ends-so is s c.turns closes rest sound stands leads (subst (λ n. EndsRun closes (closing_of is n) rest) first ends);
+        ends = ends-so is s c.turns closes rest sound stands leads (subst (λ n. EndsConnection closes (closing_of is n) rest) first ends);
         wrote = subst (Appends output written) (sym (append-nil c.sent) ∙ c.replies ∙ ap (λ n. flat_map (replies_in n) c.turns) first) c.wrote;
-        notes = subst (λ l. Appends errors told (notes_text l)) (c.notices ∙ append-nil (notices_of was ++ flat_map (turn_notes number) c.turns) ∙ ap (λ l. l ++ flat_map (turn_notes number) c.turns) none ∙ ap (λ n. flat_map (turn_notes n) c.turns) first) notes;
+        notes = subst (λ l. Appends errors told (notes_text l)) (c.notices ∙ append-nil (untaken_notes was ++ flat_map (turn_notes number) c.turns) ∙ ap (λ l. l ++ flat_map (turn_notes number) c.turns) none ∙ ap (λ n. flat_map (turn_notes n) c.turns) first) notes;
       }
 
-  pub script-served : (old new : List BareSpace) (generator : List ℕ) → AreNew bare_tape None old (script_config ∷ []) generator 0 → IsSoundAt new 0
+  pub script-served : (old new : List BareSpace) (generator : List ℕ) → AreNewSpaces bare_tape None old (script_config ∷ []) generator 0 → IsSoundAt new 0
       → At old new 0 (λ was is. ServesWhole stands_still loads was is (outside input output clock loader) (outside rest written after later))
       → Appends errors told (notes_text (notices_at new 0)) → ServesScript input rest output written errors told
   script-served old new generator made sound a notes =
@@ -104,4 +104,4 @@ module _ {C L : Type 0} (loads : L → List ℕ → Option Outcome → L → Typ
       let s = w.goes.each (empty_situation 0) begun.stands tt in
       let here = at-is (λ was is. ServesWhole stands_still loads was is (outside input output clock loader) (outside rest written after later)) old new 0 a in
       carried-script a.was a.is w.number w.closes s.next (w.next ∙ ap (λ (x : BareSpace). length x.closings + 1) begun.state_is) begun.configured begun.notices s.fact (sound a.is here) s.stands w.ends
-      (subst (λ l. Appends errors told (notes_text l)) (ap (λ o. option_map_or notices_of o []) here) notes)
+      (subst (λ l. Appends errors told (notes_text l)) (ap (λ o. option_map_or untaken_notes o []) here) notes)

@@ -8,7 +8,7 @@ use Rattle.cache_run.specs.Devices.Failures.{HasFailed}
 use Rattle.cache_run.specs.declared.devices.errors.RunError.{RunError}
 use Rattle.cache_run.specs.declared.devices.errors.RunError.TheVariants as run
 use Rattle.cached_server.proofs.script.Ending.{ends-alone}
-use Rattle.cached_server.specs.Script.Faults.{EndsBy, HasCause, Tells, fault_after, fault_message}
+use Rattle.cached_server.specs.Script.Faults.{EndsByFault, HasCause, WritesPrefix, fault_after, fault_message}
 use Rattle.cached_server.specs.Script.Notes.{StopsTelling}
 use Rattle.cached_server.specs.declared.script.faults.Fault.{Fault}
 
@@ -35,8 +35,8 @@ module _ (read write : Type 0) (before after last : ℕ) where
   told-so notes e later (inr many) = subst Caused (sym many.0) tt
 
   pub script-stopped : (r s both : Result (Unit {0}) RunError) (notes : List Note) (e : RunError) (f : Fault) (behind told : Option (List ℕ)) → both ≡ result_and r s → both ≡ Err e
-      → (IsErrOf r run.Read → read) → (IsErrOf r run.Write → write) → IfErr s (StopsTelling before after notes) → after ≤ last → f ≡ fault_after e → Tells (fault_message f) behind told after last
-      → EndsBy read (write ⊎ HasFailed before last) (Unit {0}) ⊥ told last
+      → (IsErrOf r run.Read → read) → (IsErrOf r run.Write → write) → IfErr s (StopsTelling before after notes) → after ≤ last → f ≡ fault_after e → WritesPrefix (fault_message f) behind told after last
+      → EndsByFault read (write ⊎ HasFailed before last) (Unit {0}) ⊥ told last
   script-stopped r s both notes e f behind told is err reads writes tells later same text =
       let cause : Caused e = elim (either-err r s both e is err) [
         | inl ran ↦ ran-so r e ran reads writes

@@ -5,10 +5,10 @@ use Rattle.std.proofs.lemmas.List.{append-nil}
 use Rattle.cache_run.specs.Devices.Failures.{HasFailed}
 use Rattle.cache_run.specs.Devices.Sent.{SentBut}
 use Rattle.cache_run.proofs.devices.Sending.{appends_more, failed_after}
-use Rattle.cached_server.specs.Script.Faults.{Tells}
+use Rattle.cached_server.specs.Script.Faults.{WritesPrefix}
 
 -- the first was written whole, and of the second a prefix
-pub tells-both : (a b : List ℕ) (x y z : Option (List ℕ)) (n m k : ℕ) → Appends x y a → Tells b y z m k → n ≤ m → m ≤ k → Tells (a ++ b) x z n k
+pub tells-both : (a b : List ℕ) (x y z : Option (List ℕ)) (n m k : ℕ) → Appends x y a → WritesPrefix b y z m k → n ≤ m → m ≤ k → WritesPrefix (a ++ b) x z n k
 tells-both a b x y z n m k first t early late = record {
   rest = t.rest;
   sent = record {
@@ -20,7 +20,7 @@ tells-both a b x y z n m k first t early late = record {
 }
 
 -- the first was cut
-pub tells-first : (a b rest : List ℕ) (x y : Option (List ℕ)) (n m : ℕ) → SentBut rest a x y → HasFailed n m → Tells (a ++ b) x y n m
+pub tells-first : (a b rest : List ℕ) (x y : Option (List ℕ)) (n m : ℕ) → SentBut rest a x y → HasFailed n m → WritesPrefix (a ++ b) x y n m
 tells-first a b rest x y n m s failed = record {
   rest = rest ++ b;
   sent = record { sent = s.sent; whole = sym (append_assoc s.sent rest b) ∙ ap (λ l. l ++ b) s.whole; wrote = s.wrote };
@@ -28,5 +28,5 @@ tells-first a b rest x y n m s failed = record {
 }
 
 -- the second is empty
-pub tells-alone : (text : List ℕ) (x y : Option (List ℕ)) (n k : ℕ) → Tells text x y n k → Tells (text ++ []) x y n k
-tells-alone text x y n k t = subst (λ l. Tells l x y n k) (sym (append-nil text)) t
+pub tells-alone : (text : List ℕ) (x y : Option (List ℕ)) (n k : ℕ) → WritesPrefix text x y n k → WritesPrefix (text ++ []) x y n k
+tells-alone text x y n k t = subst (λ l. WritesPrefix l x y n k) (sym (append-nil text)) t

@@ -39,7 +39,7 @@ abbrev pub usage_text : List ℕ
 usage_text = codes "usage: cached --script | --config FILE\n"
 
 -- A prefix of the text was written; all of it, unless the stream failed.
-pub record Tells (text : List ℕ) (before after : Option (List ℕ)) (failed later : ℕ) : Type 0 where
+pub record WritesPrefix (text : List ℕ) (before after : Option (List ℕ)) (failed later : ℕ) : Type 0 where
   pub rest : List ℕ
   pub sent : SentBut rest text before after
   pub cut : rest ≢ [] → HasFailed failed later
@@ -48,7 +48,7 @@ pub record Tells (text : List ℕ) (before after : Option (List ℕ)) (failed la
 abbrev pub EndsTelling : {E : Type 0} → (E → Option (List ℕ)) → (status wanted : ℕ) → List ℕ
     → Watched E → Watched E → Type 0
 EndsTelling contents status wanted text errors errors' =
-    (status ≡ wanted) × Tells text (contents (device errors)) (contents (device errors'))
+    (status ≡ wanted) × WritesPrefix text (contents (device errors)) (contents (device errors'))
     (failures errors) (failures errors')
 
 -- what causes a fault: of a read, of a write, of a number, of a server; memory may always run out
@@ -61,7 +61,7 @@ HasCause read write used_up serves fault.BadConfiguration = serves
 HasCause read write used_up serves fault.CannotListen = serves
 
 -- It ended for a fault that has its cause. Last the text of the fault was written, and of a server also what caused it.
-pub record EndsBy (read write used_up serves : Type 0) (told : Option (List ℕ)) (failed : ℕ) :
+pub record EndsByFault (read write used_up serves : Type 0) (told : Option (List ℕ)) (failed : ℕ) :
     Type 0 where
   pub fault : Fault
   pub cause : HasCause read write used_up serves fault
@@ -69,24 +69,24 @@ pub record EndsBy (read write used_up serves : Type 0) (told : Option (List ℕ)
   pub alone : more ≢ [] → serves
   pub behind : Option (List ℕ)
   pub before : ℕ
-  pub tells : Tells (fault_message fault ++ more) behind told before failed
+  pub tells : WritesPrefix (fault_message fault ++ more) behind told before failed
 
 -- why a script ends with status 1: reading it, or writing its replies or notes, failed, or memory or a number ran out
 abbrev pub EndsScriptBy : {R W E : Type 0} → (E → Option (List ℕ)) → Watched R → Watched R
     → Watched W → Watched W → Watched E → Watched E → Type 0
 EndsScriptBy contents reader reader' writer writer' errors errors' =
-    EndsBy (Fails reader reader') (Fails writer writer' ⊎ Fails errors errors') (Unit {0}) ⊥
+    EndsByFault (Fails reader reader') (Fails writer writer' ⊎ Fails errors errors') (Unit {0}) ⊥
     (contents (device errors')) (failures errors')
 
 -- why the program ends with status 1, by what was asked for: of bad words only because memory ran out; of a server never for its input
 abbrev pub EndsCallBy : {R W E : Type 0} → Option (Option (List ℕ)) → (E → Option (List ℕ))
     → Watched R → Watched R → Watched W → Watched W → Watched E → Watched E → Type 0
 EndsCallBy None contents reader reader' writer writer' errors errors' =
-    EndsBy ⊥ ⊥ ⊥ ⊥ (contents (device errors')) (failures errors')
+    EndsByFault ⊥ ⊥ ⊥ ⊥ (contents (device errors')) (failures errors')
 EndsCallBy (Some None) contents reader reader' writer writer' errors errors' =
     EndsScriptBy contents reader reader' writer writer' errors errors'
 EndsCallBy (Some (Some path)) contents reader reader' writer writer' errors errors' =
-    EndsBy ⊥ (Unit {0}) (Unit {0}) (Unit {0}) (contents (device errors')) (failures errors')
+    EndsByFault ⊥ (Unit {0}) (Unit {0}) (Unit {0}) (contents (device errors')) (failures errors')
 
 -- the statuses, by what was asked for: 2 only of bad words, 0 only of a script
 abbrev pub MayEnd : Option (Option (List ℕ)) → ℕ → Type 0

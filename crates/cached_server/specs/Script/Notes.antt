@@ -8,7 +8,7 @@ use Rattle.cache_run.specs.Devices.Failures.{HasFailed}
 use Rattle.cache_run.specs.declared.devices.errors.RunError.{RunError}
 use Rattle.cache_run.specs.declared.devices.errors.RunError.TheVariants as error
 use Rattle.cache_spaces.specs.Services.{BareSpace}
-use Rattle.cache_spaces.specs.Spaces.{notices_of}
+use Rattle.cache_spaces.specs.Spaces.{untaken_notes}
 
 -- the lines of notes, in order
 abbrev pub notes_text : List Note → List ℕ
@@ -16,7 +16,7 @@ notes_text notes = flat_map note_text notes
 
 -- the notes of a namespace that were reported and not taken
 abbrev pub notices_at : List BareSpace → ℕ → List Note
-notices_at spaces namespace = option_map_or notices_of (slice_get spaces namespace) []
+notices_at spaces namespace = option_map_or untaken_notes (slice_get spaces namespace) []
 
 -- why reporting notes stops: the writer failed, or there were as many notes as are counted
 abbrev pub StopsTelling : (before after : ℕ) → List Note → RunError → Type 0

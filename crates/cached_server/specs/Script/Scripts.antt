@@ -13,7 +13,7 @@ use Rattle.audit_model.specs.declared.transcript.Transcript.{Transcript}
 use Rattle.cache_run.specs.Devices.Watched.{device}
 use Rattle.cache_run.specs.declared.devices.watched.Watched.{Watched}
 use Rattle.cache_run.specs.Worlds.{records_of}
-use Rattle.cache_run.specs.Happened.{Turn, moment_in, turn_notes, piece_in, replies_in}
+use Rattle.cache_run.specs.Happened.{HostTurn, moment_in, turn_notes, piece_in, replies_in}
 use Rattle.cached_server.specs.Script.Notes.{notes_text}
 
 -- the namespace of a script: without limits
@@ -30,25 +30,25 @@ script_config =
     }
 
 -- one connection that opens, has these turns, and closes or not, at moment 0
-abbrev pub script_transcript : List Turn → Bool → Transcript
+abbrev pub script_transcript : List HostTurn → Bool → Transcript
 script_transcript turns closes =
     record { made = record { nanos = 0 }; records = records_of 1 true turns closes [] }
 
 -- after these turns the connection is no longer open: what it was fed closed it
-abbrev pub HasClosedBehind : List Turn → Type 0
+abbrev pub HasClosedBehind : List HostTurn → Type 0
 HasClosedBehind turns =
     (s : Situation) → after_records script_config (empty_situation 0)
     (script_transcript turns false).records ≡ Some s → connection_in 1 s ≡ None
 
 -- it closes at the end of the input, unless it closed before
-abbrev pub EndsScript : Bool → List Turn → Option (List ℕ) → Type 0
+abbrev pub EndsScript : Bool → List HostTurn → Option (List ℕ) → Type 0
 EndsScript true turns rest = IsAtEnd rest
 EndsScript false turns rest = HasClosedBehind turns
 
 -- The bytes read are the pieces of a transcript that obeys, all at moment 0; its replies were written, and then its notes reported. Either
 -- the input came to its end, and the connection was closed then, or a line had closed it, as a `QUIT` does.
 pub record ServesScript (input rest output written errors told : Option (List ℕ)) : Type 0 where
-  pub turns : List Turn
+  pub turns : List HostTurn
   pub closes : Bool
   pub obeys : Obeys script_config (script_transcript turns closes)
   pub admitted : IsAdmitted script_config (script_transcript turns closes)

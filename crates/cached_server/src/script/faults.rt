@@ -2,7 +2,7 @@
 ghost use Rattle.std.specs.Prelude.{◌≡◌, ◌≢◌, ◌≤◌, ◌++◌, codes};
 ghost use Rattle.cache_run.specs.Devices.Watched.{device, failures};
 ghost use Rattle.cached_server.specs.declared.script.faults.Fault.TheVariants as fault;
-ghost use Rattle.cached_server.specs.Script.Faults.{EndsTelling, Tells, fault_after, fault_message, usage_text};
+ghost use Rattle.cached_server.specs.Script.Faults.{EndsTelling, WritesPrefix, fault_after, fault_message, usage_text};
 
 use cache_run::{RunError, Watched, send};
 use std::alloc::AllocError;
@@ -51,8 +51,8 @@ pub fn text_of(fault: Fault) -> &'static [u8]
 
 /// Writes a text. What cannot be written is lost.
 fn tell<E: Write>(text: &[u8], errors: &mut Watched<E>)
-    ensures told { Tells text.now (E.contents (device errors.old)) (E.contents (device errors.new))
-        (failures errors.old) (failures errors.new) }
+    ensures told { WritesPrefix text.now (E.contents (device errors.old))
+        (E.contents (device errors.new)) (failures errors.old) (failures errors.new) }
     ensures later { failures errors.old ≤ failures errors.new }
 {
     let _ = send(text, errors);
@@ -60,7 +60,7 @@ fn tell<E: Write>(text: &[u8], errors: &mut Watched<E>)
 
 /// Writes two texts, the second only if the first was written whole. What cannot be written is lost.
 pub fn tell_both<E: Write>(first: &[u8], second: &[u8], errors: &mut Watched<E>)
-    ensures { Tells (first.now ++ second.now) (E.contents (device errors.old))
+    ensures { WritesPrefix (first.now ++ second.now) (E.contents (device errors.old))
         (E.contents (device errors.new)) (failures errors.old) (failures errors.new) }
 {
     match send(first, errors) {
@@ -72,7 +72,7 @@ pub fn tell_both<E: Write>(first: &[u8], second: &[u8], errors: &mut Watched<E>)
 /// Writes the text of a fault, and returns the status of the program. What cannot be written is lost.
 pub fn fail<E: Write>(errors: &mut Watched<E>, fault: Fault) -> u8
     ensures status { result ≡ 1 }
-    ensures told { Tells (fault_message fault) (E.contents (device errors.old))
+    ensures told { WritesPrefix (fault_message fault) (E.contents (device errors.old))
         (E.contents (device errors.new)) (failures errors.old) (failures errors.new) }
     ensures later { failures errors.old ≤ failures errors.new }
 {

@@ -3,8 +3,8 @@ ghost use Rattle.std.specs.Prelude.{◌≡◌, IfOk, OnErr, Some, None};
 ghost use Rattle.memcache_model.specs.Answers.{counts, deletes, flushes, touches_one};
 ghost use Rattle.memcache_model.specs.Items.{deadline_of};
 ghost use Rattle.memcache_model.specs.Outcomes.{counted};
-ghost use Rattle.memcache_service.specs.Shelves.{IsMoment};
-ghost use Rattle.memcache_service.specs.Stocks.{Does, Spares, stock_at};
+ghost use Rattle.memcache_service.specs.Shelves.{MayComeAt};
+ghost use Rattle.memcache_service.specs.Stocks.{Did, Spares, stock_at};
 ghost use Rattle.memcache_service.specs.Lines.{reply_text};
 
 use super::Stock;
@@ -20,8 +20,8 @@ impl<T: Shelf> Stock<T> {
     /// Deletes the live item of a key, and returns the reply. Returns an error if there is not enough memory; then the request has done
     /// nothing.
     pub fn delete(&mut self, key: &[u8], moment: u64) -> Result<Reply, AllocError>
-        requires { IsMoment (T.view self.old.shelf) moment }
-        ensures ok { IfOk result (λ reply. Does T.view moment (deletes key.now
+        requires { MayComeAt (T.view self.old.shelf) moment }
+        ensures ok { IfOk result (λ reply. Did T.view moment (deletes key.now
             ((stock_at T.view moment self.old).items key.now) (stock_at T.view moment self.old))
             self.old self.new (reply_text reply)) }
         ensures err { OnErr result (Spares self.old self.new) }
@@ -45,8 +45,8 @@ impl<T: Shelf> Stock<T> {
         delta: u64,
         moment: u64,
     ) -> Result<Reply, AllocError>
-        requires { IsMoment (T.view self.old.shelf) moment }
-        ensures ok { IfOk result (λ reply. Does T.view moment (counts direction key.now delta
+        requires { MayComeAt (T.view self.old.shelf) moment }
+        ensures ok { IfOk result (λ reply. Did T.view moment (counts direction key.now delta
             ((stock_at T.view moment self.old).items key.now) (stock_at T.view moment self.old))
             self.old self.new (reply_text reply)) }
         ensures err { OnErr result (Spares self.old self.new) }
@@ -69,8 +69,8 @@ impl<T: Shelf> Stock<T> {
     /// Gives the live item of a key another expiry, and returns the reply. Returns an error if there is not enough memory; then the request
     /// has done nothing.
     pub fn touch(&mut self, key: &[u8], exptime: Exptime, moment: u64) -> Result<Reply, AllocError>
-        requires { IsMoment (T.view self.old.shelf) moment }
-        ensures ok { IfOk result (λ reply. Does T.view moment (touches_one key.now
+        requires { MayComeAt (T.view self.old.shelf) moment }
+        ensures ok { IfOk result (λ reply. Did T.view moment (touches_one key.now
             (deadline_of moment exptime) ((stock_at T.view moment self.old).items key.now)
             (stock_at T.view moment self.old)) self.old self.new (reply_text reply)) }
         ensures err { OnErr result (Spares self.old self.new) }
@@ -83,8 +83,8 @@ impl<T: Shelf> Stock<T> {
     /// Removes all items, now or at a moment to come, and returns the reply. Returns an error if there is not enough memory; then the
     /// request has done nothing.
     pub fn flush_all(&mut self, exptime: Exptime, moment: u64) -> Result<Reply, AllocError>
-        requires { IsMoment (T.view self.old.shelf) moment }
-        ensures ok { IfOk result (λ reply. Does T.view moment (flushes moment exptime
+        requires { MayComeAt (T.view self.old.shelf) moment }
+        ensures ok { IfOk result (λ reply. Did T.view moment (flushes moment exptime
             (stock_at T.view moment self.old)) self.old self.new (reply_text reply)) }
         ensures err { OnErr result (Spares self.old self.new) }
     {

@@ -6,8 +6,8 @@ ghost use Rattle.memcache_model.specs.Items.{Item};
 ghost use Rattle.memcache_model.specs.Meta.{code_alone, code_with, flags_fault, item_text, unless_quiet, is_other, meta_answer, meta_arithmetic, meta_compare, meta_counted, meta_get, meta_get_none, meta_item, meta_put, meta_set_answer, meta_stored, mode_fault, mode_of, retimed_by};
 ghost use Rattle.memcache_model.specs.Outcomes.{changes};
 ghost use Rattle.memcache_service.specs.Lines.{said_from};
-ghost use Rattle.memcache_service.specs.Shelves.{IsMoment, live_on};
-ghost use Rattle.memcache_service.specs.Stocks.{Does, Leaves, Spares, stock_at};
+ghost use Rattle.memcache_service.specs.Shelves.{MayComeAt, live_on};
+ghost use Rattle.memcache_service.specs.Stocks.{Did, LeavesAll, Spares, stock_at};
 ghost use Rattle.memcache_service.specs.Told.{found_item, late_by, moded, told_found};
 
 use super::Stock;
@@ -76,8 +76,8 @@ impl<T: Shelf> Stock<T> {
         moment: u64,
         output: &mut Vec<u8>,
     ) -> Result<Reply, AllocError>
-        requires { IsMoment (T.view self.old.shelf) moment }
-        ensures ok { IfOk result (λ reply. Does T.view moment
+        requires { MayComeAt (T.view self.old.shelf) moment }
+        ensures ok { IfOk result (λ reply. Did T.view moment
             (meta_answer moment kind key.now (tokens flags.now)
             ((stock_at T.view moment self.old).items key.now) (stock_at T.view moment self.old))
             self.old self.new (said_from (length output.old.items) output.new.items reply)) }
@@ -103,8 +103,8 @@ impl<T: Shelf> Stock<T> {
         moment: u64,
         output: &mut Vec<u8>,
     ) -> Result<Reply, AllocError>
-        requires { IsMoment (T.view self.old.shelf) moment }
-        ensures ok { IfOk result (λ reply. Does T.view moment
+        requires { MayComeAt (T.view self.old.shelf) moment }
+        ensures ok { IfOk result (λ reply. Did T.view moment
             (meta_set_answer self.old.most moment key.now (tokens flags.now)
             block.now ((stock_at T.view moment self.old).items key.now)
             (stock_at T.view moment self.old))
@@ -119,8 +119,8 @@ impl<T: Shelf> Stock<T> {
 
     /// `mg`.
     fn meta_get(&mut self, asked: Asked<'_>, output: &mut Vec<u8>) -> Result<Reply, AllocError>
-        requires { IsMoment (T.view self.old.shelf) asked.moment }
-        ensures ok { IfOk result (λ reply. Does T.view asked.entry.moment
+        requires { MayComeAt (T.view self.old.shelf) asked.moment }
+        ensures ok { IfOk result (λ reply. Did T.view asked.entry.moment
             (meta_answer asked.entry.moment Meta.Get asked.entry.key.now
             (tokens asked.entry.flags.now)
             ((stock_at T.view asked.entry.moment self.old).items asked.entry.key.now) (stock_at T.view asked.entry.moment self.old))
@@ -147,10 +147,10 @@ impl<T: Shelf> Stock<T> {
     /// Gives the key what its live item becomes. One that stays as it is is used.
     #[tactic(auto, using(crate::proofs::Keeping::same_item))]
     fn renew(&mut self, changed: Option<StoredItem>, moment: u64) -> Result<(), AllocError>
-        requires { IsMoment (T.view self.old.shelf) moment }
+        requires { MayComeAt (T.view self.old.shelf) moment }
         ensures ok { (found : Item) → MatchOption changed
             (live_on (T.view self.old.shelf) moment self.old.key ≡ Some found) (λ c. c ≡ found)
-            → OnOk result (Leaves T.view moment (changes [] self.old.key (Some found)
+            → OnOk result (LeavesAll T.view moment (changes [] self.old.key (Some found)
             (stock_at T.view moment self.old)).stock self.old self.new) }
         ensures err { OnErr result (Spares self.old self.new) }
     {
@@ -165,9 +165,9 @@ impl<T: Shelf> Stock<T> {
 
     /// `mg` of a key without a live item.
     fn meta_vivify(&mut self, asked: Asked<'_>, output: &mut Vec<u8>) -> Result<Reply, AllocError>
-        requires in_time { IsMoment (T.view self.old.shelf) asked.moment }
+        requires in_time { MayComeAt (T.view self.old.shelf) asked.moment }
         requires named { self.old.key ≡ asked.key.now }
-        ensures ok { IfOk result (λ reply. Does T.view asked.entry.moment
+        ensures ok { IfOk result (λ reply. Did T.view asked.entry.moment
             (meta_get asked.entry.moment self.old.key
             (tokens asked.entry.flags.now) None (stock_at T.view asked.entry.moment self.old))
             self.old self.new (said_from (length output.old.items) output.new.items reply)) }
@@ -191,9 +191,9 @@ impl<T: Shelf> Stock<T> {
         exptime: Exptime,
         output: &mut Vec<u8>,
     ) -> Result<Reply, AllocError>
-        requires in_time { IsMoment (T.view self.old.shelf) asked.moment }
+        requires in_time { MayComeAt (T.view self.old.shelf) asked.moment }
         requires named { self.old.key ≡ asked.key.now }
-        ensures ok { IfOk result (λ reply. Does T.view asked.entry.moment
+        ensures ok { IfOk result (λ reply. Did T.view asked.entry.moment
             (meta_get_none asked.entry.moment self.old.key (tokens asked.entry.flags.now)
             (Some exptime) (stock_at T.view asked.entry.moment self.old))
             self.old self.new (said_from (length output.old.items) output.new.items reply)) }
@@ -224,8 +224,8 @@ impl<T: Shelf> Stock<T> {
 
     /// `md`.
     fn meta_delete(&mut self, asked: Asked<'_>, output: &mut Vec<u8>) -> Result<Reply, AllocError>
-        requires { IsMoment (T.view self.old.shelf) asked.moment }
-        ensures ok { IfOk result (λ reply. Does T.view asked.entry.moment
+        requires { MayComeAt (T.view self.old.shelf) asked.moment }
+        ensures ok { IfOk result (λ reply. Did T.view asked.entry.moment
             (meta_answer asked.entry.moment Meta.Delete asked.entry.key.now
             (tokens asked.entry.flags.now)
             ((stock_at T.view asked.entry.moment self.old).items asked.entry.key.now) (stock_at T.view asked.entry.moment self.old))
@@ -264,8 +264,8 @@ impl<T: Shelf> Stock<T> {
         asked: Asked<'_>,
         output: &mut Vec<u8>,
     ) -> Result<Reply, AllocError>
-        requires { IsMoment (T.view self.old.shelf) asked.moment }
-        ensures ok { IfOk result (λ reply. Does T.view asked.entry.moment
+        requires { MayComeAt (T.view self.old.shelf) asked.moment }
+        ensures ok { IfOk result (λ reply. Did T.view asked.entry.moment
             (meta_answer asked.entry.moment Meta.Arithmetic asked.entry.key.now
             (tokens asked.entry.flags.now)
             ((stock_at T.view asked.entry.moment self.old).items asked.entry.key.now) (stock_at T.view asked.entry.moment self.old))
@@ -297,9 +297,9 @@ impl<T: Shelf> Stock<T> {
 
     /// `ma` of a key without a live item.
     fn meta_first(&mut self, asked: Asked<'_>, output: &mut Vec<u8>) -> Result<Reply, AllocError>
-        requires in_time { IsMoment (T.view self.old.shelf) asked.moment }
+        requires in_time { MayComeAt (T.view self.old.shelf) asked.moment }
         requires named { self.old.key ≡ asked.key.now }
-        ensures ok { IfOk result (λ reply. Does T.view asked.entry.moment
+        ensures ok { IfOk result (λ reply. Did T.view asked.entry.moment
             (meta_arithmetic asked.entry.moment self.old.key
             (tokens asked.entry.flags.now) None (stock_at T.view asked.entry.moment self.old))
             self.old self.new (said_from (length output.old.items) output.new.items reply)) }
@@ -324,9 +324,9 @@ impl<T: Shelf> Stock<T> {
         item: StoredItem,
         output: &mut Vec<u8>,
     ) -> Result<Reply, AllocError>
-        requires in_time { IsMoment (T.view self.old.shelf) asked.moment }
+        requires in_time { MayComeAt (T.view self.old.shelf) asked.moment }
         requires named { self.old.key ≡ asked.key.now }
-        ensures ok { IfOk result (λ reply. Does T.view asked.entry.moment
+        ensures ok { IfOk result (λ reply. Did T.view asked.entry.moment
             (meta_counted asked.entry.moment self.old.key
             (tokens asked.entry.flags.now) item (stock_at T.view asked.entry.moment self.old))
             self.old self.new (said_from (length output.old.items) output.new.items reply)) }
@@ -346,8 +346,8 @@ impl<T: Shelf> Stock<T> {
         block: &[u8],
         output: &mut Vec<u8>,
     ) -> Result<Reply, AllocError>
-        requires { IsMoment (T.view self.old.shelf) asked.moment }
-        ensures ok { IfOk result (λ reply. Does T.view asked.entry.moment
+        requires { MayComeAt (T.view self.old.shelf) asked.moment }
+        ensures ok { IfOk result (λ reply. Did T.view asked.entry.moment
             (meta_set_answer self.old.most asked.entry.moment asked.entry.key.now
             (tokens asked.entry.flags.now) block.now
             ((stock_at T.view asked.entry.moment self.old).items asked.entry.key.now) (stock_at T.view asked.entry.moment self.old))
@@ -375,9 +375,9 @@ impl<T: Shelf> Stock<T> {
         block: &[u8],
         output: &mut Vec<u8>,
     ) -> Result<Reply, AllocError>
-        requires in_time { IsMoment (T.view self.old.shelf) asked.moment }
+        requires in_time { MayComeAt (T.view self.old.shelf) asked.moment }
         requires named { self.old.key ≡ asked.key.now }
-        ensures ok { IfOk result (λ reply. Does T.view asked.entry.moment
+        ensures ok { IfOk result (λ reply. Did T.view asked.entry.moment
             (meta_compare self.old.most asked.entry.moment unique self.old.key
             (tokens asked.entry.flags.now)
             (meta_item asked.entry.moment
@@ -410,9 +410,9 @@ impl<T: Shelf> Stock<T> {
         block: &[u8],
         output: &mut Vec<u8>,
     ) -> Result<Reply, AllocError>
-        requires in_time { IsMoment (T.view self.old.shelf) asked.moment }
+        requires in_time { MayComeAt (T.view self.old.shelf) asked.moment }
         requires named { self.old.key ≡ asked.key.now }
-        ensures ok { IfOk result (λ reply. Does T.view asked.entry.moment
+        ensures ok { IfOk result (λ reply. Did T.view asked.entry.moment
             (meta_put self.old.most asked.entry.moment (mode_of
             (tokens asked.entry.flags.now)) self.old.key
             (tokens asked.entry.flags.now)
@@ -438,9 +438,9 @@ impl<T: Shelf> Stock<T> {
         item: StoredItem,
         output: &mut Vec<u8>,
     ) -> Result<Reply, AllocError>
-        requires in_time { IsMoment (T.view self.old.shelf) asked.moment }
+        requires in_time { MayComeAt (T.view self.old.shelf) asked.moment }
         requires named { self.old.key ≡ asked.key.now }
-        ensures ok { IfOk result (λ reply. Does T.view asked.entry.moment
+        ensures ok { IfOk result (λ reply. Did T.view asked.entry.moment
             (meta_stored asked.entry.moment self.old.key
             (tokens asked.entry.flags.now) item (stock_at T.view asked.entry.moment self.old))
             self.old self.new (said_from (length output.old.items) output.new.items reply)) }

@@ -4,8 +4,8 @@ ghost use Rattle.memcache_model.specs.Answers.{tells, touches_one};
 ghost use Rattle.memcache_model.specs.Bytes.{tokens};
 ghost use Rattle.memcache_model.specs.Items.{deadline_of};
 ghost use Rattle.memcache_model.specs.Replies.{values_text};
-ghost use Rattle.memcache_service.specs.Shelves.{IsMoment, live_on};
-ghost use Rattle.memcache_service.specs.Stocks.{Does, Keeps, Spares, Touches, stock_at};
+ghost use Rattle.memcache_service.specs.Shelves.{MayComeAt, live_on};
+ghost use Rattle.memcache_service.specs.Stocks.{Did, Keeps, Spares, Touches, stock_at};
 ghost use Rattle.memcache_service.specs.Lines.{reply_text};
 
 use super::Stock;
@@ -31,7 +31,7 @@ impl<T: Shelf> Stock<T> {
         moment: u64,
         output: &mut Vec<u8>,
     ) -> Result<Reply, AllocError>
-        requires { IsMoment (T.view self.old.shelf) moment }
+        requires { MayComeAt (T.view self.old.shelf) moment }
         ensures told { IfOk result (λ reply. (reply ≡ Reply.Written)
             × (output.new.items ≡ output.old.items
             ++ tells uniques (tokens keys.now) (stock_at T.view moment self.old).items)) }
@@ -47,7 +47,7 @@ impl<T: Shelf> Stock<T> {
 
     /// Uses the live items of the keys.
     fn use_all(&mut self, keys: &[u8], moment: u64)
-        requires { IsMoment (T.view self.old.shelf) moment }
+        requires { MayComeAt (T.view self.old.shelf) moment }
         ensures { Keeps T.view moment self.old self.new }
     {
         let mut rest = keys;
@@ -59,7 +59,7 @@ impl<T: Shelf> Stock<T> {
 
     /// Uses the live item of a key, and counts whether it is there.
     fn use_one(&mut self, key: &[u8], moment: u64)
-        requires { IsMoment (T.view self.old.shelf) moment }
+        requires { MayComeAt (T.view self.old.shelf) moment }
         ensures { Keeps T.view moment self.old self.new }
     {
         self.counters.up(Tally::CmdGet);
@@ -83,7 +83,7 @@ impl<T: Shelf> Stock<T> {
         moment: u64,
         output: &mut Vec<u8>,
     ) -> Result<Reply, AllocError>
-        requires { IsMoment (T.view self.old.shelf) moment }
+        requires { MayComeAt (T.view self.old.shelf) moment }
         ensures told { IfOk result (λ reply. (reply ≡ Reply.Written)
             × (output.new.items ≡ output.old.items
             ++ tells uniques (tokens keys.now) (stock_at T.view moment self.old).items)) }
@@ -93,7 +93,7 @@ impl<T: Shelf> Stock<T> {
             (tokens keys.now) self.old self.new) }
         ensures err { OnErr result ((count : ℕ) × Touches T.view moment (deadline_of moment exptime)
             (take count (tokens keys.now)) self.old self.new) }
-        ensures may_follow { IsMoment (T.view self.new.shelf) moment }
+        ensures may_follow { MayComeAt (T.view self.new.shelf) moment }
         ensures most { self.new.most ≡ self.old.most }
     {
         say_live(&self.shelf, &mut self.key, uniques, keys, moment, output)?;
@@ -109,12 +109,12 @@ impl<T: Shelf> Stock<T> {
         deadline: Option<u64>,
         moment: u64,
     ) -> Result<(), AllocError>
-        requires { IsMoment (T.view self.old.shelf) moment }
+        requires { MayComeAt (T.view self.old.shelf) moment }
         ensures ok { OnOk result
             (Touches T.view moment deadline (tokens keys.now) self.old self.new) }
         ensures err { OnErr result ((count : ℕ) × Touches T.view moment deadline
             (take count (tokens keys.now)) self.old self.new) }
-        ensures may_follow { IsMoment (T.view self.new.shelf) moment }
+        ensures may_follow { MayComeAt (T.view self.new.shelf) moment }
         ensures most { self.new.most ≡ self.old.most }
     {
         let mut rest = keys;
@@ -129,8 +129,8 @@ impl<T: Shelf> Stock<T> {
     /// Gives the live item of the key that was named another deadline, and returns the reply. Returns an error if there is not enough
     /// memory; then the request has done nothing.
     pub fn retime(&mut self, deadline: Option<u64>, moment: u64) -> Result<Reply, AllocError>
-        requires { IsMoment (T.view self.old.shelf) moment }
-        ensures ok { IfOk result (λ reply. Does T.view moment (touches_one self.old.key deadline
+        requires { MayComeAt (T.view self.old.shelf) moment }
+        ensures ok { IfOk result (λ reply. Did T.view moment (touches_one self.old.key deadline
             ((stock_at T.view moment self.old).items self.old.key) (stock_at T.view moment self.old))
             self.old self.new (reply_text reply)) }
         ensures err { OnErr result (Spares self.old self.new) }
@@ -156,7 +156,7 @@ fn say_live<T: Shelf>(
     moment: u64,
     output: &mut Vec<u8>,
 ) -> Result<(), AllocError>
-    requires { IsMoment (T.view shelf.now) moment }
+    requires { MayComeAt (T.view shelf.now) moment }
     ensures told { OnOk result (output.new.items ≡ output.old.items
         ++ tells uniques (tokens keys.now) (live_on (T.view shelf.now) moment)) }
     ensures begun { take (length output.old.items) output.new.items ≡ output.old.items }
@@ -181,7 +181,7 @@ fn say_one<T: Shelf>(
     moment: u64,
     output: &mut Vec<u8>,
 ) -> Result<(), AllocError>
-    requires { IsMoment (T.view shelf.now) moment }
+    requires { MayComeAt (T.view shelf.now) moment }
     ensures ok { OnOk result (output.new.items ≡ output.old.items
         ++ values_text uniques key.now (live_on (T.view shelf.now) moment key.now)) }
     ensures err { OnErr result (output.new.items ≡ output.old.items) }

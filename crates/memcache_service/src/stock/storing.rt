@@ -3,8 +3,8 @@ ghost use Rattle.std.specs.Prelude.{◌≡◌, ◌↔◌, ◌<◌, ◌≤◌, �
 ghost use Rattle.memcache_model.specs.Answers.{passes_over, store_over};
 ghost use Rattle.memcache_model.specs.Outcomes.{new_item, stores};
 ghost use Rattle.memcache_model.specs.Items.{deadline_of};
-ghost use Rattle.memcache_service.specs.Shelves.{IsMoment};
-ghost use Rattle.memcache_service.specs.Stocks.{Does, Leaves, Spares, block_item, joins, stock_at};
+ghost use Rattle.memcache_service.specs.Shelves.{MayComeAt};
+ghost use Rattle.memcache_service.specs.Stocks.{Did, LeavesAll, Spares, block_item, appends_to, stock_at};
 ghost use Rattle.memcache_service.specs.Lines.{reply_text};
 
 use super::Stock;
@@ -48,8 +48,8 @@ impl<T: Shelf> Stock<T> {
         bytes: &[u8],
         moment: u64,
     ) -> Result<Reply, AllocError>
-        requires { IsMoment (T.view self.old.shelf) moment }
-        ensures ok { IfOk result (λ reply. Does T.view moment (store_over self.old.most storage
+        requires { MayComeAt (T.view self.old.shelf) moment }
+        ensures ok { IfOk result (λ reply. Did T.view moment (store_over self.old.most storage
             key.now (new_item bytes.now flags (deadline_of moment exptime))
             ((stock_at T.view moment self.old).items key.now) (stock_at T.view moment self.old))
             self.old self.new (reply_text reply)) }
@@ -76,8 +76,8 @@ impl<T: Shelf> Stock<T> {
         block: Block<'_>,
         moment: u64,
     ) -> Result<Reply, AllocError>
-        requires { IsMoment (T.view self.old.shelf) moment }
-        ensures ok { IfOk result (λ reply. Does T.view moment (store_over self.old.most storage
+        requires { MayComeAt (T.view self.old.shelf) moment }
+        ensures ok { IfOk result (λ reply. Did T.view moment (store_over self.old.most storage
             self.old.key (block_item block.entry)
             ((stock_at T.view moment self.old).items self.old.key) (stock_at T.view moment self.old))
             self.old self.new (reply_text reply)) }
@@ -101,8 +101,8 @@ impl<T: Shelf> Stock<T> {
 
     /// Gives the key an item of the block.
     fn put_block(&mut self, block: Block<'_>, moment: u64) -> Result<Reply, AllocError>
-        requires { IsMoment (T.view self.old.shelf) moment }
-        ensures ok { IfOk result (λ reply. (reply ≡ Reply.Stored) × Leaves T.view moment
+        requires { MayComeAt (T.view self.old.shelf) moment }
+        ensures ok { IfOk result (λ reply. (reply ≡ Reply.Stored) × LeavesAll T.view moment
             (stores [] self.old.key (block_item block.entry) (stock_at T.view moment self.old)).stock
             self.old self.new) }
         ensures err { OnErr result (Spares self.old self.new) }
@@ -115,9 +115,9 @@ impl<T: Shelf> Stock<T> {
     /// Stores the item under the key that was named, with the next unique. Returns an error if there is not enough memory; then the request
     /// has done nothing.
     pub fn put(&mut self, item: StoredItem, moment: u64) -> Result<(), AllocError>
-        requires { IsMoment (T.view self.old.shelf) moment }
+        requires { MayComeAt (T.view self.old.shelf) moment }
         ensures numbered { OnOk result (self.old.uniques + 1 < 2 ^ 64) }
-        ensures ok { OnOk result (Leaves T.view moment
+        ensures ok { OnOk result (LeavesAll T.view moment
             (stores [] self.old.key item (stock_at T.view moment self.old)).stock self.old
             self.new) }
         ensures err { OnErr result (Spares self.old self.new) }
@@ -133,8 +133,8 @@ impl<T: Shelf> Stock<T> {
 
     /// Puts bytes behind those of the live item.
     fn append(&mut self, block: Block<'_>, moment: u64) -> Result<Reply, AllocError>
-        requires { IsMoment (T.view self.old.shelf) moment }
-        ensures ok { IfOk result (λ reply. Does T.view moment (store_over self.old.most
+        requires { MayComeAt (T.view self.old.shelf) moment }
+        ensures ok { IfOk result (λ reply. Did T.view moment (store_over self.old.most
             Storage.Append self.old.key (block_item block.entry)
             ((stock_at T.view moment self.old).items self.old.key) (stock_at T.view moment self.old))
             self.old self.new (reply_text reply)) }
@@ -151,8 +151,8 @@ impl<T: Shelf> Stock<T> {
 
     /// Puts bytes before those of the live item.
     fn prepend(&mut self, block: Block<'_>, moment: u64) -> Result<Reply, AllocError>
-        requires { IsMoment (T.view self.old.shelf) moment }
-        ensures ok { IfOk result (λ reply. Does T.view moment (store_over self.old.most
+        requires { MayComeAt (T.view self.old.shelf) moment }
+        ensures ok { IfOk result (λ reply. Did T.view moment (store_over self.old.most
             Storage.Prepend self.old.key (block_item block.entry)
             ((stock_at T.view moment self.old).items self.old.key) (stock_at T.view moment self.old))
             self.old self.new (reply_text reply)) }
@@ -169,8 +169,8 @@ impl<T: Shelf> Stock<T> {
 
     /// Gives the key this item, if there is one.
     fn put_joined(&mut self, item: Option<StoredItem>, moment: u64) -> Result<Reply, AllocError>
-        requires { IsMoment (T.view self.old.shelf) moment }
-        ensures ok { IfOk result (λ reply. Does T.view moment (joins self.old.key item
+        requires { MayComeAt (T.view self.old.shelf) moment }
+        ensures ok { IfOk result (λ reply. Did T.view moment (appends_to self.old.key item
             (stock_at T.view moment self.old)) self.old self.new (reply_text reply)) }
         ensures err { OnErr result (Spares self.old self.new) }
     {
@@ -185,8 +185,8 @@ impl<T: Shelf> Stock<T> {
 
     /// Stores the block if the live item has the unique.
     fn compare(&mut self, unique: u64, block: Block<'_>, moment: u64) -> Result<Reply, AllocError>
-        requires { IsMoment (T.view self.old.shelf) moment }
-        ensures ok { IfOk result (λ reply. Does T.view moment (store_over self.old.most
+        requires { MayComeAt (T.view self.old.shelf) moment }
+        ensures ok { IfOk result (λ reply. Did T.view moment (store_over self.old.most
             (Storage.Cas unique) self.old.key (block_item block.entry)
             ((stock_at T.view moment self.old).items self.old.key) (stock_at T.view moment self.old))
             self.old self.new (reply_text reply)) }
@@ -212,8 +212,8 @@ impl<T: Shelf> Stock<T> {
         key: &[u8],
         moment: u64,
     ) -> Result<Reply, AllocError>
-        requires { IsMoment (T.view self.old.shelf) moment }
-        ensures ok { IfOk result (λ reply. Does T.view moment (passes_over storage key.now
+        requires { MayComeAt (T.view self.old.shelf) moment }
+        ensures ok { IfOk result (λ reply. Did T.view moment (passes_over storage key.now
             (stock_at T.view moment self.old)) self.old self.new (reply_text reply)) }
         ensures err { OnErr result (Spares self.old self.new) }
     {

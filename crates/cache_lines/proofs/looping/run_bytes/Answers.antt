@@ -1,6 +1,6 @@
 use Rattle.std.proofs.Common.{◌∙◌, ap, arith, drop, length-drop, refl, subst, sym, ◌+◌, false, Err, Ok}
 use Rattle.std.proofs.lemmas.List.{drop-drop}
-use Rattle.cache_lines.specs.Bases.{seen}
+use Rattle.cache_lines.specs.Bases.{seen_on}
 use Rattle.cache_lines.specs.Making.{making_of}
 use Rattle.cache_lines.specs.Ended.{RunsFirst}
 use Rattle.cache_commands.proofs.Taking.{taken-on, taken-same}
@@ -11,7 +11,7 @@ use Rattle.cache_lines.proofs.looping.run_bytes.Goals as goal
 
 pub loop-len-init : goal.loop-len-init
 loop-len-init g c =
-    let old = seen g.S.Store.view g.T.Tape.view c.args.base.now c.args.output.now in
+    let old = seen_on g.S.Store.view g.T.Tape.view c.args.base.now c.args.output.now in
     record {
       ran = λ s agrees there. ran-none (making_of old.stage.values.frame) c.args.number s s.held c.args.bytes.now old.stage agrees.stands agrees.dropped;
       frame = record { rest = refl; latest = c.requires.in_time.0 };
@@ -35,9 +35,9 @@ pub loop-len-preserved : goal.loop-len-preserved
 loop-len-preserved g c =
     let i = c.loop-len.invariant in
     let bytes = c.args.bytes.now in
-    let old = seen g.S.Store.view g.T.Tape.view c.args.base.now c.args.output.now in
-    let middle = seen g.S.Store.view g.T.Tape.view c.loop-len.base c.loop-len.output in
-    let new = seen g.S.Store.view g.T.Tape.view c.run_first.new.base c.run_first.new.output in
+    let old = seen_on g.S.Store.view g.T.Tape.view c.args.base.now c.args.output.now in
+    let middle = seen_on g.S.Store.view g.T.Tape.view c.loop-len.base c.loop-len.output in
+    let new = seen_on g.S.Store.view g.T.Tape.view c.run_first.new.base c.run_first.new.output in
     let n = c.in-Ok.len in
     let one = subst (λ b. RunsFirst c.args.now c.args.number b (Ok n) middle new) c.behind.ensures c.in-Ok.ensures.runs in
     record {
@@ -55,9 +55,9 @@ loop-len-preserved g c =
 pub returns-in-Err-clause-ran : goal.returns-in-Err-clause-ran
 returns-in-Err-clause-ran g c =
     let i = c.loop-len.invariant in
-    let old = seen g.S.Store.view g.T.Tape.view c.args.base.now c.args.output.now in
-    let middle = seen g.S.Store.view g.T.Tape.view c.loop-len.base c.loop-len.output in
-    let new = seen g.S.Store.view g.T.Tape.view c.run_first.new.base c.run_first.new.output in
+    let old = seen_on g.S.Store.view g.T.Tape.view c.args.base.now c.args.output.now in
+    let middle = seen_on g.S.Store.view g.T.Tape.view c.loop-len.base c.loop-len.output in
+    let new = seen_on g.S.Store.view g.T.Tape.view c.run_first.new.base c.run_first.new.output in
     lines-end c.args.now c.args.number c.args.bytes.now c.loop-len.used old middle i.ran i.frame i.fresh i.still c.in-Err.end new c.sound.ensures
     (subst (λ b. RunsFirst c.args.now c.args.number b (Err c.in-Err.end) middle new) c.behind.ensures c.in-Err.ensures.runs)
     (λ q. ap g.S.Store.view (c.in-Err.ensures.rests q))

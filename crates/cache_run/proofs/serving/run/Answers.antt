@@ -5,7 +5,7 @@ use Rattle.cache_run.specs.declared.devices.errors.RunError.TheVariants.{Moment,
 use Rattle.cache_run.specs.Driver.Causes.{Because, Fails, RunsOut}
 use Rattle.cache_run.specs.Driver.Driven.{ClosesAfter, around}
 use Rattle.cache_run.proofs.driver.Exchanges.{fresh-underway}
-use Rattle.cache_run.specs.Loading.{pending_of}
+use Rattle.cache_run.specs.Loading.{loads_under_way_in}
 use Rattle.cache_run.specs.Lent.{ClosesAt, ComesAt, DropsAt, OpensAt}
 use Rattle.cache_run.proofs.Driving.{Served, lent-none, lent-served, cause-of, memory-only, runs-partly, runs-whole, stops-for, unasked}
 use Rattle.cache_core.proofs.connections.Getting.{found-at}
@@ -20,7 +20,7 @@ returns-in_err-session g c =
     let found = found-at c.args.service.now c.args.namespace c.requires.known in rw (p.1, p.2) (record {
       ok = tt;
       err = inl (memory-only _ why, same, refl, refl, refl, refl);
-      none = at-unmoved _ _ same (at-same (λ was is. pending_of was ≡ [] → pending_of is ≡ []) c.args.service.now c.args.namespace found.0 found.1 (λ none. none));
+      none = at-unmoved _ _ same (at-same (λ was is. loads_under_way_in was ≡ [] → loads_under_way_in is ≡ []) c.args.service.now c.args.namespace found.0 found.1 (λ none. none));
       read = λ is. absurd (cause-of ⊥ ⊥ ⊥ ⊥ (Err _) Read why is);
       write = λ is. absurd (cause-of ⊥ ⊥ ⊥ ⊥ (Err _) Write why is);
       moment = λ is. absurd (cause-of ⊥ ⊥ ⊥ ⊥ (Err _) Moment why is);

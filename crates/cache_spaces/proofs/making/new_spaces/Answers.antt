@@ -4,7 +4,7 @@ use Rattle.std.specs.declared.alloc.Global.{Global}
 use Rattle.std.specs.declared.vec.Vec.{Vec}
 use Rattle.rand_core.specs.Stream.{fill_bytes}
 use Rattle.rand_xoshiro.specs.Xoshiro256.{of_seed}
-use Rattle.cache_spaces.specs.Services.{is_served, AreNew}
+use Rattle.cache_spaces.specs.Services.{is_served, AreNewSpaces}
 use Rattle.cache_spaces.proofs.Journaling.{all-at, forked-more, new-more, new-none, new-so}
 use Rattle.cache_spaces.proofs.making.new_spaces.Goals as goal
 
@@ -35,4 +35,4 @@ pub new_space-requires-clause-config : goal.new_space-requires-clause-config
 new_space-requires-clause-config g c = all-at is_served c.args.configs.now c.loop-config.config-index _ c.loop-config-test.true c.requires.configs
 
 pub returns : goal.returns
-returns g c = subst (λ l. AreNew g.T.Tape.view (g.T.NewTape.blank c.args.made) c.loop-config.spaces.items l c.args.generator c.args.made.nanos) (take_all c.loop-config.config-index c.args.configs.now c.loop-config-test.false) c.loop-config.invariant.new
+returns g c = subst (λ l. AreNewSpaces g.T.Tape.view (g.T.NewTape.blank c.args.made) c.loop-config.spaces.items l c.args.generator c.args.made.nanos) (take_all c.loop-config.config-index c.args.configs.now c.loop-config-test.false) c.loop-config.invariant.new

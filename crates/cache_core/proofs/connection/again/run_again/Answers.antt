@@ -1,6 +1,6 @@
 use Rattle.std.proofs.Common.{◌∙◌, refl, codes}
 use Rattle.std.proofs.lemmas.Bool.{le-leb}
-use Rattle.cache_core.specs.Connection.Fed.{seen_of}
+use Rattle.cache_core.specs.Connection.Fed.{seen_by}
 use Rattle.cache_lines.specs.Bases.{Seen}
 use Rattle.cache_lines.specs.Gathered.{stage}
 use Rattle.cache_lines.specs.Whole.{held_line}
@@ -14,7 +14,7 @@ returns-else-connection-lt-MAX_WAITS-clause-ran g c =
     let view = g.S.Store.view in
     let tape = g.T.Tape.view in
     let base = c.args.base.now in
-    let was = seen_of view tape base old in
+    let was = seen_by view tape base old in
     let is : Seen = record { stage = stage (view base.store) new.output.text.items (tape c.abandon_load.new.tape); loads = was.loads } in
     let a = c.abandon_load.ensures in
     let k = load-key _ c.requires.load in

@@ -1,7 +1,7 @@
 use Rattle.std.proofs.Common.{sym, ap, ◌∙◌, subst, List, ℕ, false}
 use Rattle.cache_commands.specs.Loads.Standings.{keeps_line}
 use Rattle.cache_core.specs.Connection.Fed.{FedRan, TakesWaiting}
-use Rattle.cache_lines.specs.Bases.{seen}
+use Rattle.cache_lines.specs.Bases.{seen_on}
 use Rattle.cache_lines.specs.Gathered.{stage}
 use Rattle.cache_lines.specs.Lines.{set_in}
 use Rattle.cache_lines.specs.Waiting.{under_way}
@@ -14,7 +14,7 @@ returns-in-Waiting-clause-ran g c =
     let old = c.args.connection.now in
     let piece = c.args.piece.now in
     let new = c.wait_before.new.self in
-    let was = seen g.S.Store.view g.T.Tape.view base old.output in
+    let was = seen_on g.S.Store.view g.T.Tape.view base old.output in
     let whole = whole-kept old.standing old.waited old.closing old.unread.bytes (ap keeps_line c.in-Waiting.is) old.fits in
     let took : TakesWaiting old piece new = record {
       put = λ s values number. ap (set_in s values) (waits-with number old.standing old.waited old.unread.bytes piece c.in-Waiting.is whole) ∙ c.wait_before.ensures.put s values number;

@@ -1,7 +1,7 @@
 use Rattle.std.proofs.Common.{ap, arith, subst, sym, ◌≡◌, ◌+◌, false}
 use Rattle.cache_commands.specs.Loads.Standings.{keeps_line}
 use Rattle.cache_core.specs.Connection.Fed.{FedRan}
-use Rattle.cache_lines.specs.Bases.{seen}
+use Rattle.cache_lines.specs.Bases.{seen_on}
 use Rattle.cache_lines.specs.Gathered.{stage}
 use Rattle.cache_lines.specs.Ran.{RunsAs, begins_to_wait}
 use Rattle.cache_lines.specs.Waiting.{under_way}
@@ -12,10 +12,10 @@ use Rattle.cache_core.proofs.connection.feeding.feed_held.Goals as goal
 pub returns-in-Ok-Stays-clause-ran : goal.returns-in-Ok-Stays-clause-ran
 returns-in-Ok-Stays-clause-ran g c =
     let old = c.args.connection.now in
-    let was = seen g.S.Store.view g.T.Tape.view c.args.base.now old.output in
-    let mid = seen g.S.Store.view g.T.Tape.view c.run_line.new.base c.run_line.new.output in
+    let was = seen_on g.S.Store.view g.T.Tape.view c.args.base.now old.output in
+    let mid = seen_on g.S.Store.view g.T.Tape.view c.run_line.new.base c.run_line.new.output in
     let one = subst (λ l. RunsAs c.args.now c.args.number l Stays was mid) c.first_line-line.ensures.line (subst (λ d. RunsAs c.args.now c.args.number c.first_line-line.result.now d was mid) c.in-Ok-Stays.field-0-is c.in-Ok-Stays.ensures.runs) in
-    fed-stays c.args.now c.args.number old c.run_on.new.self c.args.piece.now was (seen g.S.Store.view g.T.Tape.view c.run_on.new.base c.run_on.new.self.output) c.requires.held c.is_holding.result mid one.0 one.1 c.run_on.ensures.left c.is_holding.ensures
+    fed-stays c.args.now c.args.number old c.run_on.new.self c.args.piece.now was (seen_on g.S.Store.view g.T.Tape.view c.run_on.new.base c.run_on.new.self.output) c.requires.held c.is_holding.result mid one.0 one.1 c.run_on.ensures.left c.is_holding.ensures
 
 pub returns-in-Ok-Quits-clause-ran : goal.returns-in-Ok-Quits-clause-ran
 returns-in-Ok-Quits-clause-ran g c =
@@ -23,8 +23,8 @@ returns-in-Ok-Quits-clause-ran g c =
     let tape = g.T.Tape.view in
     let old = c.args.connection.now in
     let base = c.run_line.new.base in
-    let was = seen view tape c.args.base.now old.output in
-    let is = seen view tape base c.run_line.new.output in
+    let was = seen_on view tape c.args.base.now old.output in
+    let is = seen_on view tape base c.run_line.new.output in
     let one = subst (λ l. RunsAs c.args.now c.args.number l Quits was is) c.first_line-line.ensures.line (subst (λ d. RunsAs c.args.now c.args.number c.first_line-line.result.now d was is) c.in-Ok-Quits.field-0-is c.in-Ok-Quits.ensures.runs) in
     subst (λ t. FedRan c.args.now c.args.number old c.args.piece.now c.drop_closed.new.self false was (record { stage = stage (view base.store) t (tape base.tape); loads = under_way base.loads })) (sym c.drop_closed.ensures.text)
     (fed-quits c.args.now c.args.number old c.drop_closed.new.self c.args.piece.now was is c.requires.held one.0 one.1 c.drop_closed.ensures.closing)
@@ -35,8 +35,8 @@ returns-in-Ok-Waits-clause-ran g c =
     let tape = g.T.Tape.view in
     let old = c.args.connection.now in
     let base = c.run_line.new.base in
-    let was = seen view tape c.args.base.now old.output in
-    let is = seen view tape base c.run_line.new.output in
+    let was = seen_on view tape c.args.base.now old.output in
+    let is = seen_on view tape base c.run_line.new.output in
     let w = subst (λ l. RunsAs c.args.now c.args.number l Waits was is) c.first_line-line.ensures.line (subst (λ d. RunsAs c.args.now c.args.number c.first_line-line.result.now d was is) c.in-Ok-Waits.field-0-is c.in-Ok-Waits.ensures.runs) in
     let stored = (c.in-Ok-Waits.ensures.waits (ap begins_to_wait c.in-Ok-Waits.field-0-is)).0 in
     let whole = whole-kept old.standing old.waited old.closing old.unread.bytes (ap keeps_line c.requires.held) old.fits in

@@ -1,6 +1,6 @@
 use Rattle.std.proofs.Common.{◌∙◌, refl}
 use Rattle.audit_model.specs.Replies.{outcome_text}
-use Rattle.cache_core.specs.Connection.Fed.{seen_of}
+use Rattle.cache_core.specs.Connection.Fed.{seen_by}
 use Rattle.cache_lines.specs.Bases.{Seen}
 use Rattle.cache_lines.specs.Gathered.{stage}
 use Rattle.cache_lines.specs.Whole.{held_line}
@@ -15,7 +15,7 @@ returns-clause-ran g c = λ now can_run.
     let view = g.S.Store.view in
     let tape = g.T.Tape.view in
     let base = c.args.base.now in
-    let was = seen_of view tape base old in
+    let was = seen_by view tape base old in
     let is : Seen = record { stage = stage (view base.store) new.output.text.items (tape c.reply_with.new.tape); loads = was.loads } in
     let a = c.reply_with.ensures in
     let k = load-key _ c.requires.waits.load in

@@ -4,7 +4,7 @@ use Rattle.audit_model.specs.Replies.{outcome_text}
 use Rattle.cache_commands.specs.Loads.Pending.{load_numbered, loads_pending}
 use Rattle.cache_core.specs.Settled.{IsAmid}
 use Rattle.cache_core.specs.Settling.{Happens, HaveReplyRoom, answering, waiting_on}
-use Rattle.cache_core.specs.State.{IsInOrder, State, state_of}
+use Rattle.cache_core.specs.State.{IsBetweenEvents, NamespaceState, state_of}
 use Rattle.cache_core.specs.Turned.{RefusesBy}
 use Rattle.cache_lines.specs.Tape.Taped.{finishes}
 use Rattle.cache_lines.specs.Waiting.{under_way}
@@ -22,7 +22,7 @@ returns-in-Some-clause-refused g c =
     let moment = c.args.moment.nanos in
     let outcome = c.args.outcome in
     let is = sym c.in-Some.ensures in
-    subst (λ (n : State _ _). RefusesBy view n (answering c.args.load outcome moment) false c.in-Some.error) c.self.view_is (refuses-known view (state_of inside.interior.base inside.latest inside.interior.connections) (answering c.args.load outcome moment) c.in-Some.error is)
+    subst (λ (n : NamespaceState _ _). RefusesBy view n (answering c.args.load outcome moment) false c.in-Some.error) c.self.view_is (refuses-known view (state_of inside.interior.base inside.latest inside.interior.connections) (answering c.args.load outcome moment) c.in-Some.error is)
 
 pub begin_answer-requires : goal.begin_answer-requires
 begin_answer-requires g c =
@@ -42,7 +42,7 @@ returns-in-Err-clause-refused g c =
     let moment = c.args.moment.nanos in
     let outcome = c.args.outcome in
     let admitted = sym c.in_default.ensures in
-    subst (λ (n : State _ _). RefusesBy g.S.Store.view n (answering load outcome moment) false error.OutOfMemory) c.self.view_is (refuses-wanting g.S.Store.view (state_of inside.interior.base inside.latest inside.interior.connections) (answering load outcome moment) admitted)
+    subst (λ (n : NamespaceState _ _). RefusesBy g.S.Store.view n (answering load outcome moment) false error.OutOfMemory) c.self.view_is (refuses-wanting g.S.Store.view (state_of inside.interior.base inside.latest inside.interior.connections) (answering load outcome moment) admitted)
 
 pub returns-in-Err-clause-unchanged : goal.returns-in-Err-clause-unchanged
 returns-in-Err-clause-unchanged g c =
@@ -50,7 +50,7 @@ returns-in-Err-clause-unchanged g c =
 
 pub invariant_of-self-in-Err : goal.invariant_of-self-in-Err
 invariant_of-self-in-Err g c =
-    subst (λ n. IsInOrder g.S.Store.view g.T.Tape.view n) (sym (state-looks c.self.inside.interior.base c.begin_answer.new.self.base c.self.inside.latest c.self.inside.interior.connections c.begin_answer.new.self.connections c.in-Err.ensures.unchanged c.begin_answer.ensures.same)) c.self.invariant
+    subst (λ n. IsBetweenEvents g.S.Store.view g.T.Tape.view n) (sym (state-looks c.self.inside.interior.base c.begin_answer.new.self.base c.self.inside.latest c.self.inside.interior.connections c.begin_answer.new.self.connections c.in-Err.ensures.unchanged c.begin_answer.ensures.same)) c.self.invariant
 
 pub hand_out-requires : goal.hand_out-requires
 hand_out-requires g c =
@@ -107,7 +107,7 @@ returns-in-Ok-clause-turned g c =
     let x = happens-answered view tape base begun new_base c.finish.new.self inside.latest now load moment room outcome c.in-Ok.field-0.accepted c.in-Ok.field-0.notes.items cs ds c.hand_out.new.self.connections c.max-now.ensures starts looks c.hand_out.ensures.out
     (c.finish.ensures ∙ ap (λ ns. option_map (finishes (answering load outcome moment) c.in-Ok.field-0.accepted ns) (tape new_base.tape)) c.from_vec.ensures)
     c.self.invariant c.sound.ensures c.sound-in-Ok.ensures admitted (omega (arith, c.max-now.ensures, a.1, c.self.invariant.moment)) c.hand_out.ensures.goes in
-    subst (λ (n : State _ _). Happens view tape n (state_of (record new_base { tape = c.finish.new.self }) now c.hand_out.new.self.connections) (answering load outcome moment)) c.self.view_is x.0
+    subst (λ (n : NamespaceState _ _). Happens view tape n (state_of (record new_base { tape = c.finish.new.self }) now c.hand_out.new.self.connections) (answering load outcome moment)) c.self.view_is x.0
 
 pub invariant_of-self : goal.invariant_of-self
 invariant_of-self g c =

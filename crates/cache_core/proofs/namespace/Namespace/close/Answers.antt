@@ -1,7 +1,7 @@
 use Rattle.std.proofs.Common.{◌∙◌, ap, sym, subst, arith, [], None, false}
 use Rattle.std.specs.Option.{option_map}
-use Rattle.cache_core.specs.State.{IsInOrder, state_of}
-use Rattle.cache_core.specs.Turned.{RefusesBy, Turns}
+use Rattle.cache_core.specs.State.{IsBetweenEvents, state_of}
+use Rattle.cache_core.specs.Turned.{RefusesBy, ContinuesBy}
 use Rattle.cache_lines.specs.Tape.Taped.{finishes}
 use Rattle.cache_lines.specs.declared.base.Base.{Base}
 use Rattle.audit_model.specs.declared.event.Event.TheVariants as event
@@ -25,7 +25,7 @@ invariant_of-self-2 g c =
     (c.finish.ensures ∙ ap (λ ns. option_map (finishes (event.Close c.args.number) None ns) (tape c.start.new.self)) c.new.ensures) in
     let behind : Base _ _ = record { store = inside.interior.base.store; loads = c.leave.new.self; tape = c.finish.new.self } in
     let retired = state-retired behind inside.latest c.in_ok-index.index c.close_at.new.connections c.retire.new.self c.retire.ensures in
-    subst (λ n. IsInOrder g.S.Store.view tape n) (sym retired)
+    subst (λ n. IsBetweenEvents g.S.Store.view tape n) (sym retired)
     (order-close g.S.Store.view tape inside.interior.base c.leave.new.self c.finish.new.self inside.latest c.args.number c.in_ok-index.index inside.interior.connections c.close_at.new.connections p.0 (omega (arith, c.in_ok-index.ensures.place.0))
     (sym (closing-is inside.interior.connections c.in_ok-index.index p.0.was p.0.at) ∙ c.in_ok-index.ensures.open) p.1 p.2 (left-is inside.interior.base.loads c.leave.new.self c.args.number c.leave.ensures.sent c.leave.ensures.pending) kept c.sound.ensures c.self.invariant)
 
@@ -39,7 +39,7 @@ returns-clause-turned g c =
     (c.finish.ensures ∙ ap (λ ns. option_map (finishes (event.Close c.args.number) None ns) (tape c.start.new.self)) c.new.ensures) in
     let behind : Base _ _ = record { store = inside.interior.base.store; loads = c.leave.new.self; tape = c.finish.new.self } in
     let retired = state-retired behind inside.latest c.in_ok-index.index c.close_at.new.connections c.retire.new.self c.retire.ensures in
-    subst (λ n. Turns g.S.Store.view tape c.args.self.now n (event.Close c.args.number) false) (sym retired)
-    (subst (λ n. Turns g.S.Store.view tape n (state_of (record { store = inside.interior.base.store; loads = c.leave.new.self; tape = c.finish.new.self }) inside.latest c.close_at.new.connections) (event.Close c.args.number) false) c.self.view_is
+    subst (λ n. ContinuesBy g.S.Store.view tape c.args.self.now n (event.Close c.args.number) false) (sym retired)
+    (subst (λ n. ContinuesBy g.S.Store.view tape n (state_of (record { store = inside.interior.base.store; loads = c.leave.new.self; tape = c.finish.new.self }) inside.latest c.close_at.new.connections) (event.Close c.args.number) false) c.self.view_is
     (turns-close g.S.Store.view tape inside.interior.base c.leave.new.self c.finish.new.self inside.latest c.args.number c.in_ok-index.index inside.interior.connections c.close_at.new.connections p.0 (omega (arith, c.in_ok-index.ensures.place.0))
     (sym (closing-is inside.interior.connections c.in_ok-index.index p.0.was p.0.at) ∙ is_open) p.1 p.2 (left-is inside.interior.base.loads c.leave.new.self c.args.number c.leave.ensures.sent c.leave.ensures.pending) kept c.sound.ensures c.leave.ensures.goes))

@@ -1,7 +1,7 @@
 use Rattle.std.proofs.Common.{◌∙◌, sym, subst, arith, []}
 use Rattle.audit_model.specs.Situation.{is_holding_in}
-use Rattle.cache_core.specs.State.{IsInOrder, situation_with, state_of}
-use Rattle.cache_core.specs.Turned.{RefusesBy, Turns, feeding}
+use Rattle.cache_core.specs.State.{IsBetweenEvents, situation_with, state_of}
+use Rattle.cache_core.specs.Turned.{RefusesBy, ContinuesBy, feeding}
 use Rattle.audit_model.specs.declared.input.ServiceError.TheVariants as error
 use Rattle.cache_core.proofs.Follows.{fed-turns}
 use Rattle.cache_core.proofs.Orders.{can-turn, refuses-late, refuses-memory, state-same, state-retired}
@@ -20,7 +20,7 @@ returns-in-Err-clause-unchanged g c =
 pub invariant_of-self-in-Err : goal.invariant_of-self-in-Err
 invariant_of-self-in-Err g c =
     let u = c.in-Err.ensures.unchanged in
-    subst (λ n. IsInOrder g.S.Store.view g.T.Tape.view n) (sym (state-same c.self.inside.interior.base c.feed_at.new.self.base c.self.inside.latest c.in_ok-index.index c.self.inside.interior.connections c.feed_at.new.self.connections u.0 u.1 u.2)) c.self.invariant
+    subst (λ n. IsBetweenEvents g.S.Store.view g.T.Tape.view n) (sym (state-same c.self.inside.interior.base c.feed_at.new.self.base c.self.inside.latest c.in_ok-index.index c.self.inside.interior.connections c.feed_at.new.self.connections u.0 u.1 u.2)) c.self.invariant
 
 pub returns-then-moment-gt-MAX_MOMENT-clause-refused : goal.returns-then-moment-gt-MAX_MOMENT-clause-refused
 returns-then-moment-gt-MAX_MOMENT-clause-refused g c =
@@ -48,8 +48,8 @@ returns-in-Ok-clause-turned g c =
     let h = c.if-moment-gt-MAX_MOMENT.false in
     let behind = record c.feed_at.new.self.base { loads = c.leave_closed.new.loads } in
     let retired = state-retired behind c.max-now.result c.in_ok-index.index c.feed_at.new.self.connections c.retire.new.self c.retire.ensures in
-    subst (λ n. Turns g.S.Store.view tape c.args.self.now n (feeding c.args.number c.args.piece.now c.args.moment.nanos) c.in-Ok.is_held) (sym retired)
-    (subst (λ n. Turns g.S.Store.view tape n (state_of (record c.feed_at.new.self.base { loads = c.leave_closed.new.loads }) c.max-now.result c.feed_at.new.self.connections) (feeding c.args.number c.args.piece.now c.args.moment.nanos) c.in-Ok.is_held) c.self.view_is
+    subst (λ n. ContinuesBy g.S.Store.view tape c.args.self.now n (feeding c.args.number c.args.piece.now c.args.moment.nanos) c.in-Ok.is_held) (sym retired)
+    (subst (λ n. ContinuesBy g.S.Store.view tape n (state_of (record c.feed_at.new.self.base { loads = c.leave_closed.new.loads }) c.max-now.result c.feed_at.new.self.connections) (feeding c.args.number c.args.piece.now c.args.moment.nanos) c.in-Ok.is_held) c.self.view_is
     (fed-turns g.S.Store.view tape inside.interior.base c.feed_at.new.self.base c.leave_closed.new.loads inside.latest c.max-now.result c.args.number c.in_ok-index.index c.args.moment.nanos inside.interior.connections c.feed_at.new.self.connections c.args.piece.now c.in-Ok.is_held turn.0
     c.in_ok-index.ensures.place.0 c.max-now.ensures c.in_ok-index.ensures.open (omega (arith, h)) c.self.invariant c.sound.ensures c.sound-in-Ok.ensures c.leave_closed.ensures.left c.in-Ok.ensures.goes c.leave_closed.ensures.goes turn.1).0)
 
@@ -61,6 +61,6 @@ invariant_of-self g c =
     let h = c.if-moment-gt-MAX_MOMENT.false in
     let behind = record c.feed_at.new.self.base { loads = c.leave_closed.new.loads } in
     let retired = state-retired behind c.max-now.result c.in_ok-index.index c.feed_at.new.self.connections c.retire.new.self c.retire.ensures in
-    subst (λ n. IsInOrder g.S.Store.view tape n) (sym retired)
+    subst (λ n. IsBetweenEvents g.S.Store.view tape n) (sym retired)
     (fed-turns g.S.Store.view tape inside.interior.base c.feed_at.new.self.base c.leave_closed.new.loads inside.latest c.max-now.result c.args.number c.in_ok-index.index c.args.moment.nanos inside.interior.connections c.feed_at.new.self.connections c.args.piece.now c.in-Ok.is_held turn.0
     c.in_ok-index.ensures.place.0 c.max-now.ensures c.in_ok-index.ensures.open (omega (arith, h)) c.self.invariant c.sound.ensures c.sound-in-Ok.ensures c.leave_closed.ensures.left c.in-Ok.ensures.goes c.leave_closed.ensures.goes turn.1).1

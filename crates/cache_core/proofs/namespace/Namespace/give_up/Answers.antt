@@ -5,7 +5,7 @@ use Rattle.audit_model.specs.Places.{tasks_to_give_up}
 use Rattle.cache_commands.specs.Loads.Pending.{SameTaken, load_numbered, loads_pending}
 use Rattle.cache_core.specs.Settled.{IsAmid}
 use Rattle.cache_core.specs.Settling.{AreWaiting, Happens, RunsAgain, giving_up, waiting_on}
-use Rattle.cache_core.specs.State.{State, known_of, state_of}
+use Rattle.cache_core.specs.State.{NamespaceState, known_of_state, state_of}
 use Rattle.cache_core.specs.Turned.{RefusesBy}
 use Rattle.cache_lines.specs.Tape.Taped.{finishes}
 use Rattle.cache_lines.specs.Waiting.{under_way}
@@ -23,12 +23,12 @@ returns-in-Some-clause-refused g c =
     let load = c.args.load in
     let moment = c.args.moment.nanos in
     let is = sym c.in-Some.ensures in
-    subst (λ (n : State _ _). RefusesBy g.S.Store.view n (giving_up load moment) false c.in-Some.error) c.self.view_is (refuses-known g.S.Store.view (state_of inside.interior.base inside.latest inside.interior.connections) (giving_up load moment) c.in-Some.error is)
+    subst (λ (n : NamespaceState _ _). RefusesBy g.S.Store.view n (giving_up load moment) false c.in-Some.error) c.self.view_is (refuses-known g.S.Store.view (state_of inside.interior.base inside.latest inside.interior.connections) (giving_up load moment) c.in-Some.error is)
 
 pub returns-in-Some-clause-spare : goal.returns-in-Some-clause-spare
 returns-in-Some-clause-spare g c = λ bare.
     let is = sym c.in-Some.ensures in
-    subst (λ (n : State _ _). refusal_of (g.S.Store.view n.store).frame.config (known_of g.S.Store.view n) (giving_up c.args.load c.args.moment.nanos) ≡ Some c.in-Some.error) c.self.view_is is
+    subst (λ (n : NamespaceState _ _). refusal_of (g.S.Store.view n.store).frame.config (known_of_state g.S.Store.view n) (giving_up c.args.load c.args.moment.nanos) ≡ Some c.in-Some.error) c.self.view_is is
 
 pub begin_give_up-requires-clause-under : goal.begin_give_up-requires-clause-under
 begin_give_up-requires-clause-under g c =
@@ -40,7 +40,7 @@ returns-in_default-begin_give_up-clause-refused g c =
     let inside = c.self.inside in
     let moment = c.args.moment.nanos in
     let admitted = sym c.in_default.ensures in
-    subst (λ (n : State _ _). RefusesBy g.S.Store.view n (giving_up c.args.load moment) false error.OutOfMemory) c.self.view_is (refuses-wanting g.S.Store.view (state_of inside.interior.base inside.latest inside.interior.connections) (giving_up c.args.load moment) admitted)
+    subst (λ (n : NamespaceState _ _). RefusesBy g.S.Store.view n (giving_up c.args.load moment) false error.OutOfMemory) c.self.view_is (refuses-wanting g.S.Store.view (state_of inside.interior.base inside.latest inside.interior.connections) (giving_up c.args.load moment) admitted)
 
 pub settle_give_up-requires : goal.settle_give_up-requires
 settle_give_up-requires g c =
@@ -85,7 +85,7 @@ returns-clause-turned g c =
     let x = happens-given view tape base new_base r.left c.begin_give_up.new.base.tape c.finish.new.self inside.latest now load moment room inside.interior.connections c.settle_give_up.new.self.connections c.max-now.ensures c.in-Ok.ensures.begun r.left_is r.parts
     (c.finish.ensures ∙ ap (λ ns. option_map (finishes (giving_up load moment) None ns) (tape new_base.tape)) c.new.ensures)
     c.self.invariant c.sound.ensures c.sound-2.ensures admitted (omega (arith, c.max-now.ensures, a.1, c.self.invariant.moment)) goes in
-    subst (λ (n : State _ _). Happens view tape n (state_of (record new_base { tape = c.finish.new.self }) now c.settle_give_up.new.self.connections) (giving_up load moment)) c.self.view_is x.0
+    subst (λ (n : NamespaceState _ _). Happens view tape n (state_of (record new_base { tape = c.finish.new.self }) now c.settle_give_up.new.self.connections) (giving_up load moment)) c.self.view_is x.0
 
 pub invariant_of-self-2 : goal.invariant_of-self-2
 invariant_of-self-2 g c =

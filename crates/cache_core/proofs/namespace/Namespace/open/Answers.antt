@@ -2,8 +2,8 @@ use Rattle.std.proofs.Common.{◌∙◌, ap, sym, subst, arith, ◌≡◌, ◌�
 use Rattle.std.proofs.lemmas.List.{length-append}
 use Rattle.std.specs.Option.{option_map}
 use Rattle.cache_core.specs.Connections.Presence.{Here}
-use Rattle.cache_core.specs.State.{IsInOrder, State, state_of}
-use Rattle.cache_core.specs.Turned.{Turns}
+use Rattle.cache_core.specs.State.{IsBetweenEvents, NamespaceState, state_of}
+use Rattle.cache_core.specs.Turned.{ContinuesBy}
 use Rattle.cache_lines.specs.Tape.Taped.{finishes}
 use Rattle.audit_model.specs.declared.event.Event.TheVariants as event
 use Rattle.cache_core.proofs.Opened.{count-open, kept-bare, order-open, turns-open}
@@ -19,7 +19,7 @@ invariant_of-self-2 g c =
     let more = ap length c.in_default.ensures.pushed in
     let added = length-append inside.interior.connections (Here c.new_connection.result ∷ []) in
     let number_is : c.len-number.result ≡ suc (length inside.interior.connections) = omega (arith, c.len-number.ensures, more, added) in
-    subst (λ xs. IsInOrder g.S.Store.view tape (state_of (record { store = inside.interior.base.store; loads = inside.interior.base.loads; tape = c.finish.new.self }) inside.latest xs)) (sym c.in_default.ensures.pushed)
+    subst (λ xs. IsBetweenEvents g.S.Store.view tape (state_of (record { store = inside.interior.base.store; loads = inside.interior.base.loads; tape = c.finish.new.self }) inside.latest xs)) (sym c.in_default.ensures.pushed)
     (order-open g.S.Store.view tape inside.interior.base c.finish.new.self inside.latest c.len-number.result inside.interior.connections c.new_connection.result number_is made.standing made.unread made.output made.closing kept c.sound.ensures c.self.invariant)
 
 pub returns-clause-turned : goal.returns-clause-turned
@@ -36,9 +36,9 @@ returns-clause-turned g c =
     let added = length-append cs (Here c.new_connection.result ∷ []) in
     let number_is : c.len-number.result ≡ suc (length cs) = omega (arith, c.len-number.ensures, more, added) in
     let count = count-open cs in
-    let was_count = ap (λ (n : State _ _). length n.closings) c.self.view_is in (
+    let was_count = ap (λ (n : NamespaceState _ _). length n.closings) c.self.view_is in (
       omega (arith, number_is, count, was_count),
-      subst (λ n. Turns view tape n (state_of (record { store = inside.interior.base.store; loads = inside.interior.base.loads; tape = c.finish.new.self }) inside.latest c.push.new.self) (event.Open c.len-number.result) false) c.self.view_is
-          (subst (λ xs. Turns view tape (state_of inside.interior.base inside.latest cs) (state_of (record { store = inside.interior.base.store; loads = inside.interior.base.loads; tape = c.finish.new.self }) inside.latest xs) (event.Open c.len-number.result) false) (sym pushed)
+      subst (λ n. ContinuesBy view tape n (state_of (record { store = inside.interior.base.store; loads = inside.interior.base.loads; tape = c.finish.new.self }) inside.latest c.push.new.self) (event.Open c.len-number.result) false) c.self.view_is
+          (subst (λ xs. ContinuesBy view tape (state_of inside.interior.base inside.latest cs) (state_of (record { store = inside.interior.base.store; loads = inside.interior.base.loads; tape = c.finish.new.self }) inside.latest xs) (event.Open c.len-number.result) false) (sym pushed)
           (turns-open view tape inside.interior.base c.finish.new.self inside.latest c.len-number.result cs c.new_connection.result number_is made.standing made.unread made.output made.closing kept c.sound.ensures)),
     )

@@ -2,7 +2,7 @@ use Rattle.std.proofs.Common.{◌≡◌, [], ◌∷◌, false, take, refl, sym, 
 use Rattle.std.proofs.lemmas.Result.{err_from_is_err_and}
 use Rattle.std.specs.Option.{is_some, option_map}
 use Rattle.cache_run.specs.declared.devices.errors.RunError.TheVariants.{Moment, OutOfMemory}
-use Rattle.cache_run.specs.Driver.Driven.{IsSettled, asks_nobody}
+use Rattle.cache_run.specs.Driver.Driven.{IsAnyFooting, asks_nobody}
 use Rattle.cache_run.specs.Driver.Exchanges.{Fed}
 use Rattle.cache_run.specs.Driver.Hosting.{exchange_of}
 use Rattle.cache_run.proofs.driver.Exchanges.{fed-cut, footing-closed, holds-none, keeps-none, not-late, one-broke, one-went, some-mapped, moves-refused, refused-broke, refused-some}
@@ -44,10 +44,10 @@ returns-clause-goes g c =
     let handed = c.hand_out.ensures in
     let given = c.in-Some.given in
     one-went g.H.Host.LENT _ _ _ _ (exchange_of (Fed _ c.now-moment.result given.held) given) came.0 (record { rest = c.args.session.now.taken.items; leaves = refl; keeps = handed.keeps })
-    (fed-cut _ _ _ c.args.count c.as_slice.ensures (handed.same.1 ∙ c.skip.ensures)) (_, c.now-moment.ensures, refl) refl IsSettled (λ is. footing-closed given.closing given.waits (sym handed.footing ∙ is))
+    (fed-cut _ _ _ c.args.count c.as_slice.ensures (handed.same.1 ∙ c.skip.ensures)) (_, c.now-moment.ensures, refl) refl IsAnyFooting (λ is. footing-closed given.owed.closing given.owed.waits (sym handed.footing ∙ is))
     (λ is empty settled. record {
-      none = keeps-none (option_map (λ loads. loads.items) given.loads) c.args.session.now.taken.items _ handed.keeps (some-mapped (λ loads. loads.items) given.loads (came.1.wanted is refl)) empty;
-      all = holds-none (take c.args.count c.as_slice.result.now) c.now-moment.result given.held given.closing c.if-held.false;
+      none = keeps-none (option_map (λ loads. loads.items) given.owed.loads) c.args.session.now.taken.items _ handed.keeps (some-mapped (λ loads. loads.items) given.owed.loads (came.1.wanted is refl)) empty;
+      all = holds-none (take c.args.count c.as_slice.result.now) c.now-moment.result given.held given.owed.closing c.if-held.false;
     }) c.in_ok-hand_out.ensures.sent
 
 pub returns-in_default-clause-among : goal.returns-in_default-clause-among

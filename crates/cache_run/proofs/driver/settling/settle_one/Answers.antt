@@ -12,8 +12,8 @@ returns-in_default-clause-goes g c =
     let handed = c.hand_out.ensures in
     let given = c.await_owed-given.result in
     one-settles g.H.Host.LENT _ _ _ _ (exchange_of Looked given) c.await_owed-given.ensures.came (record { rest = c.args.session.now.taken.items; leaves = refl; keeps = handed.keeps }) (sym handed.same.1) refl refl
-    (λ is. footing-closed given.closing given.waits (sym handed.footing ∙ is))
-    (λ is none. keeps-none (option_map (λ loads. loads.items) given.loads) c.args.session.now.taken.items _ handed.keeps (some-mapped (λ loads. loads.items) given.loads (c.await_owed-given.ensures.suits.wanted is refl)) none) _ c.hand_out.result handed.sent handed.why
+    (λ is. footing-closed given.owed.closing given.owed.waits (sym handed.footing ∙ is))
+    (λ is none. keeps-none (option_map (λ loads. loads.items) given.owed.loads) c.args.session.now.taken.items _ handed.keeps (some-mapped (λ loads. loads.items) given.owed.loads (c.await_owed-given.ensures.suits.wanted is refl)) none) _ c.hand_out.result handed.sent handed.why
 
 pub returns-in_default-clause-why : goal.returns-in_default-clause-why
 returns-in_default-clause-why g c = why-map c.hand_out.result (λ no. no) (λ failed. failed) (λ no. absurd no) (λ no. absurd no) c.hand_out.ensures.why

@@ -1,16 +1,24 @@
-use Rattle.cache_shared.proofs.Moving.{moves-on, moves-owed}
+use Rattle.std.proofs.Common.{refl, false, true, ◌≡◌}
+use Rattle.cache_shared.proofs.Moving.{moves-nothing, moves-owed, owes-due}
 use Rattle.cache_shared.proofs.booked.BookedService.take_owed.Goals as goal
 
-pub returns-clause-all : goal.returns-clause-all
-returns-clause-all g c =
-    let spaces = g.C.Shareable.spaces in
-    let untaken = g.C.Shareable.untaken in
-    let untold = g.C.Shareable.untold in
-    let loads = c.take_wanted-loads.ensures.all in
-    let replies = c.take_replies-replies.ensures.all in record {
-      owed = moves-owed spaces untaken untold _ _ _ _ c.args.conn _ c.take_notices.ensures.others loads replies;
-      notes = moves-on spaces untaken untold _ _ _ _ c.args.conn c.take_wanted-loads.result c.take_replies-replies.result _ _ c.take_notices.ensures.moved loads replies;
-    }
+pub returns-in-Ok-clause-all : goal.returns-in-Ok-clause-all
+returns-in-Ok-clause-all g c =
+    moves-owed g.C.Shareable.spaces g.C.Shareable.untaken g.C.Shareable.untold _ _ _ c.args.conn c.in-Ok.owed _ _ c.take_notices.ensures.others c.take_notices.ensures.moved c.in-Ok.ensures.moved c.owed.ensures.notes
 
-pub returns-clause-moved : goal.returns-clause-moved
-returns-clause-moved g c = record { core = c.args.self.now.core; events = _; reached = c.args.self.now.stands.reached; left = _; moved = c.take_notices.ensures.moved }
+pub returns-in-Err-clause-all : goal.returns-in-Err-clause-all
+returns-in-Err-clause-all g c =
+    moves-nothing g.C.Shareable.spaces g.C.Shareable.untaken g.C.Shareable.untold _ _ _ c.args.conn _ _ _ c.take_notices.ensures.others c.take_notices.ensures.moved c.in-Err.ensures.unchanged refl refl
+
+pub returns-in-Ok-clause-owed : goal.returns-in-Ok-clause-owed
+returns-in-Ok-clause-owed g c =
+    owes-due g.L.Seating.configs g.C.Shareable.spaces g.C.Shareable.untaken g.C.Shareable.untold _ _ _ c.take_notices.new.self.stands.reached c.args.conn c.args.wants_loads c.in-Ok.owed c.in-Ok.ensures.moved c.in-Ok.ensures.told
+
+pub returns-in-Err-clause-owed : goal.returns-in-Err-clause-owed
+returns-in-Err-clause-owed g c = record { replies = tt; loads = tt; unwanted = λ no. refl; closed = tt; waits = λ yes. let no : false ≡ true = yes in cc }
+
+pub returns-in-Ok-clause-moved : goal.returns-in-Ok-clause-moved
+returns-in-Ok-clause-moved g c = record { core = c.args.self.now.core; events = _; reached = c.args.self.now.stands.reached; left = _; moved = c.take_notices.ensures.moved }
+
+pub returns-in-Err-clause-moved : goal.returns-in-Err-clause-moved
+returns-in-Err-clause-moved g c = record { core = c.args.self.now.core; events = _; reached = c.args.self.now.stands.reached; left = _; moved = c.take_notices.ensures.moved }

@@ -7,7 +7,7 @@ use Rattle.cache_link.proofs.Serving.{not-ok}
 use Rattle.cache_link.specs.Served.{wire}
 use Rattle.cache_link.specs.declared.link.Next.TheVariants.{Input, Room, Over}
 use Rattle.memcache_link.proofs.Serving.{served-on}
-use Rattle.memcache_link.specs.Served.{IsServed}
+use Rattle.memcache_link.specs.Served.{IsServedByTalk}
 use Rattle.memcache_link.proofs.link.MemcacheLink.work.Goals as goal
 
 pub returns-in_err-serve-clause-goes : goal.returns-in_err-serve-clause-goes
@@ -26,7 +26,7 @@ returns-then-not-branch-clause-goes g c =
 
 pub returns-clause-goes : goal.returns-clause-goes
 returns-clause-goes g c = (
-  λ start a x. subst (λ l. IsServed g.T.Shelf start a l c.serve.new.service (wire g.I.Read.remaining g.O.Write.contents c.serve.new.reader c.write_to.new.writer)) (sym c.put_away.ensures)
+  λ start a x. subst (λ l. IsServedByTalk g.T.Shelf start a l c.serve.new.service (wire g.I.Read.remaining g.O.Write.contents c.serve.new.reader c.write_to.new.writer)) (sym c.put_away.ensures)
       (served-on g.T.Shelf start a c.serve.new.self _ refl c.serve.new.service _ _ c.write_to.ensures.sent (same_consumes _) refl (λ over was. was over) (c.serve.ensures.goes.0 _ start a x)),
   ap (λ l. l.conn) c.put_away.ensures ∙ c.serve.ensures.goes.1,
   λ done. (ap (λ l. l.backlog) c.put_away.ensures ∙ c.in_ok-write_to.ensures.all c.if-not-branch.false, c.next.ensures.over (search rules)),

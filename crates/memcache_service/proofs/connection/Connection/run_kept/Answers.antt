@@ -1,6 +1,6 @@
-use Rattle.std.proofs.Common.{◌∙◌, List, ℕ, ap, sym, subst, drop}
+use Rattle.std.proofs.Common.{◌∙◌, List, ℕ, ap, sym, subst, drop, true≢false}
 use Rattle.std.proofs.lemmas.Result.{err_from_is_err_and}
-use Rattle.memcache_service.proofs.Feeding.{both-never, ran-as}
+use Rattle.memcache_service.proofs.Feeding.{ran-as}
 use Rattle.memcache_service.specs.Serving.{HasLacked, HasRun}
 use Rattle.memcache_service.proofs.connection.Connection.run_kept.Goals as goal
 
@@ -26,5 +26,5 @@ returns-else-not-self-clause-ran g c =
     let left = drop c.in_ok-used.used c.as_slice.result.now in (
       left,
       subst (λ (bytes : List ℕ). HasRun g.T.Shelf.view c.args.moment c.args.stock.now.most c.args.stock.now bytes s.skip s.output.items c.run.new.stock left c.run.new.self) (c.as_slice.ensures.value ∙ ap (λ z. z.items) c.swap.ensures.y_after) c.in_ok-used.ensures.ran,
-      λ still. absurd (both-never c.run.new.self.is_closed c.if-not-self.false still),
+      λ still. absurd (true≢false (sym c.if-not-self.false ∙ still)),
     )
