@@ -14,13 +14,11 @@ ROOT = pathlib.Path(__file__).resolve().parent.parent
 
 # What a figure may be at most. Lower a bound when the figure falls; it is not raised without a reason in the commit.
 BOUNDS = {
-    # (20 of these came with the memcache house, whose libraries were proved after the bound was set)
-    "splits by hand": 758,
-    # (eight of these came with runs of closed connections, interludes, and contracts of at most eight clauses)
-    "relations of the service's specs": 502,
-    # (a connection of the memcache service is told in the words of one that speaks lines)
-    "names of relations in several crates": 73,
-    "names of functions in several crates": 87,
+    "splits by hand": 674,
+    # (six tell what becomes of a loop's loads, ten what a connection is owed)
+    "relations of the service's specs": 515,
+    "names of relations in several crates": 19,
+    "names of functions in several crates": 65,
 }
 
 
