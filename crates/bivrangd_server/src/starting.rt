@@ -237,9 +237,13 @@ where
         report,
         ..
     } = start;
-    let serving = move ||
+    let mut given = Some((shared, loops, report));
+    let serving = move || -> bool
         requires { L.all ≡ L.parts }
     {
+        let Some((shared, loops, report)) = given.take() else {
+            return false;
+        };
         match serve_namespace(rt, alloc, shared, loops, report) {
             Ok(handed) => handed.failed == 0,
             Err(_) => false,
