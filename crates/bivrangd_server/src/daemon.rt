@@ -181,7 +181,10 @@ where
     let text = fs::read_to_string(&rt, path).map_err(Ending::file)?;
     let orders = bounded(alloc, REPORTS)?;
     start_reading(rt, input, &orders.0)?;
-    serve_text(rt, alloc, text.as_str(), shown, alarms, orders)
+    if !serve_text(rt, alloc, text.as_str(), shown, alarms, orders)? {
+        alarms.say("a service was not handed back");
+    }
+    Ok(())
 }
 
 /// Starts to read orders from the input. Nobody waits for the thread that does: it may wait for a line when the program ends.
@@ -196,8 +199,8 @@ where
     Ok(())
 }
 
-/// Serves what the text of a configuration file says, until it is told to stop. Returns as an error why the server ends, if the file is not
-/// accepted or something fails.
+/// Serves what the text of a configuration file says, until it is told to stop. Returns whether each namespace has handed its service back,
+/// or, as an error, why the server ends, if the file is not accepted or something fails.
 pub fn serve_text<E: Write + Drop, W: Shown, V: Shown, R: Machine + Files>(
     rt: R,
     alloc: Global,
@@ -205,7 +208,7 @@ pub fn serve_text<E: Write + Drop, W: Shown, V: Shown, R: Machine + Files>(
     shown: (W, V),
     alarms: &mut Alarms<R, E>,
     orders: Orders,
-) -> Result<(), Ending> {
+) -> Result<bool, Ending> {
     let opened = open_all(&rt, alloc, text)?;
     let (shown, troubles) = shown;
     let lines = announce_all(alloc, &opened, shown)?;
@@ -221,7 +224,7 @@ fn serve_opened<E: Write + Drop, W: Shown, V: Shown, R: Machine + Files>(
     scribe: Scribe<W, V>,
     orders: Orders,
     alarms: &mut Alarms<R, E>,
-) -> Result<(), Ending> {
+) -> Result<bool, Ending> {
     let Opened {
         spaces,
         hostings,

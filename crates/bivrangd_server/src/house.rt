@@ -7,6 +7,7 @@ use crate::alarms::Alarms;
 use crate::http::Metrics;
 use crate::listening::Listener;
 use crate::memcache::{MemcacheSteward, make_items, spawn_items};
+use crate::serving::Report;
 use crate::sources::Source;
 use crate::starting::{Loops, Start, Told};
 use crate::watch::Watch;
@@ -69,7 +70,8 @@ impl<R: Machine> House<R> {
         })
     }
 
-    /// Serves all namespaces, until all loops have ended. Returns an error if something that it needs cannot be had.
+    /// Serves all namespaces, until all loops have ended. Returns whether all ended as they were told, and handed their services back, or an
+    /// error if something that it needs cannot be had.
     pub fn serve<E: Write + Drop>(
         &self,
         spaces: Vec<HostedNamespace>,
@@ -78,7 +80,7 @@ impl<R: Machine> House<R> {
         metrics: Option<(u16, TcpListener)>,
         told: &Receiver<Told, Global>,
         alarms: &mut Alarms<R, E>,
-    ) -> Result<(), Ending> {
+    ) -> Result<bool, Ending> {
         let Loops {
             threads,
             stoppers,
@@ -91,10 +93,11 @@ impl<R: Machine> House<R> {
             page.end(&self.rt);
         }
         waited?;
+        let mut is_whole = true;
         for thread in threads {
-            thread.join(&self.rt);
+            is_whole = thread.join(&self.rt) && is_whole;
         }
-        Ok(())
+        Ok(is_whole)
     }
 
     /// Starts the loops of all namespaces.
@@ -240,11 +243,14 @@ impl<R: Machine> House<R> {
             notices: plan.notices,
             limit: plan.limit,
             departures: Arc::try_clone(&plan.source.departures)?,
-            ending: Sender::clone(&self.ending)?,
+            report: Report {
+                ending: Sender::clone(&self.ending)?,
+                number: all.sources.len(),
+            },
         };
-        let (number, loops) = (all.sources.len(), (plan.loops, plan.rules));
+        let loops = (plan.loops, plan.rules);
         let gears = all.add(&self.rt, self.alloc, listener, loops, plan.source)?;
-        start.start(gears, number, &mut all.threads)
+        start.start(gears, &mut all.threads)
     }
 
     /// Waits until all loops have ended. When it is told to stop, it tells them; when it is told again, or after some seconds, they end at
@@ -265,6 +271,7 @@ impl<R: Machine> House<R> {
             match told.recv_timeout(&self.rt, second) {
                 Ok(Told::Ended) => watch.running = watch.running.saturating_sub(1),
                 Ok(Told::Failed(number)) => return Err(failed(self.alloc, sources, number)),
+                Ok(Told::Starved) => return Err(Ending::from(Fault::OutOfMemory)),
                 Ok(Told::Stop) => watch.stop(stoppers, alarms),
                 Err(_) => watch.count_second(&self.rt, stoppers, sources, alarms),
             }

@@ -10,6 +10,7 @@ mod http;
 mod listening;
 mod memcache;
 mod metrics;
+mod serving;
 mod sources;
 mod starting;
 mod stopping;
@@ -20,5 +21,6 @@ mod writing;
 
 pub use alarms::Alarms;
 pub use daemon::{Orders, bivrangd, serve_text};
+pub use serving::{Handed, LineLoop, Report, SeatMissing, serve_namespace};
 pub use starting::Told;
 pub use words::{Asked, take_words};

@@ -148,17 +148,18 @@ impl<T: Shelf, R: Clock + Drop> Steward for MemcacheSteward<T, R> {
     }
 }
 
-/// Starts the thread of a loop that owns its service, of the namespace with this number.
+/// Starts the thread of a loop that owns its service, of the namespace with this number. It returns whether the loop ended as it was told.
 pub fn spawn_items<T: Shelf + Send + 'static, R: Machine>(
     steward: MemcacheSteward<T, R>,
     gear: Gear,
     ending: Sender<Told, Global>,
     number: usize,
-) -> Result<JoinHandle<()>, Ending> {
+) -> Result<JoinHandle<bool>, Ending> {
     let rt = steward.rt;
     let looping = move || {
         let served = serve_items(steward, gear);
         let _ = ending.send(&rt, told_by(&served, number));
+        served.is_ok()
     };
     match thread::spawn(&rt, looping) {
         Ok(thread) => Ok(thread),

@@ -1,18 +1,17 @@
 //! The threads of a namespace.
-ghost use Rattle.std.specs.Prelude.{◌≡◌, false};
+ghost use Rattle.std.specs.Prelude.{◌≡◌};
 
 use crate::heralds::Herald;
 use crate::listening::Listener;
+use crate::serving::{LineLoop, Report, serve_namespace};
 use crate::sources::Source;
-use cache_loop::{Crew, Departures, Doorway, Here, LOADED, LineSteward, Rules, STOP, serve_by};
-use cache_serve::{Devices, Sitting};
-use cache_shared::{Seat, Seating, Shareable, SharedService};
+use cache_loop::{Crew, Departures, Doorway, LOADED, Rules, STOP};
+use cache_serve::Devices;
+use cache_shared::{Seating, Shareable, SharedService};
 use cached_config::Notices;
-use cached_server::{Ending, Fault, ListLoader, Machine, Site, StartClock};
-use crossbeam_channel::Sender;
+use cached_server::{Ending, Fault, Machine, Site};
 use mio::{Poll, Waker};
 use std::alloc::{AllocError, Global};
-use std::io::ErrorKind;
 use std::sync::{Arc, Mutex};
 use std::thread::JoinHandle;
 use std::{io, thread};
@@ -29,13 +28,15 @@ pub enum Told {
     Ended,
     /// A loop of the namespace with this number cannot go on.
     Failed(usize),
+    /// There was not enough memory to start a loop.
+    Starved,
 }
 
 /// The threads of all namespaces, the wakers by which they are stopped, and where their numbers are.
 #[derive(Drop)]
 pub struct Loops {
-    /// The threads.
-    pub threads: Vec<JoinHandle<()>>,
+    /// The threads. Each returns whether all its loops ended as they were told, and handed their service back.
+    pub threads: Vec<JoinHandle<bool>>,
     /// The wakers by which the threads are stopped.
     pub stoppers: Vec<Waker>,
     /// Where the numbers of each namespace are.
@@ -172,8 +173,8 @@ pub struct Start<L: Seating, C: Shareable, R: Machine> {
     pub limit: Option<u64>,
     /// How many values have left, by cause.
     pub departures: Arc<Mutex<Departures>>,
-    /// Where a loop reports that it has ended.
-    pub ending: Sender<Told, Global>,
+    /// Where the loops report that they have ended.
+    pub report: Report,
 }
 
 impl<L, C, R> Start<L, C, R>
@@ -182,23 +183,24 @@ where
     C: Shareable + Send + 'static,
     R: Machine,
 {
-    /// Starts a loop of the namespace with this number by each gear, each with a seat. Returns an error if a loop cannot be started.
-    pub fn start(
-        &self,
-        gears: Vec<Gear>,
-        number: usize,
-        threads: &mut Vec<JoinHandle<()>>,
-    ) -> Result<(), Ending> {
+    /// Starts a thread that serves the namespace by a loop for each gear, each with a seat. Returns an error if the thread cannot be started.
+    pub fn start(self, gears: Vec<Gear>, threads: &mut Vec<JoinHandle<bool>>) -> Result<(), Ending>
+        requires ledger { L.all ≡ L.parts }
+    {
+        let mut loops = Vec::with_capacity(self.alloc, gears.len())?;
         for gear in gears {
-            threads.push(self.start_one(gear, number)?)?;
+            loops.push(self.line_loop(gear)?)?;
         }
-        Ok(())
+        Ok(threads.push(spawn(self, loops)?)?)
     }
 
     /// What a loop serves its connections with.
-    fn devices(&self) -> Result<(StartClock<R>, ListLoader, Herald<R>), AllocError> {
+    fn line_loop(&self, gear: Gear) -> Result<LineLoop<L, R>, Ending> {
         let Some((clock, loader, site)) = self.site.make(self.alloc) else {
-            return Err(AllocError);
+            return Err(Ending::from(Fault::OutOfMemory));
+        };
+        let Ok(seat) = self.shared.seat(&self.rt) else {
+            return Err(Ending::from(Fault::UsedUp));
         };
         let herald = Herald {
             site,
@@ -206,67 +208,46 @@ where
             notices: self.notices,
             departures: Arc::try_clone(&self.departures)?,
         };
-        Ok((clock, loader, herald))
-    }
-
-    /// A seat for a loop.
-    fn seat(&self) -> Result<Seat<L>, Ending> {
-        match self.shared.seat(&self.rt) {
-            Ok(seat) => Ok(seat),
-            Err(_) => Err(Ending::from(Fault::UsedUp)),
-        }
-    }
-
-    /// Starts a loop.
-    fn start_one(&self, gear: Gear, number: usize) -> Result<JoinHandle<()>, Ending> {
-        let devices = self.devices()?;
-        let seat = self.seat()?;
-        Ok(self.spawn(seat, devices, gear, number)?)
-    }
-
-    /// Starts the thread of a loop of the namespace with this number.
-    fn spawn(
-        &self,
-        seat: Seat<L>,
-        devices: (StartClock<R>, ListLoader, Herald<R>),
-        gear: Gear,
-        number: usize,
-    ) -> Result<JoinHandle<()>, AllocError> {
-        let (rt, limit) = (self.rt, self.limit);
-        let shared = SharedService::clone(&self.shared)?;
-        let ending = Sender::clone(&self.ending)?;
-        let looping = move || {
-            let served = serve_seat(&rt, &shared, seat, devices, gear, limit);
-            let _ = ending.send(&rt, told_by(&served, number));
-        };
-        Ok(thread::spawn(&rt, looping)?)
+        Ok(LineLoop {
+            seat,
+            clock,
+            loader,
+            herald,
+            gear,
+            limit: self.limit,
+        })
     }
 }
 
-/// Serves connections with a seat, until the loop ends. After `limit` nanoseconds a load is given up.
-fn serve_seat<L: Seating, C: Shareable, R: Machine>(
-    rt: &R,
-    shared: &SharedService<L, C>,
-    seat: Seat<L>,
-    devices: (StartClock<R>, ListLoader, Herald<R>),
-    gear: Gear,
-    limit: Option<u64>,
-) -> io::Result<()> {
-    let (clock, loader, mut herald) = devices;
-    let Gear {
-        mut poll,
-        doorway,
-        crew,
-    } = gear;
-    let mut seat = seat;
-    let (alloc, asker) = (crew.alloc, Here { loader });
-    let mut sitting = Sitting::new(rt, alloc, shared, &mut herald, false)?;
-    let (namespace, place) = (crew.namespace, &mut seat);
-    let steward = LineSteward::new(alloc, namespace, &mut sitting, place, clock, asker, limit);
-    let Ok(mut steward) = steward else {
-        return Err(io::Error::from(ErrorKind::OutOfMemory));
+/// Starts the thread that serves a namespace by these loops.
+fn spawn<L, C, R>(
+    start: Start<L, C, R>,
+    loops: Vec<LineLoop<L, R>>,
+) -> Result<JoinHandle<bool>, AllocError>
+where
+    L: Seating + Send + Sync + 'static,
+    C: Shareable + Send + 'static,
+    R: Machine,
+    requires ledger { L.all ≡ L.parts }
+{
+    let Start {
+        rt,
+        alloc,
+        shared,
+        report,
+        ..
+    } = start;
+    let mut given = Some((shared, loops, report));
+    let serving = move || -> bool
+        requires { L.all ≡ L.parts }
+    {
+        let Some((shared, loops, report)) = given.take() else {
+            return false;
+        };
+        match serve_namespace(rt, alloc, shared, loops, report) {
+            Ok(handed) => handed.failed == 0,
+            Err(_) => false,
+        }
     };
-    let served = serve_by(rt, &mut steward, &mut poll, doorway, &crew);
-    let _asker = steward.end();
-    served
+    Ok(thread::spawn(&rt, serving)?)
 }

@@ -20,11 +20,14 @@ struct Scene {
     steps: &'static [Step],
 }
 
-/// Serves a text, and tells nobody. Whether it ends well.
+/// Serves a text, and tells nobody. Whether it ends well, and the service is handed back.
 fn serve<R: Machine + Files>(rt: R, alloc: Global, text: &str, orders: Orders) -> bool {
     let mut alarms = Alarms::new(rt, alloc, Vec::new(alloc));
     let shown = (Vec::new(alloc), Vec::new(alloc));
-    serve_text(rt, alloc, text, shown, &mut alarms, orders).is_ok()
+    matches!(
+        serve_text(rt, alloc, text, shown, &mut alarms, orders),
+        Ok(true)
+    )
 }
 
 /// What each namespace of lines has beside.
