@@ -1,5 +1,5 @@
 -- Records that belong to inputs step by step.
-use Rattle.std.proofs.Common.{◌≡◌, refl, ap, ◌∙◌, sym, subst, ℕ, Bool, true, false, true≢false, ◌&&◌, cond, List, [], ◌∷◌, ◌++◌, Option, Some, None, is_some, is_none, inl, inr}
+use Rattle.std.proofs.Common.{arith, ◌≡◌, refl, ap, ◌∙◌, sym, subst, ℕ, true, true≢false, ◌&&◌, List, [], ◌∷◌, ◌++◌, Option, Some, None, is_none, inl, inr}
 use Rattle.std.specs.Prelude.{MatchOption}
 use Rattle.std.specs.Option.{option_and_then}
 use Rattle.std.proofs.lemmas.Bool.{and_parts}
@@ -20,8 +20,9 @@ use Rattle.audit_model.specs.declared.transcript.Record.{Record}
 use Rattle.audit_laws.specs.Laws.{BelongsStepByStep, BelongsOn}
 use Rattle.std.proofs.lemmas.List.{append-nil}
 use Rattle.audit_laws.proofs.Following.{passed}
-use Rattle.audit_laws.proofs.RecordsAgree.{is_good_record, known-same, record-same, record-sound, sound-empty}
+use Rattle.audit_laws.proofs.RecordsAgree.{known-same, record-same, record-sound, sound-empty}
 use Rattle.audit_laws.proofs.Sound.{Sound}
+use Rattle.std.proofs.lemmas.Bool.Decides.{nat_tests}
 
 -- ---- cases on an option
 
@@ -125,12 +126,9 @@ module _ (config : Config) (namespace : ℕ) where
 
     goes-on : (past : History) (entry : Record) (t : Situation) → Sound past → Follows config (now past) entry t → GoesOn past entry t
     goes-on past entry t h f =
-        go (is_good_record config (placed_record config made past entry)) (record-sound config made past h entry) (sym (record-same config made past h entry) ∙ f)
-      where
-        go : (b : Bool) → (b ≡ true → Sound (placed_record config made past entry).walked.after)
-            → cond b (Some (now (placed_record config made past entry).walked.after)) None ≡ Some t → GoesOn past entry t
-        go true k e = record { sound = k refl; is = (let there = now (placed_record config made past entry).walked.after in let u : t ≡ there = cc in u) }
-        go false k e = absurd (true≢false (sym (ap is_some e)))
+        let next = record-sound config made past h entry in
+        let next2 = sym (record-same config made past h entry) ∙ f in
+        grind (arith, nat_tests, next, next2)
 
     belongs-taken : (past : History) (happened : Event) (entries : List Record) (Rest : Situation → List Record → Type 0) (Then : History → List Record → Type 0)
         → Sound past → ((later : History) (rest : List Record) → Sound later → Rest (now later) rest → Then later rest)

@@ -1,5 +1,5 @@
 -- The first record that breaks a rule is the same in the whole history and by situations.
-use Rattle.std.proofs.Common.{◌≡◌, refl, ap, ◌∙◌, sym, ℕ, zero, suc, ◌+◌, Bool, true, false, ◌&&◌, cond, List, [], ◌∷◌, ◌++◌, append_assoc, Option, Some, None, is_some, length, take, arith, true≢false, subst, ◌<◌, ◌≤◌, zero-add}
+use Rattle.std.proofs.Common.{inr, inl, ◌≡◌, refl, ap, ◌∙◌, sym, ℕ, zero, suc, ◌+◌, Bool, true, false, ◌&&◌, cond, List, [], ◌∷◌, ◌++◌, append_assoc, Option, Some, None, is_some, length, take, arith, true≢false, subst, ◌<◌, ◌≤◌, zero-add}
 use Rattle.std.specs.Prelude.{IsTrue, ◌==◌, MatchOption}
 use Rattle.std.proofs.lemmas.Bool.Decides.{nat_tests}
 use Rattle.std.specs.Option.{option_or, option_map_or, option_and_then}
@@ -21,6 +21,7 @@ use Rattle.audit_laws.proofs.Following.{after_records-append}
 use Rattle.audit_laws.proofs.Journals.{accepted-more}
 use Rattle.audit_laws.proofs.FirstFailing.{first_from, later-sum, first_from-last, Finds, finds-from}
 use Rattle.audit_laws.proofs.Faultless.{good-test, good_is_faultless}
+use Rattle.std.proofs.lemmas.Bool.{cases_Bool}
 
 -- ---- fronts
 
@@ -97,17 +98,16 @@ module _ (config : Config) (made : Instant) (records : List Record) where
       ∙ go (λ t k. from-same rest (front ++ entry ∷ []) (suc m) t (values ++ accepted_in config s entry) (e ∙ sym (append_assoc front (entry ∷ []) rest)) (stood-longer front m s values stood entry t k))
       (after_record config s entry) refl (good-longer front m s values stood entry (after_record config s entry) refl)
     where
-      split : (t : Situation) (b : Bool) → first_from good_front (suc m) (length rest) ≡ first_break_from config t (values ++ accepted_in config s entry) (suc m) rest
-          → cond b (first_from good_front (suc m) (length rest)) (Some (suc m)) ≡ cond b (first_break_from config t (values ++ accepted_in config s entry) (suc m) rest) (Some (suc m))
-      split t true k = k
-      split t false k = refl
-
       go : ((t : Situation) → after_record config s entry ≡ Some t → first_from good_front (suc m) (length rest) ≡ first_break_from config t (values ++ accepted_in config s entry) (suc m) rest)
           → (o : Option Situation) → after_record config s entry ≡ o → is_good config (of (front ++ entry ∷ [])) ≡ option_map_or (λ t. agree_on_parts (values ++ accepted_in config s entry)) o false
           → cond (is_good config (of (front ++ entry ∷ []))) (first_from good_front (suc m) (length rest)) (Some (suc m))
           ≡ option_map_or (λ t. cond (agree_on_parts (values ++ accepted_in config s entry)) (first_break_from config t (values ++ accepted_in config s entry) (suc m) rest) (Some (suc m))) o (Some (suc m))
       go ih None k g = ap (λ b. cond b (first_from good_front (suc m) (length rest)) (Some (suc m))) g
-      go ih (Some t) k g = ap (λ b. cond b (first_from good_front (suc m) (length rest)) (Some (suc m))) g ∙ split t (agree_on_parts (values ++ accepted_in config s entry)) (ih t k)
+      go ih (Some t) k g =
+          ap (λ b. cond b (first_from good_front (suc m) (length rest)) (Some (suc m))) g ∙ (elim (cases_Bool (agree_on_parts (values ++ accepted_in config s entry))) [
+            | inl e ↦ rw e (ih t k)
+            | inr e ↦ rw e
+          ])
 
   -- where each key has one part, the tests of parts pass
   one_part : IsTrue (agree_on_parts (accepted_values (placed_steps config (of records))))

@@ -1,5 +1,5 @@
 -- The situation after one connection's change, and after a step.
-use Rattle.std.proofs.Common.{◌≡◌, refl, ap, ◌∙◌, sym, ℕ, suc, Bool, true, false, true≢false, not, ◌&&◌, ◌||◌, cond, List, ◌∷◌, map, Option, Some, None, length, is_none}
+use Rattle.std.proofs.Common.{inr, inl, ◌≡◌, refl, ap, ◌∙◌, sym, ℕ, suc, Bool, true, false, true≢false, not, ◌&&◌, ◌||◌, cond, List, ◌∷◌, map, Option, Some, None, length, is_none}
 use Rattle.std.specs.Prelude.{IsTrue, ◌==◌}
 use Rattle.std.specs.List.{filter}
 use Rattle.std.specs.Option.{option_map_or}
@@ -13,7 +13,7 @@ use Rattle.audit_model.specs.Loads.{Sent, key_loaded, loads_sent, loads_under_wa
 use Rattle.audit_model.specs.Notes.{candidates_of, are_true_notes}
 use Rattle.audit_model.specs.Places.{step_happens}
 use Rattle.audit_model.specs.Seen.{has_dropped, view_of}
-use Rattle.audit_model.specs.Situation.{Connection, Situation, connection_in, is_overlong, without_waiting, without_number, without_connection, with_connection}
+use Rattle.audit_model.specs.Situation.{Connection, Situation, connection_in, is_overlong, without_waiting, without_connection, with_connection}
 use Rattle.audit_model.specs.Steps.{Task, Store, Deliver, RunAgain, RunHeld, RunLines}
 use Rattle.audit_model.specs.Stream.{is_held, is_waiting, behind_lines, unanswered, first_line, is_open}
 use Rattle.audit_model.specs.Summary.{opened_conns, connection_from, situation_of}
@@ -30,6 +30,7 @@ use Rattle.audit_laws.proofs.Connections.{Facts, facts, connection_of_facts, ope
 use Rattle.audit_laws.proofs.ConnectionSteps.{connections_by, connections-stay, connections-close, filter-stay, filter-close, connection-ran}
 use Rattle.audit_laws.proofs.PendingLoads.{pending_by, each-any, join-step, SendsRightly}
 use Rattle.audit_laws.proofs.Leaving.{NotJoined, leave-none}
+use Rattle.std.proofs.lemmas.Bool.{cases_Bool}
 
 pub record IsOpen (f : Facts) : Type 0 where
   pub opened : f.opened ≡ true
@@ -75,12 +76,7 @@ module _ (c : ℕ) (f g : ℕ → Facts) (others : (d : ℕ) → (c == d) ≡ fa
 
   pub with_connection-changed : (q : Bool) (j : Situation) → j.connections ≡ connections_by f ds → j.pending ≡ map (pending_by (λ d. open_in (f d)) waiters) sents
       → open_in (g c) ≡ not (q || is_overlong own) → with_connection q own j ≡ changed j
-  with_connection-changed q j e u o = go (q || is_overlong own) o
-    where
-      go : (b : Bool) → open_in (g c) ≡ not b
-          → record j { connections = cond b (without_number c j.connections) (put_connection own j.connections); pending = cond b (map (without_waiting c) j.pending) j.pending } ≡ changed j
-      go true o = close-changed j e u o
-      go false o = stay-changed j e u o
+  with_connection-changed q j e u o = elim (cases_Bool (q || is_overlong own)) [ inl is ↦ rw is (close-changed j e u (rw is at o)) | inr is ↦ rw is (stay-changed j e u (rw is at o)) ]
 
 -- ---- a step of a connection
 

@@ -1,9 +1,9 @@
 -- What a change of one connection does to all connections.
-use Rattle.std.proofs.Common.{◌≡◌, refl, ap, ◌∙◌, sym, ℕ, zero, suc, ◌+◌, Bool, true, false, true≢false, not, ◌&&◌, ◌||◌, cond, List, [], ◌∷◌, map, Option, Some, None, is_some, is_none, arith, zero-add}
+use Rattle.std.proofs.Common.{inr, inl, ◌≡◌, refl, ap, ◌∙◌, sym, ℕ, zero, suc, ◌+◌, Bool, true, false, true≢false, not, ◌&&◌, ◌||◌, cond, List, [], ◌∷◌, map, Option, Some, None, is_some, is_none, arith, zero-add}
 use Rattle.std.proofs.lemmas.Bool.Decides.{nat_tests}
 use Rattle.std.specs.Prelude.{◌==◌, unwrap_or}
 use Rattle.std.specs.List.{filter}
-use Rattle.std.proofs.lemmas.Bool.{eqb-true}
+use Rattle.std.proofs.lemmas.Bool.{cases_Bool, eqb-true}
 use Rattle.audit_model.specs.Bytewise.{cut_at}
 use Rattle.audit_model.specs.Changes.{connection_after}
 use Rattle.audit_model.specs.History.{Effect, History}
@@ -40,11 +40,10 @@ module _ (c : ℕ) (f g : ℕ → Facts) (others : (d : ℕ) → (c == d) ≡ fa
         ∙ sym (ap (λ b. put_connection (connection_of_facts c (g c)) (cond b (connection_of_facts d (f d) ∷ ls) ls)) (ap (λ x. open_in (f x)) (eqb-true d c e) ∙ was)
         ∙ ap (λ b. cond b (connection_of_facts c (g c)) (connection_of_facts d (f d)) ∷ put_connection (connection_of_facts c (g c)) ls) e)
     stay_one d false ls ms e e' r =
-        ap (λ x. cond (open_in x) (connection_of_facts d x ∷ ms) ms) (others d e') ∙ go (open_in (f d))
-      where
-        go : (b : Bool) → cond b (connection_of_facts d (f d) ∷ ms) ms ≡ put_connection (connection_of_facts c (g c)) (cond b (connection_of_facts d (f d) ∷ ls) ls)
-        go true = ap (λ xs. connection_of_facts d (f d) ∷ xs) r ∙ sym (ap (λ b. cond b (connection_of_facts c (g c)) (connection_of_facts d (f d)) ∷ put_connection (connection_of_facts c (g c)) ls) e)
-        go false = r
+        ap (λ x. cond (open_in x) (connection_of_facts d x ∷ ms) ms) (others d e') ∙ (elim (cases_Bool (open_in (f d))) [
+          | inl is ↦ rw is (ap (λ xs. connection_of_facts d (f d) ∷ xs) r ∙ sym (ap (λ b. cond b (connection_of_facts c (g c)) (connection_of_facts d (f d)) ∷ put_connection (connection_of_facts c (g c)) ls) e))
+          | inr is ↦ rw is r
+        ])
 
     pub connections-stay : (ds : List ℕ) → connections_by g ds ≡ put_connection (connection_of_facts c (g c)) (connections_by f ds)
     connections-stay [] = refl

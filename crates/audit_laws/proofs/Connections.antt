@@ -1,10 +1,10 @@
 -- A connection's part of the situation.
-use Rattle.std.proofs.Common.{◌≡◌, refl, ap, ◌∙◌, sym, ℕ, ◌+◌, Bool, true, false, not, ◌&&◌, ◌||◌, cond, List, [], ◌∷◌, ◌++◌, map, Option, Some, None, nat_lt, length, is_some, is_none, arith}
+use Rattle.std.proofs.Common.{inr, inl, ◌≡◌, refl, ap, ◌∙◌, sym, ℕ, ◌+◌, Bool, true, false, not, ◌&&◌, ◌||◌, cond, List, [], ◌∷◌, ◌++◌, map, Option, Some, None, nat_lt, length, is_some, is_none, arith}
 use Rattle.std.specs.Prelude.{◌==◌, unwrap_or}
 use Rattle.std.specs.List.{filter, find, list_any}
 use Rattle.std.specs.Option.{option_map_or}
 use Rattle.std.proofs.lemmas.List.Folds.{list_any-append}
-use Rattle.std.proofs.lemmas.Bool.{eqb-true, eq-eqb}
+use Rattle.std.proofs.lemmas.Bool.{cases_Bool, eqb-true, eq-eqb}
 use Rattle.audit_model.specs.Bytewise.{cut_at}
 use Rattle.audit_model.specs.Commands.{quits}
 use Rattle.audit_model.specs.History.{Effect, History, Opened, Closed, Fed, Settled, Stored, Ran}
@@ -162,11 +162,7 @@ module _ (connection : ℕ → Connection) (number : (c : ℕ) → (connection c
   pub find-connection : (ds : List ℕ) → find (λ l. l.number == c) (map connection (filter runs ds)) ≡ cond (list_any (λ d. d == c) ds && runs c) (Some (connection c)) None
   find-connection [] = refl
   find-connection (d ∷ ds) =
-      mapped (runs d) ∙ step_found d (runs d) (list_any (λ x. x == c) ds) (d == c) (map connection (filter runs ds)) refl refl (find-connection ds)
-    where
-      mapped : (b : Bool) → find (λ l. l.number == c) (map connection (cond b (d ∷ filter runs ds) (filter runs ds))) ≡ find (λ l. l.number == c) (cond b (connection d ∷ map connection (filter runs ds)) (map connection (filter runs ds)))
-      mapped true = refl
-      mapped false = refl
+      (elim (cases_Bool (runs d)) [ inl e ↦ rw e | inr e ↦ rw e ]) ∙ step_found d (runs d) (list_any (λ x. x == c) ds) (d == c) (map connection (filter runs ds)) refl refl (find-connection ds)
 
 pub connection-of : (config : Config) (made : ℕ) (past : History) (c : ℕ) → connection_in c (situation_of config made past) ≡ cond (is_open c past) (Some (connection_from past c)) None
 connection-of config made past c =
@@ -179,11 +175,7 @@ connection-of config made past c =
     again false b = refl
 
 pub open-same : (config : Config) (made : ℕ) (past : History) (c : ℕ) → is_open c past ≡ is_some (connection_in c (situation_of config made past))
-open-same config made past c = sym (ap is_some (connection-of config made past c) ∙ go (is_open c past))
-  where
-    go : (b : Bool) → is_some (cond b (Some (connection_from past c)) None) ≡ b
-    go true = refl
-    go false = refl
+open-same config made past c = sym (ap is_some (connection-of config made past c) ∙ (elim (cases_Bool (is_open c past)) [ inl e ↦ rw e | inr e ↦ rw e ]))
 
 ready_by : (o b n : Bool) (w r : List ℕ) (B : Bool) (l : Connection)
     → l.standing ≡ cond b (Held w) (cond n (Waiting r) Ready) → is_some (first_line l.unread) ≡ B

@@ -1,8 +1,8 @@
 -- Transcripts that obey still do where a feed is cut in two or two are joined.
-use Rattle.std.proofs.Common.{◌≡◌, refl, ap, ◌∙◌, sym, subst, append_assoc, ℕ, Bool, true, false, true≢false, ◌&&◌, cond, List, [], ◌∷◌, ◌++◌, Option, Some, None, is_some, is_none}
+use Rattle.std.proofs.Common.{inr, inl, ◌≡◌, refl, ap, ◌∙◌, sym, subst, append_assoc, ℕ, Bool, true, false, true≢false, ◌&&◌, cond, List, [], ◌∷◌, ◌++◌, Option, Some, None, is_some, is_none}
 use Rattle.std.specs.Prelude.{◌==◌, IsTrue}
 use Rattle.std.specs.List.{list_all}
-use Rattle.std.proofs.lemmas.Bool.{and_parts, and_from}
+use Rattle.std.proofs.lemmas.Bool.{cases_Bool, and_parts, and_from}
 use Rattle.std.proofs.lemmas.List.Folds.{list_all-append}
 use Rattle.std.proofs.lemmas.List.{append-nil}
 use Rattle.std.proofs.lemmas.List.Elements.{filter_map-append}
@@ -71,11 +71,11 @@ module _ (config : Config) where
 
   whole-ran : (t : Traces) (effect : Effect) (n : ℕ) (line : List ℕ) → first_line (bytes_left (t.connection n)) ≡ Some line → (is_held effect ≡ true → is_none effect.reply ≡ true)
       → Whole t → (c : ℕ) → Complete (ran_on effect (t.connection c) (n == c))
-  whole-ran t effect n line l silent w c = go (n == c) refl
-    where
-      go : (b : Bool) → (n == c) ≡ b → Complete (ran_on effect (t.connection c) b)
-      go true e = complete-after (t.connection c) effect line silent (ap (λ d. first_line (bytes_left (t.connection d))) (sym (eqb-true n c e)) ∙ l) (w c)
-      go false e = subst Complete (sym (ran-other effect (t.connection c) false refl)) (w c)
+  whole-ran t effect n line l silent w c =
+      elim (cases_Bool (n == c)) [
+        | inl is ↦ rw is (complete-after (t.connection c) effect line silent (ap (λ d. first_line (bytes_left (t.connection d))) (sym (eqb-true n c is)) ∙ l) (w c))
+        | inr is ↦ rw is (subst Complete (sym (ran-other effect (t.connection c) false refl)) (w c))
+      ]
 
   silent-of : (t : Traces) (o : Option Task) (x : Step) → is_right config (placed_by config t o x) ≡ true → is_held (effect_by config t o x) ≡ true → is_none (effect_by config t o x).reply ≡ true
   silent-of t o x r =

@@ -1,9 +1,9 @@
 -- A feed cut in two, by what histories say of what is to come.
-use Rattle.std.proofs.Common.{◌≡◌, refl, ap, ◌∙◌, sym, subst, ℕ, max, Bool, true, false, true≢false, not, ◌&&◌, ◌||◌, cond, List, [], ◌∷◌, ◌++◌, append_assoc, length, Option, Some, None, is_some, is_none, nat_lt, arith, zero-add}
+use Rattle.std.proofs.Common.{inr, inl, ◌≡◌, refl, ap, ◌∙◌, sym, subst, ℕ, max, Bool, true, false, true≢false, not, ◌&&◌, ◌||◌, cond, List, [], ◌∷◌, ◌++◌, append_assoc, length, Option, Some, None, is_some, is_none, nat_lt, arith, zero-add}
 use Rattle.std.specs.Prelude.{◌==◌, Ok, Err}
 use Rattle.std.specs.List.{list_all}
 use Rattle.std.proofs.Math.Path.{fun_ext}
-use Rattle.std.proofs.lemmas.Bool.{and_parts, and_from, eqb-true}
+use Rattle.std.proofs.lemmas.Bool.{not-true, cases_Bool, and_parts, and_from, eqb-true}
 use Rattle.audit_model.specs.Bytewise.{is_empty, cut_at}
 use Rattle.audit_model.specs.Grammar.{Reading, reading}
 use Rattle.audit_model.specs.History.{Happening, Opened, Closed, Fed, Settled, Stored, Ran, Effect, Holding}
@@ -27,10 +27,6 @@ use Rattle.audit_laws.proofs.Traces.{Traces, ran_on, then_traces, may_by, line_b
 
 abbrev pub runs_by : Facts → Bool
 runs_by f = open_in f && not (last_is is_waiting f.effect) && not (last_is is_held f.effect) && is_some (first_line (unread_in f))
-
-not-true : (b : Bool) → not b ≡ true → b ≡ false
-not-true true e = absurd (true≢false (sym e))
-not-true false e = refl
 
 pub unread-more : (f : Facts) (rest : List ℕ) → Complete f → unread_in (with_bytes rest f) ≡ unread_in f ++ rest
 unread-more f rest h = ap (λ c. c.unread) (connection-fed 0 rest f h)
@@ -328,11 +324,7 @@ module _ (config : Config) (conn : ℕ) where
 
     pub join-lines : (first second : List Step) (t : Traces) → Good t → Unheld t → none_held first ≡ true → Right (walk_by config t (RunLines conn ∷ []) first) → is_empty (walk_by config t (RunLines conn ∷ []) first).left ≡ true
         → InTwo (own t).opened (walk_by config (more t) (RunLines conn ∷ []) (first ++ second)) (walk_by config t (RunLines conn ∷ []) first) second
-    join-lines [] second t g u none r l = go (may_by config t conn) refl
-      where
-        go : (b : Bool) → may_by config t conn ≡ b → InTwo (own t).opened (walk_by config (more t) (RunLines conn ∷ []) second) (walk_by config t (RunLines conn ∷ []) []) second
-        go true may = absurd (true≢false (sym l ∙ lines_left t may))
-        go false may = here t second g u may
+    join-lines [] second t g u none r l = elim (cases_Bool (may_by config t conn)) [ inl e ↦ absurd (true≢false (sym l ∙ lines_left t e)) | inr e ↦ here t second g u e ]
     join-lines (x ∷ first) second t g u none r l = go (may_by config t conn) refl (λ s. join-lines first second s)
       where
         go : (b : Bool) → may_by config t conn ≡ b
@@ -389,18 +381,16 @@ module _ (config : Config) (conn : ℕ) where
 
     cut-lines : (steps : List Step) (t : Traces) → Good t → Unheld t → none_held steps ≡ true → Right (walk_by config (more t) (RunLines conn ∷ []) steps) → is_empty (walk_by config (more t) (RunLines conn ∷ []) steps).left ≡ true
         → Cut t (RunLines conn ∷ []) steps
-    cut-lines [] t g u none r l = go (may_by config t conn) refl
-      where
-        go : (b : Bool) → may_by config t conn ≡ b → Cut t (RunLines conn ∷ []) []
-        go true may = absurd (true≢false (sym l ∙ lines_left (more t) (may-more t g.complete may)))
-        go false may = record { first = []; second = []; in_parts = refl; two = here t [] g u may }
-    cut-lines (x ∷ steps) t g u none r l = go (may_by config t conn) refl (λ s a b. cut-lines steps s a b (and_parts (not x.held) (none_held steps) none).1)
-      where
-        go : (b : Bool) → may_by config t conn ≡ b
-            → ((s : Traces) → Good s → Unheld s → Right (walk_by config (more s) (RunLines conn ∷ []) steps) → is_empty (walk_by config (more s) (RunLines conn ∷ []) steps).left ≡ true → Cut s (RunLines conn ∷ []) steps)
-            → Cut t (RunLines conn ∷ []) (x ∷ steps)
-        go false may ih = record { first = []; second = x ∷ steps; in_parts = refl; two = here t (x ∷ steps) g u may }
-        go true may ih = cut-on false t x steps (λ z. may) (λ z. may-more t g.complete may) g (came-lines t may) (unheld-first x steps none) r l ih
+    cut-lines [] t g u none r l =
+        elim (cases_Bool (may_by config t conn)) [
+          | inl e ↦ absurd (true≢false (sym l ∙ lines_left (more t) (may-more t g.complete e)))
+          | inr e ↦ record { first = []; second = []; in_parts = refl; two = here t [] g u e }
+        ]
+    cut-lines (x ∷ steps) t g u none r l =
+        elim (cases_Bool (may_by config t conn)) [
+          | inl e ↦ cut-on false t x steps (λ z. e) (λ z. may-more t g.complete e) g (came-lines t e) (unheld-first x steps none) r l (λ s a b. cut-lines steps s a b (and_parts (not x.held) (none_held steps) none).1)
+          | inr e ↦ record { first = []; second = x ∷ steps; in_parts = refl; two = here t (x ∷ steps) g u e }
+        ]
 
     pub cut-steps : (held : Bool) (steps : List Step) (t : Traces) → Good t → last_is is_held (own t).effect ≡ held → none_held steps ≡ true
         → Right (walk_by config (more t) (tasks_to_feed conn held) steps) → is_empty (walk_by config (more t) (tasks_to_feed conn held) steps).left ≡ true

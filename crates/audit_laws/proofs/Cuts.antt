@@ -20,17 +20,14 @@ use Rattle.audit_laws.specs.Laws.{FeedsMayBeCut}
 use Rattle.audit_laws.specs.Placing.{placed_steps_in, placed_in}
 use Rattle.audit_laws.proofs.Following.{Passed, passed}
 use Rattle.audit_laws.proofs.FedMore.{Body, own-is, sit, more, IsDue}
-use Rattle.audit_laws.proofs.FedTwice.{Ground, InTwo, InOne, cut-lines, cut-held, join-lines, join-held, some_same}
+use Rattle.audit_laws.proofs.FedTwice.{Ground, InTwo, InOne, cut-lines, cut-held, join-lines, join-held}
+use Rattle.std.proofs.lemmas.Bool.Decides.{nat_tests}
 
 -- ---- what a feed asks for
 
 found : (p : Connection → Bool) (cs : List Connection) (c : Connection) → find p cs ≡ Some c → p c ≡ true
 found p [] c e = absurd (true≢false (sym (ap is_some e)))
-found p (x ∷ cs) c e = go (found p cs c) (p x) refl e
-  where
-    go : (find p cs ≡ Some c → p c ≡ true) → (b : Bool) → p x ≡ b → cond b (Some x) (find p cs) ≡ Some c → p c ≡ true
-    go later true k e = ap p (sym (some_same x c e)) ∙ k
-    go later false k e = later e
+found p (x ∷ cs) c e = let next = found p cs c in grind (arith, nat_tests, next, e)
 
 refused_by : (w o : Bool) (r : Option ServiceError) → is_none (option_or (option_or (refusal_where (not w) error.NoConnection) (refusal_where (not o) error.Closed)) r) ≡ true
     → (w ≡ true) × (o ≡ true) × (is_none r ≡ true)

@@ -1,14 +1,14 @@
 -- A connection with more bytes behind the unread ones.
-use Rattle.std.proofs.Common.{◌≡◌, refl, ap, ◌∙◌, sym, ℕ, ◌≤◌, Bool, true, false, true≢false, not, ◌&&◌, ◌||◌, cond, List, [], ◌∷◌, ◌++◌, map, length, Option, Some, None, is_some, nat_lt, arith}
+use Rattle.std.proofs.Common.{inr, inl, ◌≡◌, refl, ap, ◌∙◌, sym, ℕ, ◌≤◌, Bool, true, false, true≢false, not, ◌&&◌, ◌||◌, cond, List, [], ◌∷◌, ◌++◌, map, length, Option, Some, None, is_some, nat_lt, arith}
 use Rattle.std.specs.Prelude.{◌==◌}
 use Rattle.std.specs.List.{find}
 use Rattle.std.specs.Option.{option_map_or}
-use Rattle.std.proofs.lemmas.Bool.{eqb-true}
+use Rattle.std.proofs.lemmas.Bool.{cases_Bool, eqb-true}
 use Rattle.std.proofs.lemmas.Bool.Decides.{nat_tests}
 use Rattle.std.proofs.Common.{length-append}
 use Rattle.audit_model.specs.Bytewise.{cut_at}
 use Rattle.audit_model.specs.Situation.{Situation, Connection, Standing, Ready, Held, Waiting, connection_in, may_run_in, is_ready, is_holding, is_holding_in, is_waiting_now, is_overlong, without_waiting, without_number, with_connection}
-use Rattle.audit_model.specs.Stream.{without_return, first_line}
+use Rattle.audit_model.specs.Stream.{first_line}
 use Rattle.audit_laws.proofs.Connections.{eqb-self}
 use Rattle.audit_laws.proofs.LinesRead.{cut-more, first_line-more}
 
@@ -33,11 +33,7 @@ cut-longer (b ∷ bs) ys = cut_length b (b == 10) bs (bs ++ ys) (cut_at 10 bs) (
 
 -- there is a first line where there is a line feed
 pub has_line : (xs : List ℕ) → is_some (first_line xs) ≡ is_some (cut_at 10 xs).1
-has_line xs = go (is_some (cut_at 10 xs).1)
-  where
-    go : (b : Bool) → is_some (cond b (Some (without_return (cut_at 10 xs).0)) None) ≡ b
-    go true = refl
-    go false = refl
+has_line xs = grind (arith, nat_tests)
 
 over_more : (m n : ℕ) → m ≤ n → nat_lt 8192 m ≡ true → nat_lt 8192 n ≡ true
 over_more m n h e = grind (arith, nat_tests)
@@ -156,11 +152,7 @@ module _ (conn : ℕ) where
 
   -- it is found where it does not close
   pub in-sit : (q : Bool) (d : Body) (u : Situation) → is_some (connection_in conn u) ≡ true → connection_in conn (sit q d u) ≡ cond (closes q d) None (Some (own d))
-  in-sit q d u h = go (closes q d)
-    where
-      go : (b : Bool) → connection_in conn (where_closed b d u) ≡ cond b None (Some (own d))
-      go true = in-shut u
-      go false = in-opened d u h
+  in-sit q d u h = elim (cases_Bool (closes q d)) [ inl e ↦ rw e (in-shut u) | inr e ↦ rw e (in-opened d u h) ]
 
   -- one of its lines may run
   abbrev pub runs : Body → Bool
@@ -168,19 +160,11 @@ module _ (conn : ℕ) where
 
   -- its line may run where it does not close and has one
   pub may-sit : (q : Bool) (d : Body) (u : Situation) → is_some (connection_in conn u) ≡ true → may_run_in (sit q d u) conn ≡ (not (closes q d) && runs d)
-  may-sit q d u h = ap (λ o. option_map_or (λ c. is_ready c.standing && is_some (first_line c.unread)) o false) (in-sit q d u h) ∙ go (closes q d)
-    where
-      go : (b : Bool) → option_map_or (λ c. is_ready c.standing && is_some (first_line c.unread)) (cond b None (Some (own d))) false ≡ (not b && runs d)
-      go true = refl
-      go false = refl
+  may-sit q d u h = ap (λ o. option_map_or (λ c. is_ready c.standing && is_some (first_line c.unread)) o false) (in-sit q d u h) ∙ (elim (cases_Bool (closes q d)) [ inl e ↦ rw e | inr e ↦ rw e ])
 
   -- it holds nothing back where its standing does not
   pub holding-sit : (q : Bool) (d : Body) (u : Situation) → is_some (connection_in conn u) ≡ true → is_holding d.standing ≡ false → is_holding_in (sit q d u) conn ≡ false
-  holding-sit q d u h e = ap (λ o. option_map_or (λ c. is_holding c.standing) o false) (in-sit q d u h) ∙ go (closes q d)
-    where
-      go : (b : Bool) → option_map_or (λ c. is_holding c.standing) (cond b None (Some (own d))) false ≡ false
-      go true = refl
-      go false = e
+  holding-sit q d u h e = ap (λ o. option_map_or (λ c. is_holding c.standing) o false) (in-sit q d u h) ∙ (elim (cases_Bool (closes q d)) [ inl is ↦ rw is | inr is ↦ rw is e ])
 
   -- ---- with more bytes
 

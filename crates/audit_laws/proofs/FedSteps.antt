@@ -1,14 +1,14 @@
 -- A step of a connection, with more bytes behind the unread ones.
-use Rattle.std.proofs.Common.{◌≡◌, refl, ap, ◌∙◌, sym, ℕ, Bool, true, false, true≢false, ◌||◌, cond, List, [], ◌∷◌, ◌++◌, map, Option, Some, None, is_some}
+use Rattle.std.proofs.Common.{inr, inl, ◌≡◌, refl, ap, ◌∙◌, sym, ℕ, Bool, true, false, true≢false, ◌||◌, cond, List, [], ◌∷◌, ◌++◌, map, Option, Some, None, is_some}
 use Rattle.std.specs.Prelude.{Ok, Err}
 use Rattle.std.specs.Option.{option_map_or}
-use Rattle.std.proofs.lemmas.Bool.{eqb-true}
+use Rattle.std.proofs.lemmas.Bool.{cases_Bool, eqb-true}
 use Rattle.audit_model.specs.Changes.{left_held, all_held_after, connection_after, join_by, join_load, after_step}
 use Rattle.audit_model.specs.Commands.{deed_of, drops, quits}
 use Rattle.audit_model.specs.Follows.{line_in, placed_step_in, after_steps}
 use Rattle.audit_model.specs.Grammar.{Reading, reading}
 use Rattle.audit_model.specs.Bytewise.{is_empty}
-use Rattle.audit_model.specs.History.{Effect, Holding}
+use Rattle.audit_model.specs.History.{Effect}
 use Rattle.audit_model.specs.Loads.{key_loaded}
 use Rattle.audit_model.specs.Places.{first_due, left_after, tasks_to_feed}
 use Rattle.audit_model.specs.Situation.{Situation, Connection, Standing, Ready, Held, Waiting, connection_in, may_run_in, is_holding, with_connection, view_in}
@@ -194,11 +194,11 @@ module _ (config : Config) (conn : ℕ) where
 
   -- a step that is not held back leaves nothing held
   pub next-unheld : (held : Bool) (x : Step) (u : Situation) (d : Body) → x.held ≡ false → is_holding (next held x (effect_at u x) d).standing ≡ false
-  next-unheld held x u d e = stands-by (is_held (effect_at u x)) (is_waiting (effect_at u x)) x.line (go x.held e)
-    where
-      go : (b : Bool) → b ≡ false → is_held (effect_in config (view_in config u) (cond b Holding (action_by (reading config x.line))) x) ≡ false
-      go true e = absurd (true≢false e)
-      go false e = unheld_by (reading config x.line) (effect_in config (view_in config u) (action_by (reading config x.line)) x) x.line
+  next-unheld held x u d e =
+      stands-by (is_held (effect_at u x)) (is_waiting (effect_at u x)) x.line ((elim (cases_Bool x.held) [
+        | inl is ↦ rw is (absurd (true≢false (rw is at e)))
+        | inr is ↦ rw is (unheld_by (reading config x.line) (effect_in config (view_in config u) (action_by (reading config x.line)) x) x.line)
+      ]))
 
   -- ---- the first of the steps that a feed makes due
 

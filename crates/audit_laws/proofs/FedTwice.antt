@@ -3,7 +3,7 @@ use Rattle.std.proofs.Common.{◌≡◌, refl, ap, ◌∙◌, sym, subst, ℕ, B
 use Rattle.std.specs.Prelude.{◌==◌}
 use Rattle.std.specs.List.{find}
 use Rattle.std.specs.Option.{option_map_or}
-use Rattle.std.proofs.lemmas.Bool.{and_parts, and_from}
+use Rattle.std.proofs.lemmas.Bool.{not-true, cases_Bool, and_parts, and_from}
 use Rattle.audit_model.specs.Follows.{after_event, after_steps, placed_step_in, tasks_in}
 use Rattle.audit_model.specs.Commands.{quits}
 use Rattle.audit_model.specs.Changes.{after_step}
@@ -23,10 +23,6 @@ use Rattle.audit_laws.proofs.FedSteps.{task_of, effect_at, apart, apart-alike, n
 -- what stands in two equal options
 pub some_same : {X : Type 0} (x y : X) → Some x ≡ Some y → x ≡ y
 some_same x y e = cc
-
-not-true : (b : Bool) → not b ≡ true → b ≡ false
-not-true true e = absurd (true≢false (sym e))
-not-true false e = refl
 
 module _ (config : Config) (conn : ℕ) (moment : Instant) (rest : List ℕ) where
   -- the connection is among those that are open, and the moment has come
@@ -114,13 +110,11 @@ module _ (config : Config) (conn : ℕ) (moment : Instant) (rest : List ℕ) whe
       no-more (x ∷ steps) s t may e = absurd (true≢false (sym (ap is_some (sym (none-due config conn s x steps may) ∙ e))))
 
       ends-here : (steps : List Step) (t : Situation) → after_steps config (greater q d u) (RunLines conn ∷ []) steps ≡ Some t → Ends (lesser q d u) steps t
-      ends-here steps t e = go (closes conn q d) refl
-        where
-          go : (b : Bool) → closes conn q d ≡ b → Ends (lesser q d u) steps t
-          go true c =
-              let last = no-more steps (lesser q d u) t (shut-may c) (ap (λ s. after_steps config s (RunLines conn ∷ []) steps) (sym (shut-greater c)) ∙ e) in
-              inl (in-sit conn q d u g.there ∙ ap (λ b. cond b None (Some (own conn d))) c, last.0, last.1)
-          go false c = inr (ap is_some (in-sit conn q d u g.there ∙ ap (λ b. cond b None (Some (own conn d))) c), ends-same c steps ∙ e)
+      ends-here steps t e =
+          elim (cases_Bool (closes conn q d)) [
+            | inl is ↦ let last = no-more steps (lesser q d u) t (shut-may is) (ap (λ s. after_steps config s (RunLines conn ∷ []) steps) (sym (shut-greater is)) ∙ e) in inl (in-sit conn q d u g.there ∙ ap (λ b. cond b None (Some (own conn d))) is, last.0, last.1)
+            | inr is ↦ inr (ap is_some (in-sit conn q d u g.there ∙ ap (λ b. cond b None (Some (own conn d))) is), ends-same is steps ∙ e)
+          ]
 
       -- the whole feed's steps and places from there
       pub record GoesOn (second : List Step) (t : Situation) : Type 0 where
@@ -129,25 +123,16 @@ module _ (config : Config) (conn : ℕ) (moment : Instant) (rest : List ℕ) whe
             ≡ placed_steps_in config (then_fed (lesser q d u)) (tasks_in (lesser q d u) (event.Feed conn rest moment)) second
 
       goes-on : (second : List Step) (t : Situation) → Ends (lesser q d u) second t → GoesOn second t
-      goes-on second t (inl h) = go (closes conn q d) refl
-        where
-          go : (b : Bool) → closes conn q d ≡ b → GoesOn second t
-          go true c =
-              record {
-                leads =
-                    ap (λ s. after_steps config s (RunLines conn ∷ []) second) (shut-greater c)
-                    ∙ ap (after_steps config (lesser q d u) (RunLines conn ∷ [])) h.1
-                    ∙ at-end config conn (lesser q d u) ∙ ap (λ b. cond b None (Some (lesser q d u))) (shut-may c) ∙ ap Some h.2;
-                places =
-                    ap (placed_steps_in config (greater q d u) (RunLines conn ∷ [])) h.1
-                    ∙ sym (ap (placed_steps_in config (then_fed (lesser q d u)) (tasks_in (lesser q d u) (event.Feed conn rest moment))) h.1);
-              }
-          go false c = absurd (true≢false (ap is_some (sym (in-sit conn q d u g.there ∙ ap (λ b. cond b None (Some (own conn d))) c) ∙ h.0)))
-      goes-on second t (inr h) = go (closes conn q d) refl
-        where
-          go : (b : Bool) → closes conn q d ≡ b → GoesOn second t
-          go true c = absurd (true≢false (sym h.0 ∙ ap is_some (in-sit conn q d u g.there ∙ ap (λ b. cond b None (Some (own conn d))) c)))
-          go false c = record { leads = sym (ends-same c second) ∙ h.1; places = sym (places-same c second) }
+      goes-on second t (inl h) =
+          elim (cases_Bool (closes conn q d)) [
+            | inl e ↦ record { leads = ap (λ s. after_steps config s (RunLines conn ∷ []) second) (shut-greater e) ∙ ap (after_steps config (lesser q d u) (RunLines conn ∷ [])) h.1 ∙ at-end config conn (lesser q d u) ∙ ap (λ b. cond b None (Some (lesser q d u))) (shut-may e) ∙ ap Some h.2; places = ap (placed_steps_in config (greater q d u) (RunLines conn ∷ [])) h.1 ∙ sym (ap (placed_steps_in config (then_fed (lesser q d u)) (tasks_in (lesser q d u) (event.Feed conn rest moment))) h.1) }
+            | inr e ↦ absurd (true≢false (ap is_some (sym (in-sit conn q d u g.there ∙ ap (λ b. cond b None (Some (own conn d))) e) ∙ h.0)))
+          ]
+      goes-on second t (inr h) =
+          elim (cases_Bool (closes conn q d)) [
+            | inl e ↦ absurd (true≢false (sym h.0 ∙ ap is_some (in-sit conn q d u g.there ∙ ap (λ b. cond b None (Some (own conn d))) e)))
+            | inr e ↦ record { leads = sym (ends-same e second) ∙ h.1; places = sym (places-same e second) }
+          ]
 
   held-open : (d : Body) → IsDue conn rest true d.standing d.unread → closes conn false d ≡ false
   held-open d h = go d.standing h
@@ -216,11 +201,11 @@ module _ (config : Config) (conn : ℕ) (moment : Instant) (rest : List ℕ) whe
   -- the lines of a feed in two parts
   pub cut-lines : (steps : List Step) (q : Bool) (d : Body) (u : Situation) (t : Situation) → Ground u → is_holding d.standing ≡ false → none_held steps ≡ true
       → after_steps config (greater q d u) (RunLines conn ∷ []) steps ≡ Some t → InTwo false q d u steps t
-  cut-lines [] q d u t g unheld none e = go (may_run_in (lesser q d u) conn) refl
-    where
-      go : (b : Bool) → may_run_in (lesser q d u) conn ≡ b → InTwo false q d u [] t
-      go true may = absurd (true≢false (sym (ap is_some (sym (at-end config conn (greater q d u) ∙ ap (λ b. cond b None (Some (greater q d u))) (may-greater u g q d may)) ∙ e))))
-      go false may = cut-here q d u [] t g unheld may e
+  cut-lines [] q d u t g unheld none e =
+      elim (cases_Bool (may_run_in (lesser q d u) conn)) [
+        | inl is ↦ absurd (true≢false (sym (ap is_some (sym (at-end config conn (greater q d u) ∙ ap (λ b. cond b None (Some (greater q d u))) (may-greater u g q d is)) ∙ e))))
+        | inr is ↦ cut-here q d u [] t g unheld is e
+      ]
   cut-lines (x ∷ steps) q d u t g unheld none e =
       go (may_run_in (lesser q d u) conn) refl (λ p c v k w o. cut-lines steps p c v t k w (and_parts (not x.held) (none_held steps) none).1 o)
     where
@@ -276,14 +261,11 @@ module _ (config : Config) (conn : ℕ) (moment : Instant) (rest : List ℕ) whe
   -- the lines of two feeds in one
   pub join-lines : (first : List Step) (q : Bool) (d : Body) (u : Situation) (second : List Step) (middle t : Situation) → Ground u → is_holding d.standing ≡ false → none_held first ≡ true
       → after_steps config (lesser q d u) (RunLines conn ∷ []) first ≡ Some middle → Ends middle second t → InOne false q d u first second middle t
-  join-lines [] q d u second middle t g unheld none e ends = go (may_run_in (lesser q d u) conn) refl
-    where
-      go : (b : Bool) → may_run_in (lesser q d u) conn ≡ b → InOne false q d u [] second middle t
-      go true may = absurd (true≢false (sym (ap is_some (sym (at-end config conn (lesser q d u) ∙ ap (λ b. cond b None (Some (lesser q d u))) may) ∙ e))))
-      go false may =
-          let is : lesser q d u ≡ middle = some_same (lesser q d u) middle (sym (at-end config conn (lesser q d u) ∙ ap (λ b. cond b None (Some (lesser q d u))) may) ∙ e) in
-          let on : GoesOn u g q d unheld second t = goes-on u g q d unheld second t (subst (λ s. Ends s second t) (sym is) ends) in
-          record { leads = on.leads; places = on.places ∙ ap (λ s. placed_steps_in config (then_fed s) (tasks_in s (event.Feed conn rest moment)) second) is }
+  join-lines [] q d u second middle t g unheld none e ends =
+      elim (cases_Bool (may_run_in (lesser q d u) conn)) [
+        | inl h ↦ absurd (true≢false (sym (ap is_some (sym (at-end config conn (lesser q d u) ∙ ap (λ b. cond b None (Some (lesser q d u))) h) ∙ e))))
+        | inr h ↦ let is : lesser q d u ≡ middle = some_same (lesser q d u) middle (sym (at-end config conn (lesser q d u) ∙ ap (λ b. cond b None (Some (lesser q d u))) h) ∙ e) in let on : GoesOn u g q d unheld second t = goes-on u g q d unheld second t (subst (λ s. Ends s second t) (sym is) ends) in record { leads = on.leads; places = on.places ∙ ap (λ s. placed_steps_in config (then_fed s) (tasks_in s (event.Feed conn rest moment)) second) is }
+      ]
   join-lines (x ∷ first) q d u second middle t g unheld none e ends =
       go (may_run_in (lesser q d u) conn) refl (λ p c v k w o. join-lines first p c v second middle t k w (and_parts (not x.held) (none_held first) none).1 o ends)
     where

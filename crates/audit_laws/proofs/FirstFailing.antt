@@ -1,7 +1,7 @@
 -- The first number that fails a test, among k numbers behind m.
-use Rattle.std.proofs.Common.{◌≡◌, refl, ap, ◌∙◌, ℕ, zero, suc, ◌+◌, ◌<◌, ◌≤◌, Bool, true, false, cond, Option, Some, None, nat_le, arith}
+use Rattle.std.proofs.Common.{◌≡◌, refl, ◌∙◌, ℕ, zero, suc, ◌+◌, ◌<◌, ◌≤◌, Bool, true, false, cond, Option, Some, None, arith}
 use Rattle.std.specs.Option.{option_or}
-use Rattle.std.proofs.lemmas.Bool.{leb-true, leb-false}
+use Rattle.std.proofs.lemmas.Bool.Decides.{nat_tests}
 
 abbrev pub first_from : (ℕ → Bool) → ℕ → ℕ → Option ℕ
 first_from p m zero = None
@@ -18,12 +18,7 @@ later-sum m (suc k) = later-sum (suc m) k ∙ omega arith
 -- the last number apart
 pub first_from-last : (p : ℕ → Bool) (m k : ℕ) → first_from p m (suc k) ≡ option_or (first_from p m k) (cond (p (suc (later m k))) None (Some (suc (later m k))))
 first_from-last p m zero = refl
-first_from-last p m (suc k) = go (p (suc m)) (first_from-last p (suc m) k)
-  where
-    go : (b : Bool) → first_from p (suc m) (suc k) ≡ option_or (first_from p (suc m) k) (cond (p (suc (later (suc m) k))) None (Some (suc (later (suc m) k))))
-        → cond b (first_from p (suc m) (suc k)) (Some (suc m)) ≡ option_or (cond b (first_from p (suc m) k) (Some (suc m))) (cond (p (suc (later (suc m) k))) None (Some (suc (later (suc m) k))))
-    go true e = e
-    go false e = refl
+first_from-last p m (suc k) = let next = first_from-last p (suc m) k in grind (arith, nat_tests, next)
 
 pub record First (p : ℕ → Bool) (m k n : ℕ) : Type 0 where
   pub above : m < n
@@ -37,20 +32,8 @@ Finds p m k None = (j : ℕ) → m < j → j ≤ m + k → p j ≡ true
 Finds p m k (Some n) = First p m k n
 
 next-one : (p : ℕ → Bool) (m : ℕ) (j : ℕ) → p (suc m) ≡ true → m < j → (suc m < j → p j ≡ true) → p j ≡ true
-next-one p m j here above later = go (nat_le j (suc m)) refl
-  where
-    go : (b : Bool) → nat_le j (suc m) ≡ b → p j ≡ true
-    go true e = let low = leb-true j (suc m) e in let is : j ≡ suc m = omega arith in ap p is ∙ here
-    go false e = later (leb-false j (suc m) e)
+next-one p m j here above later = grind (arith, nat_tests)
 
 pub finds-from : (p : ℕ → Bool) (k m : ℕ) → Finds p m k (first_from p m k)
 finds-from p zero m = λ j above within. absurd (omega arith)
-finds-from p (suc k) m = go (p (suc m)) refl (first_from p (suc m) k) (finds-from p k (suc m))
-  where
-    go : (b : Bool) → p (suc m) ≡ b → (o : Option ℕ) → Finds p (suc m) k o → Finds p m (suc k) (cond b o (Some (suc m)))
-    go true e None f = λ j above within. next-one p m j e above (λ l. f j l (omega arith))
-    go true e (Some n) f =
-        let low = f.above in
-        let high = f.within in
-        record { above = omega arith; within = omega arith; fails = f.fails; before = λ j above below. next-one p m j e above (λ l. f.before j l below) }
-    go false e o f = record { above = omega arith; within = omega arith; fails = e; before = λ j above below. absurd (omega arith) }
+finds-from p (suc k) m = let next = first_from p (suc m) k in let next2 = finds-from p k (suc m) in grind (arith, nat_tests, next, next2)

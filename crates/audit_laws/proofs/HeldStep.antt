@@ -1,5 +1,5 @@
 -- The values that a step leaves, as the history says.
-use Rattle.std.proofs.Common.{◌≡◌, refl, ap, ◌∙◌, sym, ℕ, Bool, true, false, not, ◌&&◌, ◌||◌, cond, List, [], ◌∷◌, ◌++◌, map, Option, Some, None}
+use Rattle.std.proofs.Common.{inr, inl, ◌≡◌, refl, ap, ◌∙◌, sym, ℕ, Bool, true, false, not, ◌&&◌, ◌||◌, cond, List, [], ◌∷◌, ◌++◌, map, Option, Some, None}
 use Rattle.std.specs.Prelude.{is_some}
 use Rattle.std.specs.List.{find, list_any}
 use Rattle.std.specs.Option.{option_map, option_to_list}
@@ -19,6 +19,7 @@ use Rattle.audit_model.specs.Values.{deadline, has_come, is_value_of, accepts, l
 use Rattle.audit_model.specs.View.{Candidate}
 use Rattle.audit_model.specs.declared.config.Config.{Config}
 use Rattle.audit_laws.proofs.StepReads.{Reads}
+use Rattle.std.proofs.lemmas.Bool.{cases_Bool}
 
 -- a value held is its key's last accepted one, and no `DEL` of the key came since
 pub record Stands (past : History) (v : Value) : Type 0 where
@@ -30,11 +31,11 @@ same-refl key = (bytes_eq-Decides key key).1 refl
 
 -- ---- small facts on tests
 
-is_some-cond : (b : Bool) (v : Value) → is_some (cond b (Some v) None) ≡ b
+pub is_some-cond : {X : Type 0} (b : Bool) (v : X) → is_some (cond b (Some v) None) ≡ b
 is_some-cond true v = refl
 is_some-cond false v = refl
 
-cond_same : {X : Type 0} (b : Bool) (x : X) → cond b x x ≡ x
+pub cond_same : {X : Type 0} (b : Bool) (x : X) → cond b x x ≡ x
 cond_same true x = refl
 cond_same false x = refl
 
@@ -43,13 +44,9 @@ anew true t w = refl
 anew false true w = refl
 anew false false w = refl
 
-found_in : {X Y : Type 0} (f : X → Y) (b : Bool) (x : X) (o : Option Y) (q : Option X) → o ≡ option_map f q → cond b (Some (f x)) o ≡ option_map f (cond b (Some x) q)
-found_in f true x o q e = refl
-found_in f false x o q e = e
-
 pub find-map : {X Y : Type 0} (f : X → Y) (p : Y → Bool) (xs : List X) → find p (map f xs) ≡ option_map f (find (λ x. p (f x)) xs)
 find-map f p [] = refl
-find-map f p (x ∷ xs) = found_in f (p (f x)) x (find p (map f xs)) (find (λ y. p (f y)) xs) (find-map f p xs)
+find-map f p (x ∷ xs) = elim (cases_Bool (p (f x))) [ inl e ↦ rw e | inr e ↦ rw e (find-map f p xs) ]
 
 pub list_any-same : {X : Type 0} (p q : X → Bool) (xs : List X) → ((x : X) → p x ≡ q x) → list_any p xs ≡ list_any q xs
 list_any-same p q [] e = refl

@@ -2,7 +2,7 @@
 use Rattle.std.proofs.Common.{◌≡◌, refl, ap, ◌∙◌, sym, subst, ℕ, Bool, true, false, true≢false, not, ◌&&◌, cond, List, [], ◌∷◌, ◌++◌, map, Option, Some, None, is_some, is_none, nat_lt, length, ◌||◌}
 use Rattle.std.specs.Prelude.{◌==◌}
 use Rattle.std.specs.List.{filter}
-use Rattle.std.proofs.lemmas.Bool.{and_parts}
+use Rattle.std.proofs.lemmas.Bool.{not-true, cond_both, and_parts}
 use Rattle.std.proofs.lemmas.List.{append-nil}
 use Rattle.audit_laws.proofs.Connections.{last_is}
 use Rattle.audit_model.specs.Bytewise.{cut_at}
@@ -15,7 +15,7 @@ use Rattle.audit_model.specs.declared.event.Event.{Event}
 use Rattle.audit_model.specs.declared.event.Event.TheVariants as event
 use Rattle.audit_model.specs.declared.event.Outcome.{Outcome}
 use Rattle.audit_model.specs.declared.command.Closing.TheVariants as by
-use Rattle.audit_laws.proofs.Told.{Each, each-append, each-more, each-both, each-map}
+use Rattle.audit_laws.proofs.Told.{each-passed, each-filter, Each, each-append, each-more, each-both, each-map}
 use Rattle.audit_laws.proofs.Connections.{Facts, facts, open_in, closing_in, unread_in, facts-ran, facts-own}
 use Rattle.audit_laws.proofs.ConnectionSteps.{eqb-turned}
 use Rattle.audit_laws.proofs.Changes.{IsOpen, open-parts}
@@ -26,7 +26,7 @@ use Rattle.std.proofs.Math.Bool.{or-true}
 use Rattle.audit_laws.proofs.Connections.{eqb-self}
 use Rattle.audit_laws.proofs.PendingLoads.{each-any}
 use Rattle.audit_laws.proofs.Leaving.{NotJoined, Distinct, is_in, of_each, away-ran, away-settled}
-use Rattle.audit_laws.proofs.Sound.{Sound, Admitted, each-filter}
+use Rattle.audit_laws.proofs.Sound.{Sound, Admitted}
 use Rattle.audit_laws.proofs.LinesRead.{facts-own_fed, with_bytes}
 
 abbrev pub Awaits : History → Task → Type 0
@@ -62,14 +62,9 @@ pub record InOrder (past : History) (tasks : List Task) : Type 0 where
 pub rest-in_order : (past : History) (task : Task) (tasks : List Task) → InOrder past (task ∷ tasks) → InOrder past tasks
 rest-in_order past task tasks h = record { awaits = h.awaits.1; apart = h.apart.1 }
 
-due_one : (past : History) (runs : ℕ → Bool) (c : ℕ) (tasks : List Task) (b : Bool) → InOrder past (RunLines c ∷ tasks) → InOrder past (due runs tasks)
-    → InOrder past (cond b (RunLines c ∷ tasks) (due runs tasks))
-due_one past runs c tasks true h k = h
-due_one past runs c tasks false h k = k
-
 pub due-in_order : (past : History) (runs : ℕ → Bool) (tasks : List Task) → InOrder past tasks → InOrder past (due runs tasks)
 due-in_order past runs [] h = h
-due-in_order past runs (RunLines c ∷ tasks) h = due_one past runs c tasks (runs c) h (due-in_order past runs tasks (rest-in_order past (RunLines c) tasks h))
+due-in_order past runs (RunLines c ∷ tasks) h = cond_both (runs c) _ _ (InOrder past) (λ _. h) (λ _. due-in_order past runs tasks (rest-in_order past (RunLines c) tasks h))
 due-in_order past runs (Store key outcome ∷ tasks) h = h
 due-in_order past runs (Deliver c outcome ∷ tasks) h = h
 due-in_order past runs (RunAgain c ∷ tasks) h = h
@@ -80,13 +75,9 @@ abbrev pub RunsFirst : (ℕ → Bool) → List Task → Type 0
 RunsFirst runs (RunLines c ∷ tasks) = runs c ≡ true
 RunsFirst runs tasks = Unit {0}
 
-first_one : (runs : ℕ → Bool) (c : ℕ) (tasks : List Task) (b : Bool) → runs c ≡ b → RunsFirst runs (due runs tasks) → RunsFirst runs (cond b (RunLines c ∷ tasks) (due runs tasks))
-first_one runs c tasks true e k = e
-first_one runs c tasks false e k = k
-
 pub due-runs : (runs : ℕ → Bool) (tasks : List Task) → RunsFirst runs (due runs tasks)
 due-runs runs [] = tt
-due-runs runs (RunLines c ∷ tasks) = first_one runs c tasks (runs c) refl (due-runs runs tasks)
+due-runs runs (RunLines c ∷ tasks) = cond_both (runs c) _ _ (RunsFirst runs) (λ e. e) (λ _. due-runs runs tasks)
 due-runs runs (Store key outcome ∷ tasks) = tt
 due-runs runs (Deliver c outcome ∷ tasks) = tt
 due-runs runs (RunAgain c ∷ tasks) = tt
@@ -155,35 +146,19 @@ abbrev pub Once : List ℕ → Type 0
 Once [] = Unit {0}
 Once (c ∷ cs) = Each (λ d. (c == d) ≡ false) cs × Once cs
 
-once_tested : (b : Bool) (c : ℕ) (p : ℕ → Bool) (cs : List ℕ) → Each (λ d. (c == d) ≡ false) cs → Once (filter p cs) → Once (cond b (c ∷ filter p cs) (filter p cs))
-once_tested true c p cs h k = (each-filter _ p cs h, k)
-once_tested false c p cs h k = k
-
 pub once-filter : (p : ℕ → Bool) (cs : List ℕ) → Once cs → Once (filter p cs)
 once-filter p [] h = tt
-once-filter p (c ∷ cs) (h, k) = once_tested (p c) c p cs h (once-filter p cs k)
+once-filter p (c ∷ cs) (h, k) = cond_both (p c) _ _ Once (λ _. (each-filter _ p cs h, once-filter p cs k)) (λ _. once-filter p cs k)
 
 once-last : (cs : List ℕ) (c : ℕ) → Each (λ d. (d == c) ≡ false) cs → Once cs → Once (cs ++ c ∷ [])
 once-last [] c h k = (tt, tt)
 once-last (d ∷ cs) c (p, h) (q, k) = (each-append _ cs (c ∷ []) q (p, tt), once-last cs c h k)
 
-each_tested : {X : Type 0} (P : X → Type 0) (b : Bool) (x : X) (ys : List X) → (b ≡ true → P x) → Each P ys → Each P (cond b (x ∷ ys) ys)
-each_tested P true x ys p h = (p refl, h)
-each_tested P false x ys p h = h
-
-pub each-passed : {X : Type 0} (p : X → Bool) (xs : List X) → Each (λ x. p x ≡ true) (filter p xs)
-each-passed p [] = tt
-each-passed p (x ∷ xs) = each_tested (λ y. p y ≡ true) (p x) x (filter p xs) (λ e. e) (each-passed p xs)
-
-not_same : (b : Bool) → not b ≡ true → b ≡ false
-not_same true e = absurd (true≢false (sym e))
-not_same false e = refl
-
 joined_then-once : (s w : Bool) (c : ℕ) (cs : List ℕ) → Once cs → Once (cond s [] (filter (λ x. not (x == c)) cs) ++ cond w (c ∷ []) [])
 joined_then-once true true c cs h = (tt, tt)
 joined_then-once true false c cs h = tt
 joined_then-once false true c cs h =
-    once-last (filter (λ x. not (x == c)) cs) c (each-more _ _ (filter (λ x. not (x == c)) cs) (λ d e. not_same (d == c) e) (each-passed (λ x. not (x == c)) cs)) (once-filter _ cs h)
+    once-last (filter (λ x. not (x == c)) cs) c (each-more _ _ (filter (λ x. not (x == c)) cs) (λ d e. not-true (d == c) e) (each-passed (λ x. not (x == c)) cs)) (once-filter _ cs h)
 joined_then-once false false c cs h = subst Once (sym (append-nil (filter (λ x. not (x == c)) cs))) (once-filter _ cs h)
 
 pub joined-once : (key : List ℕ) (past : History) → Once (joined key past)
@@ -210,7 +185,7 @@ joined_then-waits key effect past s w c cs f h =
     go : (s : Bool) → Each (λ d. waits d (Ran c effect ∷ past) ≡ true) (cond s [] (filter (λ x. not (x == c)) cs))
     go true = tt
     go false =
-        each-more _ _ (filter (λ x. not (x == c)) cs) (λ d p. still_is is_waiting c d effect past (eqb-turned c d ∙ not_same (d == c) p.0) p.1)
+        each-more _ _ (filter (λ x. not (x == c)) cs) (λ d p. still_is is_waiting c d effect past (eqb-turned c d ∙ not-true (d == c) p.0) p.1)
         (each-both _ _ (filter (λ x. not (x == c)) cs) (each-passed (λ x. not (x == c)) cs) (each-filter _ _ cs h))
 
 pub joined-waits : (key : List ℕ) (past : History) → Each (λ d. waits d past ≡ true) (joined key past)

@@ -1,5 +1,5 @@
 -- The live keys, each once, in byte order.
-use Rattle.std.proofs.Common.{◌≡◌, refl, ap, ◌∙◌, sym, ℕ, Bool, true, false, true≢false, ◌&&◌, ◌||◌, cond, List, [], ◌∷◌, map, Some, is_some}
+use Rattle.std.proofs.Common.{inr, inl, arith, ◌≡◌, refl, ap, ◌∙◌, sym, ℕ, Bool, true, false, true≢false, ◌&&◌, ◌||◌, cond, List, [], ◌∷◌, map, Some, is_some}
 use Rattle.std.specs.List.{filter, find, list_any}
 use Rattle.std.specs.List.Sorted.{IsStrictlySortedBy}
 use Rattle.std.specs.Option.{option_map}
@@ -17,6 +17,8 @@ use Rattle.audit_laws.proofs.HeldStep.{same-refl}
 use Rattle.audit_laws.proofs.Told.{Each}
 use Rattle.audit_laws.proofs.Views.{same-true}
 use Rattle.audit_laws.proofs.Pairs.{Pairs, Differ, pairs-map, pairs-filter, all_of_each}
+use Rattle.std.proofs.lemmas.Bool.Decides.{nat_tests}
+use Rattle.std.proofs.lemmas.Bool.{cond_both, cases_Bool}
 
 -- ---- byte order
 
@@ -41,11 +43,7 @@ before-or a b l e =
 
 each-put : (P : List ℕ → Type 0) (x : List ℕ) (ks : List (List ℕ)) → P x → Each P ks → Each P (put_sorted x ks)
 each-put P x [] p h = (p, tt)
-each-put P x (k ∷ ks) p (q, h) = go (is_before x k) (each-put P x ks p h)
-  where
-    go : (b : Bool) → Each P (put_sorted x ks) → Each P (cond b (x ∷ k ∷ ks) (k ∷ put_sorted x ks))
-    go true r = (p, (q, h))
-    go false r = (q, r)
+each-put P x (k ∷ ks) p (q, h) = let next = each-put P x ks p h in grind (arith, nat_tests, next)
 
 each-sorted : (P : List ℕ → Type 0) (ks : List (List ℕ)) → Each P ks → Each P (sorted ks)
 each-sorted P [] h = tt
@@ -57,11 +55,8 @@ behind x k (l ∷ ks) b (p, h) = (nat_list_cmp_total.trans x k l b p, behind x k
 
 rising-put : (x : List ℕ) (ks : List (List ℕ)) → Pairs Before ks → Each (Differ x) ks → Pairs Before (put_sorted x ks)
 rising-put x [] h d = (tt, tt)
-rising-put x (k ∷ ks) (e, h) (n, d) = go (is_before x k) refl (rising-put x ks h d)
-  where
-    go : (b : Bool) → is_before x k ≡ b → Pairs Before (put_sorted x ks) → Pairs Before (cond b (x ∷ k ∷ ks) (k ∷ put_sorted x ks))
-    go true l r = let first = is_less (slice_cmp nat_cmp x k) l in ((first, behind x k ks first e), (e, h))
-    go false l r = (each-put (Before k) x ks (before-or x k l n) e, r)
+rising-put x (k ∷ ks) (e, h) (n, d) =
+    cond_both (is_before x k) _ _ (Pairs Before) (λ is. let first = is_less (slice_cmp nat_cmp x k) is in ((first, behind x k ks first e), (e, h))) (λ is. (each-put (Before k) x ks (before-or x k is n) e, (rising-put x ks h d)))
 
 rising-sorted : (ks : List (List ℕ)) → Pairs Differ ks → Pairs Before (sorted ks)
 rising-sorted [] h = tt
@@ -87,11 +82,7 @@ or_swap false b c = refl
 
 any-put : (p : List ℕ → Bool) (x : List ℕ) (ks : List (List ℕ)) → list_any p (put_sorted x ks) ≡ (p x || list_any p ks)
 any-put p x [] = refl
-any-put p x (k ∷ ks) = go (is_before x k) (any-put p x ks)
-  where
-    go : (b : Bool) → list_any p (put_sorted x ks) ≡ (p x || list_any p ks) → list_any p (cond b (x ∷ k ∷ ks) (k ∷ put_sorted x ks)) ≡ (p x || (p k || list_any p ks))
-    go true e = refl
-    go false e = ap (λ b. p k || b) e ∙ or_swap (p k) (p x) (list_any p ks)
+any-put p x (k ∷ ks) = let next = any-put p x ks in grind (arith, nat_tests, next)
 
 any-sorted : (p : List ℕ → Bool) (ks : List (List ℕ)) → list_any p (sorted ks) ≡ list_any p ks
 any-sorted p [] = refl
@@ -145,17 +136,14 @@ heads k l ks ls hk hl e = go (slice_cmp nat_cmp k l) refl
 
 tails : (key k l : List ℕ) (ks ls : List (List ℕ)) → same k l ≡ true → Each (Before k) ks → Each (Before l) ls
     → list_any (λ x. same key x) (k ∷ ks) ≡ list_any (λ x. same key x) (l ∷ ls) → list_any (λ x. same key x) ks ≡ list_any (λ x. same key x) ls
-tails key k l ks ls s hk hl e = go (same key k) refl
+tails key k l ks ls s hk hl e =
+    elim (cases_Bool (same key k)) [
+      | inl t ↦ ap (λ y. list_any (λ x. same y x) ks) (same-true key k t) ∙ not_listed k ks hk ∙ sym (ap (λ y. list_any (λ x. same y x) ls) (same-true key k t ∙ is) ∙ not_listed l ls hl)
+      | inr t ↦ sym (ap (λ b. b || list_any (λ x. same key x) ks) t) ∙ e ∙ ap (λ b. b || list_any (λ x. same key x) ls) (ap (same key) (sym is) ∙ t)
+    ]
   where
     is : k ≡ l
     is = same-true k l s
-
-    go : (b : Bool) → same key k ≡ b → list_any (λ x. same key x) ks ≡ list_any (λ x. same key x) ls
-    go true c =
-        ap (λ y. list_any (λ x. same y x) ks) (same-true key k c) ∙ not_listed k ks hk
-        ∙ sym (ap (λ y. list_any (λ x. same y x) ls) (same-true key k c ∙ is) ∙ not_listed l ls hl)
-    go false c =
-        sym (ap (λ b. b || list_any (λ x. same key x) ks) c) ∙ e ∙ ap (λ b. b || list_any (λ x. same key x) ls) (ap (same key) (sym is) ∙ c)
 
 rise-same : (ks ls : List (List ℕ)) → Pairs Before ks → Pairs Before ls → ((key : List ℕ) → list_any (λ x. same key x) ks ≡ list_any (λ x. same key x) ls) → ks ≡ ls
 rise-same [] [] h g e = refl

@@ -3,7 +3,7 @@ use Rattle.std.proofs.Common.{◌≡◌, refl, ap, ◌∙◌, sym, subst, ℕ, �
 use Rattle.std.specs.Prelude.{IsTrue}
 use Rattle.std.specs.List.{find, filter}
 use Rattle.std.specs.Option.{option_map, option_to_list}
-use Rattle.std.proofs.lemmas.Bool.{and_parts}
+use Rattle.std.proofs.lemmas.Bool.{cond_both, cases_Bool, and_parts}
 use Rattle.std.proofs.lemmas.Bool.Decides.{nat_tests}
 use Rattle.std.proofs.lemmas.List.{map-append}
 use Rattle.std.proofs.lemmas.List.Elements.{filter-append}
@@ -13,7 +13,7 @@ use Rattle.audit_model.specs.Bytewise.{same}
 use Rattle.audit_model.specs.Changes.{newly_held, left_held, use_after, held_after, all_held_after}
 use Rattle.audit_model.specs.Commands.{Deed, is_this, covers_key}
 use Rattle.audit_model.specs.History.{Value}
-use Rattle.audit_model.specs.Notes.{same_cause, newcomer, candidates_of, is_rewritten, is_succeeded, is_true_cause, first_cause, is_told_first, is_true_note, first_of, are_true_notes}
+use Rattle.audit_model.specs.Notes.{same_cause, newcomer, candidates_of, is_rewritten, is_succeeded, is_true_cause, is_told_first, is_true_note, first_of, are_true_notes}
 use Rattle.audit_model.specs.Situation.{HeldValue, is_dead_at, is_live_at, candidate_at}
 use Rattle.audit_model.specs.Values.{earlier_of, after_ms, deadline, has_come, is_value_of, without_key, untold}
 use Rattle.audit_model.specs.View.{Candidate}
@@ -24,8 +24,9 @@ use Rattle.audit_model.specs.declared.transcript.RemovalCause.TheVariants.{Expir
 use Rattle.audit_laws.specs.Telling.{none_with_size}
 use Rattle.audit_laws.proofs.HeldAll.{none_succeeded}
 use Rattle.audit_laws.proofs.Pairs.{Pairs, Differ}
-use Rattle.audit_laws.proofs.Told.{Each, each-more, each_of_map, each_passing, without_key-map, untold-map}
+use Rattle.audit_laws.proofs.Told.{each-passed, each-filter, Each, each-more, each_of_map, each_passing, without_key-map, untold-map}
 use Rattle.audit_laws.proofs.Views.{same-true}
+use Rattle.audit_laws.proofs.HeldStep.{cond_same}
 
 -- ---- lists
 
@@ -47,36 +48,12 @@ first-map f (x ∷ xs) = refl
 -- what is found first is first of those that pass
 pub find-first : {X : Type 0} (p : X → Bool) (xs : List X) → find p xs ≡ first (filter p xs)
 find-first p [] = refl
-find-first p (x ∷ xs) = go (p x) (find-first p xs)
-  where
-    go : (b : Bool) → find p xs ≡ first (filter p xs) → cond b (Some x) (find p xs) ≡ first (cond b (x ∷ filter p xs) (filter p xs))
-    go true e = refl
-    go false e = e
+find-first p (x ∷ xs) = elim (cases_Bool (p x)) [ inl is ↦ rw is | inr is ↦ rw is (find-first p xs) ]
 
 -- those that pass of a list that a function made
 pub filter-mapped : {X Y : Type 0} (p : Y → Bool) (f : X → Y) (xs : List X) → filter p (map f xs) ≡ map f (filter (λ x. p (f x)) xs)
 filter-mapped p f [] = refl
-filter-mapped p f (x ∷ xs) = go (p (f x)) (filter-mapped p f xs)
-  where
-    go : (b : Bool) → filter p (map f xs) ≡ map f (filter (λ x. p (f x)) xs) → cond b (f x ∷ filter p (map f xs)) (filter p (map f xs)) ≡ map f (cond b (x ∷ filter (λ x. p (f x)) xs) (filter (λ x. p (f x)) xs))
-    go true e = ap (λ ys. f x ∷ ys) e
-    go false e = e
-
-filter-passed : {X : Type 0} (p : X → Bool) (xs : List X) → Each (λ x. p x ≡ true) (filter p xs)
-filter-passed p [] = tt
-filter-passed p (x ∷ xs) = go (p x) refl (filter-passed p xs)
-  where
-    go : (b : Bool) → p x ≡ b → Each (λ x. p x ≡ true) (filter p xs) → Each (λ x. p x ≡ true) (cond b (x ∷ filter p xs) (filter p xs))
-    go true e h = (e, h)
-    go false e h = h
-
-filter-each : {X : Type 0} (P : X → Type 0) (p : X → Bool) (xs : List X) → Each P xs → Each P (filter p xs)
-filter-each P p [] h = tt
-filter-each P p (x ∷ xs) (a, h) = go (p x) (filter-each P p xs h)
-  where
-    go : (b : Bool) → Each P (filter p xs) → Each P (cond b (x ∷ filter p xs) (filter p xs))
-    go true k = (a, k)
-    go false k = k
+filter-mapped p f (x ∷ xs) = elim (cases_Bool (p (f x))) [ inl is ↦ rw is (ap (λ ys. f x ∷ ys) (filter-mapped p f xs)) | inr is ↦ rw is (filter-mapped p f xs) ]
 
 filter-none : {X : Type 0} (p : X → Bool) (xs : List X) → Each (λ x. p x ≡ false) xs → filter p xs ≡ []
 filter-none p [] h = refl
@@ -157,14 +134,10 @@ lasting config now held key = alive config now (first (of_key key held))
 -- at most one is held of a key
 pub one-of_key : (key : List ℕ) (held : List HeldValue) → Pairs (λ g h. Differ g.value.key h.value.key) held → AtMostOne (of_key key held)
 one-of_key key [] h = Nobody refl
-one-of_key key (g ∷ gs) (e, h) = go (same key g.value.key) refl (one-of_key key gs h)
+one-of_key key (g ∷ gs) (e, h) = cond_both (same key g.value.key) _ _ AtMostOne (λ is. Lone g (ap (λ xs. g ∷ xs) (others is))) (λ _. one-of_key key gs h)
   where
     others : same key g.value.key ≡ true → of_key key gs ≡ []
     others s = filter-none (λ k. same key k.value.key) gs (each-more _ _ gs (λ k d. ap (λ x. same x k.value.key) (same-true key g.value.key s) ∙ d) e)
-
-    go : (b : Bool) → same key g.value.key ≡ b → AtMostOne (of_key key gs) → AtMostOne (cond b (g ∷ of_key key gs) (of_key key gs))
-    go true s rest = Lone g (ap (λ xs. g ∷ xs) (others s))
-    go false s rest = rest
 
 -- ---- time passes
 
@@ -213,21 +186,19 @@ module _ (key : List ℕ) where
 
   without_other : (k : List ℕ) (zs : List Paired) → same key k ≡ false → filter mine (without_key key_of k zs) ≡ filter mine zs
   without_other k [] e = refl
-  without_other k (z ∷ zs) e = go (same k z.value.key) refl (without_other k zs e)
-    where
-      go : (b : Bool) → same k z.value.key ≡ b → filter mine (without_key key_of k zs) ≡ filter mine zs
-          → filter mine (cond b zs (z ∷ without_key key_of k zs)) ≡ cond (mine z) (z ∷ filter mine zs) (filter mine zs)
-      go true s ih = sym (ap (λ b. cond b (z ∷ filter mine zs) (filter mine zs)) (ap (same key) (sym (same-true k z.value.key s)) ∙ e))
-      go false s ih = ap (λ xs. cond (mine z) (z ∷ xs) xs) ih
+  without_other k (z ∷ zs) e =
+      elim (cases_Bool (same k z.value.key)) [
+        | inl is ↦ rw is (sym (ap (λ b. cond b (z ∷ filter mine zs) (filter mine zs)) (ap (same key) (sym (same-true k z.value.key is)) ∙ e)))
+        | inr is ↦ rw is (ap (λ xs. cond (mine z) (z ∷ xs) xs) (without_other k zs e))
+      ]
 
   without_mine : (zs : List Paired) → filter mine (without_key key_of key zs) ≡ behind (filter mine zs)
   without_mine [] = refl
-  without_mine (z ∷ zs) = go (same key z.value.key) refl (without_mine zs)
-    where
-      go : (b : Bool) → same key z.value.key ≡ b → filter mine (without_key key_of key zs) ≡ behind (filter mine zs)
-          → filter mine (cond b zs (z ∷ without_key key_of key zs)) ≡ behind (cond b (z ∷ filter mine zs) (filter mine zs))
-      go true s ih = refl
-      go false s ih = ap (λ b. cond b (z ∷ filter mine (without_key key_of key zs)) (filter mine (without_key key_of key zs))) s ∙ ih
+  without_mine (z ∷ zs) =
+      elim (cases_Bool (same key z.value.key)) [
+        | inl e ↦ rw e
+        | inr e ↦ rw e (ap (λ b. cond b (z ∷ filter mine (without_key key_of key zs)) (filter mine (without_key key_of key zs))) e ∙ (without_mine zs))
+      ]
 
   module _ (config : Config) (olds : List Candidate) (deed : Deed) where
     -- it may leave with another cause than `Size`
@@ -263,12 +234,10 @@ module _ (key : List ℕ) where
 
     gone-told : (note : Note) (z : Paired) → same_cause note.cause Size ≡ false → is_true_note config olds deed note (Some (seen_of z)) ≡ true → gone z ≡ true
     gone-told note z other e =
-        go (is_told_first deed (seen_of z)) refl (and_parts (same note.value z.value.bytes) _ e).1
-      where
-        go : (b : Bool) → is_told_first deed (seen_of z) ≡ b
-            → cond b (same_cause note.cause (first_cause config olds deed (seen_of z))) (is_true_cause config olds deed (seen_of z) note.cause) ≡ true → gone z ≡ true
-        go true f k = ap (λ b. z.dead || z.covered || b) (and_parts (is_succeeded deed (seen_of z)) _ f).0 ∙ or-last z.dead z.covered
-        go false f k = gone-by note.cause z other k
+        elim (cases_Bool (is_told_first deed (seen_of z))) [
+          | inl is ↦ ap (λ b. z.dead || z.covered || b) (and_parts (is_succeeded deed (seen_of z)) _ is).0 ∙ or-last z.dead z.covered
+          | inr is ↦ gone-by note.cause z other (rw is at (and_parts (same note.value z.value.bytes) _ e).1)
+        ]
 
     first-seen : (k : List ℕ) (zs : List Paired) → same key k ≡ true → first_of k (map seen_of zs) ≡ option_map seen_of (first (filter mine zs))
     first-seen k zs e =
@@ -283,11 +252,8 @@ module _ (key : List ℕ) where
     popped note left (z ∷ zs) other e h = inr (gone-told note z other e, h)
 
     none-of_size : (note : Note) (notes : List Note) → none_with_size (note ∷ notes) ≡ true → (same_cause note.cause Size ≡ false) × (none_with_size notes ≡ true)
-    none-of_size note notes e = let p = and_parts (not (same_cause note.cause Size)) (none_with_size notes) e in (turn (same_cause note.cause Size) p.0, p.1)
-      where
-        turn : (b : Bool) → not b ≡ true → b ≡ false
-        turn true e = absurd (true≢false (sym e))
-        turn false e = refl
+    none-of_size note notes e =
+        let p = and_parts (not (same_cause note.cause Size)) (none_with_size notes) e in ((elim (cases_Bool (same_cause note.cause Size)) [ inl is ↦ rw is (absurd (true≢false (sym (rw is at p.0)))) | inr is ↦ rw is ]), p.1)
 
     -- what the notes tell of the key is gone
     pops : (notes : List Note) (zs : List Paired) → are_true_notes config olds deed (map seen_of zs) notes ≡ true → none_with_size notes ≡ true
@@ -296,19 +262,10 @@ module _ (key : List ℕ) where
     pops (note ∷ notes) zs e n =
         let told = and_parts (is_true_note config olds deed note (first_of note.key (map seen_of zs))) _ e in
         let sizes = none-of_size note notes n in
-        go (same key note.key) refl told.0 sizes.0
-        (pops notes (without_key key_of note.key zs) (ap (λ cs. are_true_notes config olds deed cs notes) (sym (without_key-map seen_of (λ (c : Candidate). c.value.key) note.key zs)) ∙ told.1) sizes.1)
-      where
-        go : (b : Bool) → same key note.key ≡ b → is_true_note config olds deed note (first_of note.key (map seen_of zs)) ≡ true → same_cause note.cause Size ≡ false
-            → Pops (λ z. gone z ≡ true) (filter mine (without_key key_of note.key zs)) (filter mine (untold key_of notes (without_key key_of note.key zs)))
-            → Pops (λ z. gone z ≡ true) (filter mine zs) (filter mine (untold key_of notes (without_key key_of note.key zs)))
-        go true s true_note other ih =
-            popped note (filter mine (untold key_of notes (without_key key_of note.key zs))) (filter mine zs) other
-            (ap (is_true_note config olds deed note) (sym (first-seen note.key zs s)) ∙ true_note)
-            (subst (λ xs. Pops (λ z. gone z ≡ true) xs (filter mine (untold key_of notes (without_key key_of note.key zs))))
-            (ap (λ k. filter mine (without_key key_of k zs)) (sym (same-true key note.key s)) ∙ without_mine zs) ih)
-        go false s true_note other ih =
-            subst (λ xs. Pops (λ z. gone z ≡ true) xs (filter mine (untold key_of notes (without_key key_of note.key zs)))) (without_other note.key zs s) ih
+        elim (cases_Bool (same key note.key)) [
+          | inl is ↦ popped note (filter mine (untold key_of notes (without_key key_of note.key zs))) (filter mine zs) sizes.0 (ap (is_true_note config olds deed note) (sym (first-seen note.key zs is)) ∙ told.0) (subst (λ xs. Pops (λ z. gone z ≡ true) xs (filter mine (untold key_of notes (without_key key_of note.key zs)))) (ap (λ k. filter mine (without_key key_of k zs)) (sym (same-true key note.key is)) ∙ without_mine zs) (pops notes (without_key key_of note.key zs) (ap (λ cs. are_true_notes config olds deed cs notes) (sym (without_key-map seen_of (λ (c : Candidate). c.value.key) note.key zs)) ∙ told.1) sizes.1))
+          | inr is ↦ subst (λ xs. Pops (λ z. gone z ≡ true) xs (filter mine (untold key_of notes (without_key key_of note.key zs)))) (without_other note.key zs is) (pops notes (without_key key_of note.key zs) (ap (λ cs. are_true_notes config olds deed cs notes) (sym (without_key-map seen_of (λ (c : Candidate). c.value.key) note.key zs)) ∙ told.1) sizes.1)
+        ]
 
 -- ---- what a deed leaves
 
@@ -319,10 +276,6 @@ old_of config now h =
 abbrev new_of : Config → Value → Paired
 new_of config v =
     record { value = v; last_use = v.accepted_at; covered = false; evictable = false; dead = has_come (deadline config v v.accepted_at) v.accepted_at; new = true }
-
-same_where : {X : Type 0} (b : Bool) (x : X) → cond b x x ≡ x
-same_where true x = refl
-same_where false x = refl
 
 module _ (config : Config) (now : ℕ) (key : List ℕ) where
   left-cases : (h : HeldValue) (c d x u del : Bool) → has_come (ends_at config (living_of h)) now ≡ d → del ≡ false
@@ -397,15 +350,11 @@ module _ (config : Config) (now : ℕ) (key : List ℕ) where
 
       spared : Each (λ z. is_succeeded deed (seen_of z) ≡ false) left
       spared =
-          filter-each (λ z. is_succeeded deed (seen_of z) ≡ false) (mine key) (untold key_of notes zs)
+          each-filter (λ z. is_succeeded deed (seen_of z) ≡ false) (mine key) (untold key_of notes zs)
           (each_of_map (λ (c : Candidate). is_succeeded deed c ≡ false) seen_of (untold key_of notes zs)
           (subst (Each (λ c. is_succeeded deed c ≡ false)) (ap (untold (λ (c : Candidate). c.value.key) notes) (sym as_seen) ∙ untold-map seen_of (λ (c : Candidate). c.value.key) notes zs)
-          (each-more _ _ (untold (λ c. c.value.key) notes (candidates_of config olds deed)) (λ c e. turn (is_succeeded deed c) e)
+          (each-more _ _ (untold (λ c. c.value.key) notes (candidates_of config olds deed)) (λ c e. (elim (cases_Bool (is_succeeded deed c)) [ inl is ↦ rw is (absurd (true≢false (sym (rw is at e)))) | inr is ↦ rw is ]))
           (each_passing (λ c. not (is_succeeded deed c)) (untold (λ c. c.value.key) notes (candidates_of config olds deed)) (none_succeeded config olds deed (candidates_of config olds deed) notes told)))))
-        where
-          turn : (b : Bool) → not b ≡ true → b ≡ false
-          turn true e = absurd (true≢false (sym e))
-          turn false e = refl
 
       popped-off : Pops Gone (filter (mine key) zs) left
       popped-off = pops key config olds deed notes zs (ap (λ cs. are_true_notes config olds deed cs notes) as_seen ∙ told) no_size
@@ -469,7 +418,7 @@ module _ (config : Config) (now : ℕ) (key : List ℕ) where
             ap (λ b. cond b None (still config now (record (living_of (newly_held v)) { last_use = use_after config now deed (newly_held v) }))) (is_fresh v value).0
             ∙ ap (λ u. still config now (record (living_of (newly_held v)) { last_use = u }))
             (ap (cond (is_this v.key deed.uses && is_live_at config now (newly_held v)) now) (is_fresh v value).2
-            ∙ same_where (is_this v.key deed.uses && is_live_at config now (newly_held v)) now ∙ sym (is_fresh v value).2)
+            ∙ cond_same (is_this v.key deed.uses && is_live_at config now (newly_held v)) now ∙ sym (is_fresh v value).2)
 
         newest-gone : Gone (new_of config v) → None ≡ still config now (living_of (newly_held v))
         newest-gone g =
@@ -509,7 +458,7 @@ module _ (config : Config) (now : ℕ) (key : List ℕ) where
       lasting-deed distinct = lasting-left ∙ go deed.value refl (is_value_of key deed.value) refl
         where
           own : Each (λ h. same key h.value.key ≡ true) (of_key key held)
-          own = filter-passed (λ h. same key h.value.key) held
+          own = each-passed (λ h. same key h.value.key) held
 
           off : Pops Gone (map (old_of config now) (of_key key held) ++ filter (mine key) (option_to_list (option_map (new_of config) deed.value))) left
           off = subst (λ xs. Pops Gone xs left) sorted_zs popped-off

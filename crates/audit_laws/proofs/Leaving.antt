@@ -1,9 +1,9 @@
 -- A connection that runs a step is in no list of a load under way.
-use Rattle.std.proofs.Common.{◌≡◌, refl, ap, ◌∙◌, sym, subst, ℕ, Bool, true, false, true≢false, not, ◌&&◌, ◌||◌, cond, List, [], ◌∷◌, ◌++◌, map, Option, Some, None, is_some}
+use Rattle.std.proofs.Common.{arith, ◌≡◌, refl, ap, ◌∙◌, sym, subst, ℕ, Bool, true, false, true≢false, not, ◌&&◌, ◌||◌, cond, List, [], ◌∷◌, ◌++◌, map, Option, Some, None, is_some}
 use Rattle.std.specs.Prelude.{◌==◌}
 use Rattle.std.specs.List.{filter, find, list_any}
 use Rattle.std.proofs.lemmas.Simd.{map-map}
-use Rattle.std.proofs.lemmas.Bool.{and_parts, or_parts, or_from, eqb-true, false_from_ne_true}
+use Rattle.std.proofs.lemmas.Bool.{not-true, cond_both, and_parts, or_parts, or_from, false_from_ne_true}
 use Rattle.std.proofs.lemmas.List.Folds.{list_any-append}
 use Rattle.audit_laws.proofs.Connections.{last_is}
 use Rattle.audit_model.specs.Bytewise.{same}
@@ -11,12 +11,13 @@ use Rattle.audit_model.specs.History.{Effect, History, Opened, Closed, Fed, Sett
 use Rattle.audit_model.specs.Loads.{Sent, key_loaded, sent_by, loads_sent, is_settled, loads_under_way, is_key_of, waits_for, sends_for, joined}
 use Rattle.audit_model.specs.Situation.{without_waiting}
 use Rattle.audit_model.specs.Stream.{last_effect, is_waiting}
-use Rattle.audit_laws.proofs.Told.{Each, each-append, each-more, each-both, map-same}
+use Rattle.audit_laws.proofs.Told.{each-filter, each-passed, Each, each-append, each-more, each-both, map-same}
 use Rattle.audit_laws.proofs.HeldStep.{same-refl}
 use Rattle.audit_laws.proofs.Views.{same-true}
 use Rattle.audit_laws.proofs.Connections.{facts-ran, facts-own}
 use Rattle.audit_laws.proofs.ConnectionSteps.{eqb-turned}
 use Rattle.audit_laws.proofs.PendingLoads.{pending_by, settled-filter}
+use Rattle.std.proofs.lemmas.Bool.Decides.{nat_tests}
 
 abbrev pub is_in : ℕ → List ℕ → Bool
 is_in c cs = list_any (λ d. d == c) cs
@@ -29,49 +30,21 @@ abbrev pub Distinct : List Sent → Type 0
 Distinct [] = Unit {0}
 Distinct (x ∷ xs) = Each (λ y. same y.key x.key ≡ false) xs × Distinct xs
 
-tested : {X : Type 0} (P : X → Type 0) (b : Bool) (x : X) (ys : List X) → P x → Each P ys → Each P (cond b (x ∷ ys) ys)
-tested P true x ys p h = (p, h)
-tested P false x ys p h = h
-
-each-filter : {X : Type 0} (P : X → Type 0) (p : X → Bool) (xs : List X) → Each P xs → Each P (filter p xs)
-each-filter P p [] h = tt
-each-filter P p (x ∷ xs) (a, h) = tested P (p x) x (filter p xs) a (each-filter P p xs h)
-
-distinct_tested : (b : Bool) (p : Sent → Bool) (x : Sent) (xs : List Sent) → Each (λ y. same y.key x.key ≡ false) xs → Distinct (filter p xs) → Distinct (cond b (x ∷ filter p xs) (filter p xs))
-distinct_tested true p x xs h k = (each-filter _ p xs h, k)
-distinct_tested false p x xs h k = k
-
 pub distinct-filter : (p : Sent → Bool) (xs : List Sent) → Distinct xs → Distinct (filter p xs)
 distinct-filter p [] h = tt
-distinct-filter p (x ∷ xs) (h, k) = distinct_tested (p x) p x xs h (distinct-filter p xs k)
+distinct-filter p (x ∷ xs) (h, k) = cond_both (p x) _ _ Distinct (λ _. (each-filter _ p xs h, distinct-filter p xs k)) (λ _. distinct-filter p xs k)
 
 -- ---- who is in a list
 
 -- an element that is in the list has what each has
 pub of_each : (P : ℕ → Type 0) (c : ℕ) (cs : List ℕ) → Each P cs → is_in c cs ≡ true → P c
 of_each P c [] h e = absurd (true≢false (sym e))
-of_each P c (d ∷ cs) (p, h) e = go (d == c) refl e (of_each P c cs h)
-  where
-    go : (b : Bool) → (d == c) ≡ b → (b || is_in c cs) ≡ true → (is_in c cs ≡ true → P c) → P c
-    go true q e f = subst P (eqb-true d c q) p
-    go false q e f = f e
+of_each P c (d ∷ cs) (p, h) e = let next = of_each P c cs h in grind (arith, nat_tests, e, next)
 
 -- ---- the keys that waiting connections load
 
 abbrev loads_key : List ℕ → Option Effect → Bool
 loads_key key o = last_is (λ effect. is_key_of key (key_loaded effect.action)) o
-
-not_same : (b : Bool) → not b ≡ true → b ≡ false
-not_same true e = absurd (true≢false (sym e))
-not_same false e = refl
-
-passed_one : {X : Type 0} (p : X → Bool) (b : Bool) (x : X) (ys : List X) → p x ≡ b → Each (λ y. p y ≡ true) ys → Each (λ y. p y ≡ true) (cond b (x ∷ ys) ys)
-passed_one p true x ys e h = (e, h)
-passed_one p false x ys e h = h
-
-passed : {X : Type 0} (p : X → Bool) (xs : List X) → Each (λ x. p x ≡ true) (filter p xs)
-passed p [] = tt
-passed p (x ∷ xs) = passed_one p (p x) x (filter p xs) refl (passed p xs)
 
 keys_then : (key : List ℕ) (effect : Effect) (past : History) (s w : Bool) (c : ℕ) (cs : List ℕ) → (w ≡ true → is_key_of key (key_loaded effect.action) ≡ true) → Each (λ d. loads_key key (last_effect d past) ≡ true) cs
     → Each (λ d. loads_key key (last_effect d (Ran c effect ∷ past)) ≡ true) (cond s [] (filter (λ x. not (x == c)) cs) ++ cond w (c ∷ []) [])
@@ -84,8 +57,8 @@ keys_then key effect past s w c cs f h = each-append _ (cond s [] (filter (λ x.
     go : (s : Bool) → Each (λ d. loads_key key (last_effect d (Ran c effect ∷ past)) ≡ true) (cond s [] (filter (λ x. not (x == c)) cs))
     go true = tt
     go false =
-        each-more _ _ (filter (λ x. not (x == c)) cs) (λ d p. ap (λ x. loads_key key x.effect) (facts-ran d c effect past (eqb-turned c d ∙ not_same (d == c) p.0)) ∙ p.1)
-        (each-both _ _ (filter (λ x. not (x == c)) cs) (passed (λ x. not (x == c)) cs) (each-filter _ _ cs h))
+        each-more _ _ (filter (λ x. not (x == c)) cs) (λ d p. ap (λ x. loads_key key x.effect) (facts-ran d c effect past (eqb-turned c d ∙ not-true (d == c) p.0)) ∙ p.1)
+        (each-both _ _ (filter (λ x. not (x == c)) cs) (each-passed (λ x. not (x == c)) cs) (each-filter _ _ cs h))
 
 pub joined-keys : (key : List ℕ) (past : History) → Each (λ d. loads_key key (last_effect d past) ≡ true) (joined key past)
 joined-keys key [] = tt
@@ -114,14 +87,10 @@ differs k j e q = true≢false (sym (ap (λ x. same k x) (sym q) ∙ same-refl k
 
 each_found : (P : Sent → Type 0) (p : Sent → Bool) (xs : List Sent) (s : Sent) → Each P xs → find p xs ≡ Some s → P s
 each_found P p [] s h e = absurd (true≢false (sym (ap is_some e)))
-each_found P p (x ∷ xs) s (a, h) e = go (p x) e (each_found P p xs s h)
+each_found P p (x ∷ xs) s (a, h) e = let next = each_found P p xs s h in grind (arith, nat_tests, e, next)
   where
     some_same : (x y : Sent) → Some x ≡ Some y → x ≡ y
     some_same x y q = cc
-
-    go : (b : Bool) → cond b (Some x) (find p xs) ≡ Some s → (find p xs ≡ Some s → P s) → P s
-    go true e f = subst P (some_same x s e) a
-    go false e f = f e
 
 module _ (c load : ℕ) (past : History) where
   settled_one : (xs : List Sent) (s : Sent) → Distinct xs → find (λ sent. sent.number == load) xs ≡ Some s → is_in c (joined s.key past) ≡ true
@@ -148,11 +117,7 @@ module _ (c load : ℕ) (past : History) where
 
 in_filter : (d : ℕ) (p : ℕ → Bool) (cs : List ℕ) → is_in d cs ≡ false → is_in d (filter p cs) ≡ false
 in_filter d p [] h = refl
-in_filter d p (x ∷ xs) h = go (p x) (in_filter d p xs (or_parts (x == d) (is_in d xs) h).1)
-  where
-    go : (b : Bool) → is_in d (filter p xs) ≡ false → is_in d (cond b (x ∷ filter p xs) (filter p xs)) ≡ false
-    go true r = or_from (x == d) (is_in d (filter p xs)) (or_parts (x == d) (is_in d xs) h).0 r
-    go false r = r
+in_filter d p (x ∷ xs) h = let next = in_filter d p xs (or_parts (x == d) (is_in d xs) h).1 in grind (arith, nat_tests, next)
 
 in_last : (c d : ℕ) (w : Bool) → (c == d) ≡ false → is_in d (cond w (c ∷ []) []) ≡ false
 in_last c d true e = ap (λ b. b || false) e
@@ -178,8 +143,8 @@ away-ran c d effect past e h = go (key_loaded effect.action) effect.load refl re
     go None lo k l = old
     go (Some key) None k l = old
     go (Some key) (Some n) k l =
-        tested _ (not (is_settled n past)) (record { number = n; key = key }) _
-        (in_then c d (sends_for key effect) (waits_for key effect) (joined key past) e (λ q. absurd (true≢false (sym (sends key n k l) ∙ q)))) old
+        cond_both (not (is_settled n past)) _ _ (Each (λ sent. is_in d (joined sent.key (Ran c effect ∷ past)) ≡ false))
+        (λ _. (in_then c d (sends_for key effect) (waits_for key effect) (joined key past) e (λ q. absurd (true≢false (sym (sends key n k l) ∙ q))), old)) (λ _. old)
 
 -- ---- leaving changes nothing
 

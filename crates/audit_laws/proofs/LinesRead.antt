@@ -9,6 +9,7 @@ use Rattle.audit_model.specs.History.{Effect, History, Fed}
 use Rattle.audit_model.specs.Situation.{Connection, Ready, Held, Waiting}
 use Rattle.audit_model.specs.Stream.{bytes_of, is_held, is_waiting, behind_lines, unanswered, without_return, first_line}
 use Rattle.audit_laws.proofs.Connections.{Facts, facts, connection_of_facts, bytes_left, unread_in, eqb-self, ran_by}
+use Rattle.std.proofs.lemmas.Bool.Decides.{nat_tests}
 
 abbrev pub has_lines : ℕ → List ℕ → Bool
 has_lines zero bytes = true
@@ -96,11 +97,7 @@ complete-fed piece f h =
     }
 
 came : (bytes line : List ℕ) → first_line bytes ≡ Some line → is_some (cut_at 10 bytes).1 ≡ true
-came bytes line e = go (is_some (cut_at 10 bytes).1) (ap is_some e)
-  where
-    go : (b : Bool) → is_some (cond b (Some (without_return (cut_at 10 bytes).0)) None) ≡ true → b ≡ true
-    go true e = refl
-    go false e = e
+came bytes line e = let next = ap is_some e in grind (arith, nat_tests, next)
 
 lines_now : (reply : Option (List ℕ)) (n : ℕ) (bytes : List ℕ) → has_lines n bytes ≡ true → is_some (cut_at 10 (behind_lines n bytes)).1 ≡ true → has_lines (cond (is_some reply) 1 0 + n) bytes ≡ true
 lines_now None n bytes e f = ap (λ m. has_lines m bytes) (zero-add n) ∙ e

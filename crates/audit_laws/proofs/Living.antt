@@ -1,14 +1,14 @@
 -- What is not live becomes live only by a newly accepted value.
-use Rattle.std.proofs.Common.{◌≡◌, refl, ap, ◌∙◌, sym, subst, ℕ, ◌≤◌, Bool, true, false, true≢false, not, ◌&&◌, ◌||◌, cond, List, [], ◌∷◌, ◌++◌, map, Option, Some, None, is_some, nat_le, arith}
+use Rattle.std.proofs.Common.{inr, inl, ◌≡◌, refl, ap, ◌∙◌, sym, subst, ℕ, ◌≤◌, Bool, true, false, true≢false, not, ◌&&◌, cond, List, [], ◌∷◌, ◌++◌, map, Option, Some, None, is_some, nat_le, arith}
 use Rattle.std.specs.List.{find, cons_option, All, Contains}
 use Rattle.std.specs.Option.{option_map, option_map_or, option_and_then, option_to_list}
-use Rattle.std.proofs.lemmas.Bool.{and_parts, not-true, or_parts}
+use Rattle.std.proofs.lemmas.Bool.{cases_Bool, and_parts}
 use Rattle.std.proofs.lemmas.Bool.Decides.{nat_tests}
 use Rattle.std.proofs.lemmas.List.Elements.{All-contains_itself, All-head, All-tail, filter_map-append}
 use Rattle.std.proofs.Math.Bool.{and-false}
-use Rattle.audit_model.specs.Bytewise.{same, is_empty}
+use Rattle.audit_model.specs.Bytewise.{same}
 use Rattle.audit_model.specs.Changes.{newly_held, use_after, held_after, left_held, all_held_after, after_step}
-use Rattle.audit_model.specs.Commands.{Deed, deed_of, is_this, covers_key}
+use Rattle.audit_model.specs.Commands.{Deed, deed_of, is_this}
 use Rattle.audit_model.specs.Follows.{after_event, tasks_in, placed_step_in, after_steps, after_record, after_records}
 use Rattle.audit_model.specs.History.{Value}
 use Rattle.audit_model.specs.Obeys.{accepted_values}
@@ -32,23 +32,15 @@ use Rattle.audit_laws.proofs.Kept.{held-stepped, latest-stepped, event-ages}
 
 found : {X Y : Type 0} (p : X → Bool) (f : X → Y) (Q : Y → Type 0) (xs : List X) → Each (λ x. p x ≡ true → Q (f x)) xs → (y : Y) → option_map f (find p xs) ≡ Some y → Q y
 found p f Q [] h y e = absurd (true≢false (sym (ap is_some e)))
-found p f Q (x ∷ xs) (q, h) y e = go (p x) q (found p f Q xs h y) e
-  where
-    go : (b : Bool) → (b ≡ true → Q (f x)) → (option_map f (find p xs) ≡ Some y → Q y) → option_map f (cond b (Some x) (find p xs)) ≡ Some y → Q y
-    go true k rest e = let is : f x ≡ y = cc in subst Q is (k refl)
-    go false k rest e = rest e
+found p f Q (x ∷ xs) (q, h) y e = let next = found p f Q xs h y in grind (arith, nat_tests, q, next, e)
 
 missed : {X Y : Type 0} (p : X → Bool) (f : X → Y) (Q : Y → Type 0) (xs : List X) → option_map f (find p xs) ≡ None → Each (λ x. p x ≡ true → Q (f x)) xs
 missed p f Q [] e = tt
-missed p f Q (x ∷ xs) e = (first (p x) e, missed p f Q xs (rest (p x) e))
+missed p f Q (x ∷ xs) e = (first (p x) e, missed p f Q xs ((elim (cases_Bool (p x)) [ inl is ↦ absurd (true≢false (ap is_some (rw is at e))) | inr is ↦ rw is at e ])))
   where
     first : (b : Bool) → option_map f (cond b (Some x) (find p xs)) ≡ None → b ≡ true → Q (f x)
     first true e k = absurd (true≢false (ap is_some e))
     first false e k = absurd (true≢false (sym k))
-
-    rest : (b : Bool) → option_map f (cond b (Some x) (find p xs)) ≡ None → option_map f (find p xs) ≡ None
-    rest true e = absurd (true≢false (ap is_some e))
-    rest false e = e
 
 -- ---- deadlines come, and stay
 
@@ -70,20 +62,10 @@ live-earlier config now later h le e =
 -- what a step leaves live was live
 live-before : (config : Config) (now : ℕ) (held : List HeldValue) (deed : Deed) (notes : List Note) (values : List Value) (h : HeldValue)
     → is_live_at config now (held_after config now held deed notes values h) ≡ true → is_live_at config now h ≡ true
-live-before config now held deed notes values h e = go (is_live_at config now h) refl
+live-before config now held deed notes values h e = grind (arith, nat_tests)
   where
     unused : is_live_at config now h ≡ false → use_after config now deed h ≡ h.last_use
     unused k = ap (λ b. cond (is_this h.value.key deed.uses && b) now h.last_use) k ∙ ap (λ b. cond b now h.last_use) (and-false (is_this h.value.key deed.uses))
-
-    go : (b : Bool) → is_live_at config now h ≡ b → b ≡ true
-    go true k = refl
-    go false k =
-        let p = and_parts (not (h.covered || covers_key h.value.key deed.covers)) (not (has_come (deadline config h.value (use_after config now deed h)) now)) e in
-        let uncovered = or_parts h.covered (covers_key h.value.key deed.covers) (not-true _ p.0) in
-        sym k
-        ∙ ap (λ b. not b && not (has_come (deadline config h.value h.last_use) now)) uncovered.0
-        ∙ ap (λ u. not (has_come (deadline config h.value u) now)) (sym (unused k))
-        ∙ p.1
 
 -- ---- each live value of the key is one of those that count
 
@@ -134,11 +116,7 @@ module _ (config : Config) (key : List ℕ) (Counts : Value → Type 0) where
   as_append (Some v) vs = refl
 
   lives-steps : (steps : List Step) (s t : Situation) (tasks : List Task) → after_steps config s tasks steps ≡ Some t → Each Counts (accepted_values (placed_steps_in config s tasks steps)) → Lives s → Lives t
-  lives-steps [] s t tasks e counts lives = go (is_empty (due (may_run_in s) tasks)) e
-    where
-      go : (b : Bool) → cond b (Some s) None ≡ Some t → Lives t
-      go true k = let is : s ≡ t = cc in subst Lives is lives
-      go false k = absurd (true≢false (sym (ap is_some k)))
+  lives-steps [] s t tasks e counts lives = grind (arith, nat_tests, e)
   lives-steps (step ∷ steps) s t tasks e counts lives =
       let now_due = due (may_run_in s) tasks in
       let placed = placed_step_in config s (first_due now_due) step in

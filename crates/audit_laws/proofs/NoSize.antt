@@ -1,9 +1,9 @@
 -- With no capacity nothing is told `Size`.
-use Rattle.std.proofs.Common.{◌≡◌, refl, ap, ◌∙◌, sym, ℕ, Bool, true, false, true≢false, not, ◌&&◌, ◌||◌, cond, List, [], ◌∷◌, ◌++◌, Option, Some, None, is_some}
+use Rattle.std.proofs.Common.{arith, ◌≡◌, refl, ap, ◌∙◌, sym, ℕ, Bool, true, false, true≢false, not, ◌&&◌, ◌||◌, cond, List, [], ◌∷◌, ◌++◌, Option, Some, None, is_some}
 use Rattle.std.specs.Prelude.{if◌then◌else◌}
 use Rattle.std.specs.List.{list_all, find, flat_map}
 use Rattle.std.specs.Option.{option_map, option_to_list, IfSome}
-use Rattle.std.proofs.lemmas.Bool.{and_parts, and_from}
+use Rattle.std.proofs.lemmas.Bool.{cond_both, and_parts, and_from}
 use Rattle.std.proofs.lemmas.List.Folds.{list_all-append}
 use Rattle.std.proofs.Math.Bool.{and-false}
 use Rattle.audit_model.specs.Bytewise.{same, is_empty}
@@ -29,6 +29,7 @@ use Rattle.audit_laws.specs.Telling.{notes_of, none_with_size}
 use Rattle.audit_laws.specs.Laws.{NothingToldSize}
 use Rattle.audit_laws.proofs.Told.{Each, each-append, each-map, each-without_key}
 use Rattle.audit_laws.proofs.TranscriptsAgree.{all-flat}
+use Rattle.std.proofs.lemmas.Bool.Decides.{nat_tests}
 
 -- ---- no part is ever over its share
 
@@ -59,11 +60,7 @@ calm-new config (Some v) = (refl, tt)
 
 found : (P : Candidate → Type 0) (p : Candidate → Bool) (cs : List Candidate) → Each P cs → IfSome (find p cs) P
 found P p [] h = tt
-found P p (c ∷ cs) (x, h) = go (p c) (found P p cs h)
-  where
-    go : (b : Bool) → IfSome (find p cs) P → IfSome (cond b (Some c) (find p cs)) P
-    go true k = x
-    go false k = k
+found P p (c ∷ cs) (x, h) = let next = found P p cs h in grind (arith, nat_tests, next)
 
 -- the first cause is none of size
 first-other : (config : Config) (held : List Candidate) (deed : Deed) (c : Candidate) → same_cause Size (first_cause config held deed c) ≡ false
@@ -88,11 +85,7 @@ module _ (config : Config) (unlimited : config.capacity ≡ None) (held : List C
   judged-other note Expired c calm e = refl
   judged-other note Explicit c calm e = refl
   judged-other note Replaced c calm e = refl
-  judged-other note Size c calm e = absurd (true≢false (sym e ∙ go (is_told_first deed c)))
-    where
-      go : (b : Bool) → cond b (same_cause Size (first_cause config held deed c)) (is_true_cause config held deed c Size) ≡ false
-      go true = first-other config held deed c
-      go false = size-untrue c calm
+  judged-other note Size c calm e = absurd (true≢false (sym e ∙ (cond_both (is_told_first deed c) _ _ (λ z. z ≡ false) (λ _. first-other config held deed c) (λ _. size-untrue c calm))))
 
   note-other : (note : Note) (o : Option Candidate) → IfSome o Calm → is_true_note config held deed note o ≡ true → not (same_cause note.cause Size) ≡ true
   note-other note None h e = absurd (true≢false (sym e))

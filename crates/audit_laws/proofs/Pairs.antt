@@ -1,11 +1,11 @@
 -- What holds of each two elements of a list, the earlier one first.
-use Rattle.std.proofs.Common.{◌≡◌, ℕ, Bool, true, false, cond, List, [], ◌∷◌, ◌++◌, map}
+use Rattle.std.proofs.Common.{arith, ◌≡◌, ℕ, Bool, false, List, [], ◌∷◌, ◌++◌, map}
 use Rattle.std.specs.List.{AllByRecursion, IsDistinct, filter}
 use Rattle.audit_model.specs.Bytewise.{same}
 use Rattle.audit_model.specs.Values.{without_key, untold}
 use Rattle.audit_model.specs.declared.transcript.Note.{Note}
-use Rattle.audit_laws.proofs.Told.{Each, each-append, each-map, each-without_key}
-use Rattle.audit_laws.proofs.Sound.{each-filter}
+use Rattle.audit_laws.proofs.Told.{each-filter, Each, each-append, each-map, each-without_key}
+use Rattle.std.proofs.lemmas.Bool.Decides.{nat_tests}
 
 abbrev pub Pairs : {X : Type 0} → (X → X → Type 0) → List X → Type 0
 Pairs R [] = Unit {0}
@@ -21,19 +21,11 @@ pairs-map R f (x ∷ xs) (e, h) = (each-map (R (f x)) f xs e, pairs-map R f xs h
 
 pub pairs-filter : {X : Type 0} (R : X → X → Type 0) (p : X → Bool) (xs : List X) → Pairs R xs → Pairs R (filter p xs)
 pairs-filter R p [] h = tt
-pairs-filter R p (x ∷ xs) (e, h) = go (p x) (each-filter (R x) p xs e) (pairs-filter R p xs h)
-  where
-    go : (b : Bool) → Each (R x) (filter p xs) → Pairs R (filter p xs) → Pairs R (cond b (x ∷ filter p xs) (filter p xs))
-    go true e h = (e, h)
-    go false e h = h
+pairs-filter R p (x ∷ xs) (e, h) = let next = each-filter (R x) p xs e in let next2 = pairs-filter R p xs h in grind (arith, nat_tests, next, next2)
 
 pairs-without_key : {X : Type 0} (R : X → X → Type 0) (key_of : X → List ℕ) (key : List ℕ) (xs : List X) → Pairs R xs → Pairs R (without_key key_of key xs)
 pairs-without_key R key_of key [] h = tt
-pairs-without_key R key_of key (x ∷ xs) (e, h) = go (same key (key_of x)) (each-without_key (R x) key_of key xs e) (pairs-without_key R key_of key xs h)
-  where
-    go : (b : Bool) → Each (R x) (without_key key_of key xs) → Pairs R (without_key key_of key xs) → Pairs R (cond b xs (x ∷ without_key key_of key xs))
-    go true e' h' = h
-    go false e' h' = (e', h')
+pairs-without_key R key_of key (x ∷ xs) (e, h) = let next = each-without_key (R x) key_of key xs e in let next2 = pairs-without_key R key_of key xs h in grind (arith, nat_tests, next, next2)
 
 pub pairs-untold : {X : Type 0} (R : X → X → Type 0) (key_of : X → List ℕ) (notes : List Note) (xs : List X) → Pairs R xs → Pairs R (untold key_of notes xs)
 pairs-untold R key_of [] xs h = h

@@ -1,5 +1,5 @@
 -- The loads under way, as the history says.
-use Rattle.std.proofs.Common.{◌≡◌, refl, ap, ◌∙◌, sym, ℕ, suc, Bool, true, false, true≢false, not, ◌&&◌, ◌||◌, cond, List, [], ◌∷◌, ◌++◌, map, Option, Some, None, length, is_some}
+use Rattle.std.proofs.Common.{inr, inl, ◌≡◌, refl, ap, ◌∙◌, sym, ℕ, suc, Bool, true, false, true≢false, not, ◌&&◌, ◌||◌, cond, List, [], ◌∷◌, ◌++◌, map, Option, Some, None, length, is_some}
 use Rattle.std.specs.Prelude.{◌==◌}
 use Rattle.std.specs.List.{filter}
 use Rattle.std.proofs.lemmas.List.Elements.{filter-append}
@@ -13,6 +13,7 @@ use Rattle.audit_model.specs.Summary.{pending_from}
 use Rattle.audit_laws.proofs.Told.{Each, each-more, map-same}
 use Rattle.audit_laws.proofs.HeldStep.{same-refl}
 use Rattle.audit_laws.proofs.ConnectionSteps.{eqb-turned}
+use Rattle.std.proofs.lemmas.Bool.{cases_Bool}
 
 abbrev pub pending_by : (ℕ → Bool) → (List ℕ → List ℕ) → Sent → PendingLoad
 pending_by runs waiters sent = record { number = sent.number; key = sent.key; waiting = filter runs (waiters sent.key) }
@@ -37,13 +38,9 @@ pub filter-swap : {X : Type 0} (p q : X → Bool) (xs : List X) → filter p (fi
 filter-swap p q [] = refl
 filter-swap p q (x ∷ xs) = swap_tests (p x) (q x) x p q (filter q xs) (filter p xs) refl refl (filter-swap p q xs)
 
-test_of_map : {X Y : Type 0} (p : Y → Bool) (f : X → Y) (b : Bool) (x : X) (ys : List Y) (xs : List X) → ys ≡ map f xs → cond b (f x ∷ ys) ys ≡ map f (cond b (x ∷ xs) xs)
-test_of_map p f true x ys xs r = ap (λ l. f x ∷ l) r
-test_of_map p f false x ys xs r = r
-
 pub filter-map : {X Y : Type 0} (p : Y → Bool) (f : X → Y) (xs : List X) → filter p (map f xs) ≡ map f (filter (λ x. p (f x)) xs)
 filter-map p f [] = refl
-filter-map p f (x ∷ xs) = test_of_map p f (p (f x)) x (filter p (map f xs)) (filter (λ y. p (f y)) xs) (filter-map p f xs)
+filter-map p f (x ∷ xs) = elim (cases_Bool (p (f x))) [ inl e ↦ rw e (ap (λ l. f x ∷ l) (filter-map p f xs)) | inr e ↦ rw e (filter-map p f xs) ]
 
 neither : {X : Type 0} (a b c : Bool) (x : X) (p : X → Bool) (u v : List X) → p x ≡ not c → a ≡ c → u ≡ filter p v
     → cond (not (a || b)) (x ∷ u) u ≡ filter p (cond (not b) (x ∷ v) v)
@@ -99,13 +96,11 @@ module _ (past : History) (c : ℕ) (runs : ℕ → Bool) (running : runs c ≡ 
       go key false (Some n) = left_out (joined key past)
 
   joins_one : (key : List ℕ) (sent : Sent) → with_waiting c key (without_waiting c (pending_by runs (λ k. joined k past) sent)) ≡ pending_by runs (waiters true (Some key) None) sent
-  joins_one key sent = go (same sent.key key)
-    where
-      go : (b : Bool)
-          → cond b (at_waiting sent (filter (λ x. not (x == c)) (filter runs (joined sent.key past)) ++ c ∷ [])) (at_waiting sent (filter (λ x. not (x == c)) (filter runs (joined sent.key past))))
-          ≡ at_waiting sent (filter runs (filter (λ x. not (x == c)) (joined sent.key past) ++ cond b (c ∷ []) []))
-      go true = ap (at_waiting sent) (sym (put_last (joined sent.key past)))
-      go false = ap (at_waiting sent) (sym (left_out (joined sent.key past)))
+  joins_one key sent =
+      elim (cases_Bool (same sent.key key)) [
+        | inl e ↦ rw e (ap (at_waiting sent) (sym (put_last (joined sent.key past))))
+        | inr e ↦ rw e (ap (at_waiting sent) (sym (left_out (joined sent.key past))))
+      ]
 
   joins : (key : List ℕ) (sents : List Sent) → map (with_waiting c key) (before sents) ≡ map (pending_by runs (waiters true (Some key) None)) sents
   joins key sents =

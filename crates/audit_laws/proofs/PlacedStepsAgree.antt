@@ -1,8 +1,8 @@
 -- A step in its turn: the place of the step is the same in the history and in the situation, and a right step leads on.
-use Rattle.std.proofs.Common.{◌≡◌, refl, ap, ◌∙◌, sym, subst, ℕ, Bool, true, false, true≢false, ◌&&◌, ◌||◌, cond, List, [], ◌∷◌, map, Option, Some, None, is_some}
+use Rattle.std.proofs.Common.{inr, inl, ◌≡◌, refl, ap, ◌∙◌, sym, subst, ℕ, Bool, true, false, true≢false, ◌&&◌, ◌||◌, cond, List, [], ◌∷◌, map, Option, Some, None, is_some}
 use Rattle.std.specs.Prelude.{unwrap_or}
 use Rattle.std.specs.Option.{option_map, option_map_or}
-use Rattle.std.proofs.lemmas.Bool.{and_parts, eqb-true, not-true}
+use Rattle.std.proofs.lemmas.Bool.{cases_Bool, and_parts, eqb-true, not-true}
 use Rattle.audit_model.specs.Bytewise.{cut_at}
 use Rattle.audit_model.specs.Changes.{left_held, connection_after, after_step}
 use Rattle.audit_model.specs.Commands.{deed_of, covers}
@@ -211,11 +211,11 @@ module _ (config : Config) (made : ℕ) (past : History) (h : Sound past) (task 
     pub left : InOrder (happens ∷ past) (left_after (task ∷ tasks))
 
   right-open : is_of_conn (Some task) ≡ true → is_right config placed ≡ is_right config (placed_step_in config s (Some task) step)
-  right-open o = go (is_task_of step.conn (Some task)) refl
-    where
-      go : (b : Bool) → is_task_of step.conn (Some task) ≡ b → is_right config placed ≡ is_right config (placed_step_in config s (Some task) step)
-      go true e = ap (is_right config) (placed-open o (task-open step.conn past task tasks order runs o e))
-      go false e = not_right config placed e ∙ sym (not_right config (placed_step_in config s (Some task) step) e)
+  right-open o =
+      elim (cases_Bool (is_task_of step.conn (Some task))) [
+        | inl is ↦ ap (is_right config) (placed-open o (task-open step.conn past task tasks order runs o is))
+        | inr is ↦ not_right config placed is ∙ sym (not_right config (placed_step_in config s (Some task) step) is)
+      ]
 
   module _ (o : is_of_conn (Some task) ≡ true) (right : is_right config placed ≡ true) where
     parts : Parts config placed

@@ -1,10 +1,10 @@
 -- Records, and whole transcripts, agree.
-use Rattle.std.proofs.Common.{◌≡◌, refl, ap, ◌∙◌, sym, ℕ, Bool, true, false, true≢false, ◌&&◌, cond, List, [], ◌∷◌, ◌++◌, Option, Some, None, is_some, is_none, nat_lt, nat_le, arith}
+use Rattle.std.proofs.Common.{inr, inl, ◌≡◌, refl, ap, ◌∙◌, sym, ℕ, Bool, true, false, true≢false, ◌&&◌, cond, List, [], ◌∷◌, ◌++◌, Option, Some, None, is_some, is_none, nat_lt, nat_le, arith}
 use Rattle.std.specs.Prelude.{◌==◌}
 use Rattle.std.specs.List.{list_all, find, flat_map}
 use Rattle.std.specs.Option.{option_map, option_map_or, option_and_then}
 use Rattle.std.proofs.Math.Path.{fun_ext}
-use Rattle.std.proofs.lemmas.Bool.{and_parts}
+use Rattle.std.proofs.lemmas.Bool.{cases_Bool, and_parts}
 use Rattle.std.proofs.lemmas.Bool.Decides.{nat_tests}
 use Rattle.audit_model.specs.Belongs.{refusal_of, known_from, is_admitted}
 use Rattle.audit_model.specs.Bytewise.{is_empty}
@@ -197,9 +197,7 @@ records-from_empty config made entries = records-same config made entries [] sou
 -- records that follow one another lead to the situation that their history leaves
 pub leads-to_summary : (config : Config) (made : ℕ) (entries : List Record) → is_some (after_records config (empty_situation made) entries) ≡ true → LeadsToSummary config made entries
 leads-to_summary config made entries e =
-    records-from_empty config made entries ∙ go (list_all (is_good_record config) (placed_records_after config made [] entries)) (sym (ap is_some (records-from_empty config made entries)) ∙ e)
-  where
-    go : (b : Bool) → is_some (cond b (Some (situation_of config made (history_after config made [] entries))) None) ≡ true
-        → cond b (Some (situation_of config made (history_after config made [] entries))) None ≡ Some (situation_of config made (history_after config made [] entries))
-    go true e = refl
-    go false e = absurd (true≢false (sym e))
+    records-from_empty config made entries ∙ (elim (cases_Bool (list_all (is_good_record config) (placed_records_after config made [] entries))) [
+      | inl is ↦ rw is
+      | inr is ↦ rw is (absurd (true≢false (sym (rw is at (sym (ap is_some (records-from_empty config made entries)) ∙ e)))))
+    ])

@@ -1,9 +1,9 @@
 -- What a right step is like.
-use Rattle.std.proofs.Common.{◌≡◌, refl, ap, ◌∙◌, sym, subst, ℕ, suc, ◌<◌, Bool, true, false, true≢false, ◌&&◌, ◌||◌, cond, List, [], ◌∷◌, Option, Some, None, length, is_some, is_none, arith}
+use Rattle.std.proofs.Common.{inr, inl, ◌≡◌, refl, ap, ◌∙◌, sym, subst, ℕ, suc, ◌<◌, Bool, true, false, true≢false, ◌&&◌, ◌||◌, cond, List, [], ◌∷◌, Option, Some, None, length, is_some, is_none, arith}
 use Rattle.std.specs.Prelude.{nat_eq}
 use Rattle.std.specs.List.{find}
 use Rattle.std.specs.Option.{option_map, option_map_or, option_eq}
-use Rattle.std.proofs.lemmas.Bool.{eqb-true}
+use Rattle.std.proofs.lemmas.Bool.{cases_Bool, eqb-true}
 use Rattle.audit_model.specs.Bytewise.{same}
 use Rattle.audit_model.specs.Commands.{covers}
 use Rattle.audit_model.specs.History.{Value, Action, Effect, History, Running, Holding}
@@ -66,15 +66,8 @@ sent_now (Some reply) n next None None b e r = absurd (true≢false (sym r))
 
 not_found : {X : Type 0} (p : X → Bool) (f : X → ℕ) (xs : List X) → option_map f (find p xs) ≡ None → Each (λ x. p x ≡ false) xs
 not_found p f [] e = tt
-not_found p f (x ∷ xs) e = (passed (p x) e, not_found p f xs (later (p x) e))
-  where
-    passed : (b : Bool) → option_map f (cond b (Some x) (find p xs)) ≡ None → b ≡ false
-    passed true e = absurd (true≢false (ap is_some e))
-    passed false e = refl
-
-    later : (b : Bool) → option_map f (cond b (Some x) (find p xs)) ≡ None → option_map f (find p xs) ≡ None
-    later true e = absurd (true≢false (ap is_some e))
-    later false e = e
+not_found p f (x ∷ xs) e =
+    ((elim (cases_Bool (p x)) [ inl is ↦ rw is (absurd (true≢false (ap is_some (rw is at e)))) | inr is ↦ rw is ]), not_found p f xs ((elim (cases_Bool (p x)) [ inl t ↦ absurd (true≢false (ap is_some (rw t at e))) | inr t ↦ rw t at e ])))
 
 module _ (config : Config) (past : History) (seen : View) (sees : (key : List ℕ) → seen.load_of_key key ≡ load_of_key key past) (next : seen.next_load ≡ suc (length (loads_sent past)))
     (unsettled : (n : ℕ) → length (loads_sent past) < n → is_settled n past ≡ false) (held : List Value) (c : ℕ) (runs : ℕ → Bool) (running : runs c ≡ true) where

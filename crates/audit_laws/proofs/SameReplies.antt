@@ -1,5 +1,5 @@
 -- What a step answers, where the same is live: with another capacity, eviction policy and number of parts.
-use Rattle.std.proofs.Common.{◌≡◌, refl, ap, ◌∙◌, sym, ℕ, ◌+◌, ◌^◌, Bool, true, false, true≢false, not, ◌&&◌, ◌||◌, cond, List, [], ◌∷◌, Option, Some, None, is_some, nat_lt}
+use Rattle.std.proofs.Common.{inr, inl, arith, ◌≡◌, refl, ap, ◌∙◌, sym, ℕ, ◌+◌, ◌^◌, Bool, true, false, true≢false, not, ◌&&◌, ◌||◌, cond, List, [], ◌∷◌, Option, Some, None, is_some, nat_lt}
 use Rattle.std.specs.Prelude.{codes}
 use Rattle.std.specs.List.{filter}
 use Rattle.std.specs.Option.{option_map, option_and_then, option_eq}
@@ -21,17 +21,14 @@ use Rattle.audit_laws.proofs.Lasting.{Living, living_of, alive, of_key, lasting,
 use Rattle.audit_laws.proofs.Pairs.{Pairs, Differ}
 use Rattle.audit_laws.proofs.Rightly.{uncovering, dated, no_value}
 use Rattle.audit_laws.proofs.Views.{same-true}
+use Rattle.std.proofs.lemmas.Bool.Decides.{nat_tests}
+use Rattle.std.proofs.lemmas.Bool.{cases_Bool}
 
 -- ---- the live value's bytes
 
 filter-both : {X : Type 0} (p q : X → Bool) (xs : List X) → filter (λ x. p x && q x) xs ≡ filter q (filter p xs)
 filter-both p q [] = refl
-filter-both p q (x ∷ xs) = go (p x) (filter-both p q xs)
-  where
-    go : (b : Bool) → filter (λ x. p x && q x) xs ≡ filter q (filter p xs)
-        → cond (b && q x) (x ∷ filter (λ x. p x && q x) xs) (filter (λ x. p x && q x) xs) ≡ filter q (cond b (x ∷ filter p xs) (filter p xs))
-    go true e = ap (λ ys. cond (q x) (x ∷ ys) ys) e
-    go false e = e
+filter-both p q (x ∷ xs) = let next = filter-both p q xs in grind (arith, nat_tests, next)
 
 -- a value's bytes
 abbrev pub bytes_in : Option Value → Option (List ℕ)
@@ -176,11 +173,7 @@ module _ (config : Config) (capacity : Option ℕ) (policy : EvictionPolicy) (pa
   unrefused-reply c a effect held n e =
       option-same effect.reply (reply_of c a held effect.action)
       (sym (ap (λ b. option_eq same effect.reply (reply_of c a held effect.action) || (may_refuse a effect.action && b)) n
-      ∙ ap (λ b. option_eq same effect.reply (reply_of c a held effect.action) || b) (never (may_refuse a effect.action)) ∙ or-false _) ∙ e)
-    where
-      never : (b : Bool) → (b && false) ≡ false
-      never true = refl
-      never false = refl
+      ∙ ap (λ b. option_eq same effect.reply (reply_of c a held effect.action) || b) ((elim (cases_Bool (may_refuse a effect.action)) [ inl is ↦ rw is | inr is ↦ rw is ])) ∙ or-false _) ∙ e)
 
   -- a reply, with another one, in which the same is refused
   pub reply-same : (a b : View) (held more : List Value) (x y : Effect) → SeenAlike a b → x.action ≡ y.action → is_sync x.action ≡ false

@@ -1,9 +1,9 @@
 -- A closed connection's bytes count no more, whatever is fed to it.
-use Rattle.std.proofs.Common.{◌≡◌, refl, ap, ◌∙◌, sym, subst, ℕ, ◌≤◌, Bool, true, false, true≢false, not, ◌&&◌, ◌||◌, cond, List, [], ◌∷◌, ◌++◌, map, length, length-append, Option, Some, None, is_some, is_none, nat_lt, arith}
+use Rattle.std.proofs.Common.{inr, inl, ◌≡◌, refl, ap, ◌∙◌, sym, subst, ℕ, ◌≤◌, Bool, true, false, true≢false, not, ◌&&◌, ◌||◌, cond, List, [], ◌∷◌, ◌++◌, map, length, length-append, Option, Some, None, is_some, is_none, nat_lt, arith}
 use Rattle.std.specs.Prelude.{◌==◌}
 use Rattle.std.specs.List.{list_all, filter, cons_option}
 use Rattle.std.proofs.Math.Path.{fun_ext}
-use Rattle.std.proofs.lemmas.Bool.{and_parts, eqb-true}
+use Rattle.std.proofs.lemmas.Bool.{cases_Bool, and_parts, eqb-true}
 use Rattle.std.proofs.lemmas.Bool.Decides.{nat_tests}
 use Rattle.audit_model.specs.Bytewise.{cut_at, is_empty}
 use Rattle.audit_model.specs.History.{Effect}
@@ -34,18 +34,10 @@ pub record Shut (f : Facts) : Type 0 where
 
 -- ---- it stays closed
 
-some_where : (b : Bool) (x : Closing) → is_some (cond b (Some x) None) ≡ true → b ≡ true
-some_where true x e = refl
-some_where false x e = e
-
 shut_by : (c q w h A B A' B' : Bool) → (A ≡ true → A' ≡ true) → (B ≡ true → B' ≡ true)
     → is_some (cond c (Some by.Asked) (cond q (Some by.Quit) (cond (w && A) (Some by.Behind) (cond (not w && not h && B) (Some by.Long) None)))) ≡ true
     → is_some (cond c (Some by.Asked) (cond q (Some by.Quit) (cond (w && A') (Some by.Behind) (cond (not w && not h && B') (Some by.Long) None)))) ≡ true
-shut_by true q w h A B A' B' f g e = refl
-shut_by false true w h A B A' B' f g e = refl
-shut_by false false true h A B A' B' f g e = ap (λ b. is_some (cond b (Some by.Behind) None)) (f (some_where A by.Behind e))
-shut_by false false false true A B A' B' f g e = absurd (true≢false (sym e))
-shut_by false false false false A B A' B' f g e = ap (λ b. is_some (cond b (Some by.Long) None)) (g (some_where B by.Long e))
+shut_by c q w h A B A' B' f g e = grind (arith, f, g, e)
 
 over_more : (m n : ℕ) → m ≤ n → nat_lt 8192 m ≡ true → nat_lt 8192 n ≡ true
 over_more m n h e = grind (arith, nat_tests)
@@ -94,11 +86,7 @@ out_of_turn config p e =
     ap (λ b. b && is_held_rightly p && has_right_line p && has_right_reply config p && has_right_load p && has_right_acceptance config p && has_right_notes config p && is_quiet_where_silent p && keeps_shares config p) e
 
 in_its_turn : (config : Config) (p : PlacedStep) → is_right config p ≡ true → is_in_turn p ≡ true
-in_its_turn config p e = go (is_in_turn p) refl
-  where
-    go : (b : Bool) → is_in_turn p ≡ b → b ≡ true
-    go true k = refl
-    go false k = absurd (true≢false (sym e ∙ out_of_turn config p k))
+in_its_turn config p e = grind (arith, nat_tests)
 
 module _ (config : Config) (conn : ℕ) where
   -- it is closed, also with those bytes
@@ -155,20 +143,11 @@ module _ (config : Config) (conn : ℕ) where
 
   -- what is true of another and not of it
   other-by : (test : ℕ → Bool) → test conn ≡ false → (c : ℕ) → test c ≡ true → (c == conn) ≡ false
-  other-by test not_own c is_so = go (c == conn) refl
-    where
-      go : (b : Bool) → (c == conn) ≡ b → b ≡ false
-      go true e = absurd (true≢false (sym is_so ∙ ap test (eqb-true c conn e) ∙ not_own))
-      go false e = refl
+  other-by test not_own c is_so = grind (arith, nat_tests)
 
   due-away : (may : ℕ → Bool) → may conn ≡ false → (tasks : List Task) → Each Away tasks → AwayNow (first_due (due may tasks)) × Each Away (left_after (due may tasks))
   due-away may not_own [] h = (tt, tt)
-  due-away may not_own (RunLines c ∷ tasks) (a, h) = go (may c) refl (due-away may not_own tasks h)
-    where
-      go : (b : Bool) → may c ≡ b → AwayNow (first_due (due may tasks)) × Each Away (left_after (due may tasks))
-          → AwayNow (first_due (cond b (RunLines c ∷ tasks) (due may tasks))) × Each Away (left_after (cond b (RunLines c ∷ tasks) (due may tasks)))
-      go true is_so ih = (other-by may not_own c is_so, (tt, h))
-      go false is_so ih = ih
+  due-away may not_own (RunLines c ∷ tasks) (a, h) = let next = due-away may not_own tasks h in grind (arith, nat_tests, next)
   due-away may not_own (Store key outcome ∷ tasks) (a, h) = (tt, h)
   due-away may not_own (Deliver c outcome ∷ tasks) (a, h) = (a, h)
   due-away may not_own (RunAgain c ∷ tasks) (a, h) = (a, h)
@@ -176,11 +155,7 @@ module _ (config : Config) (conn : ℕ) where
 
   filtered : (p : ℕ → Bool) → p conn ≡ false → (cs : List ℕ) → Each (λ c. (c == conn) ≡ false) (filter p cs)
   filtered p not_own [] = tt
-  filtered p not_own (c ∷ cs) = go (p c) refl (filtered p not_own cs)
-    where
-      go : (b : Bool) → p c ≡ b → Each (λ d. (d == conn) ≡ false) (filter p cs) → Each (λ d. (d == conn) ≡ false) (cond b (c ∷ filter p cs) (filter p cs))
-      go true is_so ih = (other-by p not_own c is_so, ih)
-      go false is_so ih = ih
+  filtered p not_own (c ∷ cs) = let next = filtered p not_own cs in grind (arith, nat_tests, next)
 
   waiting-away : (t : Traces) → Shut (t.connection conn) → (key : Option (List ℕ)) → Each (λ c. (c == conn) ≡ false) (waiting_by config t key)
   waiting-away t s None = tt
@@ -201,11 +176,7 @@ module _ (config : Config) (conn : ℕ) where
   tasks-away : (t : Traces) → Shut (t.connection conn) → (e : Event) → Each Away (tasks_by config t e)
   tasks-away t s (event.Open c) = tt
   tasks-away t s (event.Close c) = tt
-  tasks-away t s (event.Feed c piece moment) = go (last_is is_held (t.connection c).effect) refl
-    where
-      go : (b : Bool) → last_is is_held (t.connection c).effect ≡ b → Each Away (cond b (RunHeld c ∷ []) [] ++ RunLines c ∷ [])
-      go true is_so = (other-by (λ d. last_is is_held (t.connection d).effect) s.unheld c is_so, (tt, tt))
-      go false is_so = (tt, tt)
+  tasks-away t s (event.Feed c piece moment) = grind (arith, nat_tests)
   tasks-away t s (event.Answer load outcome moment) =
       let cs = waiting_by config t (key_by config t load) in
       (tt, each-append Away (map (λ c. Deliver c outcome) cs) (map RunLines cs) (delivers-away outcome cs (waiting-away t s (key_by config t load))) (lines-away cs))
@@ -222,13 +193,7 @@ module _ (config : Config) (conn : ℕ) where
 
     beside : (task : Task) (c : ℕ) (x : Step) → is_task_of x.conn (Some task) ≡ (c == x.conn) → (c == conn) ≡ false
         → is_right config (lined task x (line_in (other bytes t) x)) ≡ is_right config (lined task x (line_in t x))
-    beside task c x e a = go (x.conn == conn) refl
-      where
-        go : (b : Bool) → (x.conn == conn) ≡ b → is_right config (lined task x (line_in (other bytes t) x)) ≡ is_right config (lined task x (line_in t x))
-        go true k =
-            let out = e ∙ ap (λ n. c == n) (eqb-true x.conn conn k) ∙ a in
-            out_of_turn config (lined task x (line_in (other bytes t) x)) out ∙ sym (out_of_turn config (lined task x (line_in t x)) out)
-        go false k = ap (λ b. is_right config (lined task x (first_line (bytes_left (record (t.connection x.conn) { bytes = cond b bytes (t.connection x.conn).bytes }))))) k
+    beside task c x e a = grind (arith, nat_tests)
 
     right-same : (o : Option Task) (x : Step) → AwayNow o → is_right config (placed_by config (other bytes t) o x) ≡ is_right config (placed_by config t o x)
     right-same None x a = refl
@@ -291,23 +256,11 @@ module _ (config : Config) (conn : ℕ) where
 
   walk-on : (bytes : List ℕ) (t : Traces) (o : Option Task) (x : Step) (w' w : Walked) → AwayNow o
       → (is_right config (placed_by config t o x) ≡ true → SameWalk bytes w' w) → SameWalk bytes (onto (placed_by config (other bytes t) o x) w') (onto (placed_by config t o x) w)
-  walk-on bytes t o x w' w a f = go (is_right config (placed_by config t o x)) refl
-    where
-      go : (b : Bool) → is_right config (placed_by config t o x) ≡ b → SameWalk bytes (onto (placed_by config (other bytes t) o x) w') (onto (placed_by config t o x) w)
-      go false e =
-          record {
-            right = ap (λ b. b && Right w') (right-same bytes t o x a ∙ e) ∙ sym (ap (λ b. b && Right w) e);
-            then' = λ z. absurd (true≢false (sym z ∙ ap (λ b. b && Right w) e));
-          }
-      go true e =
-          let ih : SameWalk bytes w' w = f e in
-          record {
-            right = ap (λ b. b && Right w') (right-same bytes t o x a) ∙ ap (λ b. is_right config (placed_by config t o x) && b) ih.right;
-            then' =
-                λ z.
-                let h : Then bytes w' w = ih.then' (and_parts (is_right config (placed_by config t o x)) (Right w) z).1 in
-                record { left = h.left; values = ap (cons_option (effect_by config t o x).value) h.values; after = h.after; shut = h.shut };
-          }
+  walk-on bytes t o x w' w a f =
+      elim (cases_Bool (is_right config (placed_by config t o x))) [
+        | inl is ↦ let ih : SameWalk bytes w' w = f is in record { right = ap (λ b. b && Right w') (right-same bytes t o x a) ∙ ap (λ b. is_right config (placed_by config t o x) && b) ih.right; then' = λ z. let h : Then bytes w' w = ih.then' (and_parts (is_right config (placed_by config t o x)) (Right w) z).1 in record { left = h.left; values = ap (cons_option (effect_by config t o x).value) h.values; after = h.after; shut = h.shut } }
+        | inr is ↦ record { right = ap (λ b. b && Right w') (right-same bytes t o x a ∙ is) ∙ sym (ap (λ b. b && Right w) is); then' = λ z. absurd (true≢false (sym z ∙ ap (λ b. b && Right w) is)) }
+      ]
 
   shut-walk : (steps : List Step) (bytes : List ℕ) (t : Traces) (tasks : List Task) → Each Away tasks → BothShut bytes t
       → SameWalk bytes (walk_by config (other bytes t) tasks steps) (walk_by config t tasks steps)

@@ -1,9 +1,9 @@
 -- What holds of every history of admitted events and right steps.
-use Rattle.std.proofs.Common.{◌≡◌, refl, ap, ◌∙◌, sym, ℕ, suc, ◌<◌, ◌≤◌, Bool, true, false, true≢false, not, ◌&&◌, ◌||◌, cond, List, [], ◌∷◌, ◌++◌, map, Option, Some, None, length, is_some, is_none, arith, nat_lt, nat_le, max}
+use Rattle.std.proofs.Common.{inr, inl, ◌≡◌, refl, ap, ◌∙◌, sym, ℕ, suc, ◌<◌, ◌≤◌, Bool, true, false, true≢false, not, ◌&&◌, ◌||◌, cond, List, [], ◌∷◌, ◌++◌, map, Option, Some, None, length, is_some, is_none, arith, nat_lt, nat_le, max}
 use Rattle.std.specs.Prelude.{IsTrue, ◌==◌}
 use Rattle.std.specs.List.{filter}
 use Rattle.std.specs.Option.{option_map_or, option_or}
-use Rattle.std.proofs.lemmas.Bool.{and_parts, leb-true, ne_eqb, eqb-true}
+use Rattle.std.proofs.lemmas.Bool.{cases_Bool, and_parts, leb-true, ne_eqb, eqb-true}
 use Rattle.std.proofs.lemmas.List.{map-append}
 use Rattle.std.proofs.lemmas.List.Elements.{filter-append}
 use Rattle.std.proofs.Math.Bool.{and-false}
@@ -55,14 +55,6 @@ le_other c d n h k = ne_eqb c d (λ e. omega arith)
 pub le_other' : (c d n : ℕ) → d ≤ n → n < c → (d == c) ≡ false
 le_other' c d n h k = ne_eqb d c (λ e. omega arith)
 
-each_tested : {X : Type 0} (P : X → Type 0) (b : Bool) (x : X) (ys : List X) → P x → Each P ys → Each P (cond b (x ∷ ys) ys)
-each_tested P true x ys p h = (p, h)
-each_tested P false x ys p h = h
-
-pub each-filter : {X : Type 0} (P : X → Type 0) (p : X → Bool) (xs : List X) → Each P xs → Each P (filter p xs)
-each-filter P p [] h = tt
-each-filter P p (x ∷ xs) (a, h) = each_tested P (p x) x (filter p xs) a (each-filter P p xs h)
-
 filter-same : (p q : ℕ → Bool) (xs : List ℕ) → Each (λ x. p x ≡ q x) xs → filter p xs ≡ filter q xs
 filter-same p q [] h = refl
 filter-same p q (x ∷ xs) (e, h) =
@@ -71,16 +63,8 @@ filter-same p q (x ∷ xs) (e, h) =
 connections-same : (f g : ℕ → Facts) (ds : List ℕ) → Each (λ d. g d ≡ f d) ds → connections_by g ds ≡ connections_by f ds
 connections-same f g [] h = refl
 connections-same f g (d ∷ ds) (e, h) =
-    mapped (open_in (g d)) ∙ ap (λ ls. cond (open_in (g d)) (connection_of_facts d (g d) ∷ ls) ls) (connections-same f g ds h) ∙ ap (λ x. cond (open_in x) (connection_of_facts d x ∷ connections_by f ds) (connections_by f ds)) e
-    ∙ sym (mapped' (open_in (f d)))
-  where
-    mapped : (b : Bool) → map (λ x. connection_of_facts x (g x)) (cond b (d ∷ filter (λ x. open_in (g x)) ds) (filter (λ x. open_in (g x)) ds)) ≡ cond b (connection_of_facts d (g d) ∷ connections_by g ds) (connections_by g ds)
-    mapped true = refl
-    mapped false = refl
-
-    mapped' : (b : Bool) → map (λ x. connection_of_facts x (f x)) (cond b (d ∷ filter (λ x. open_in (f x)) ds) (filter (λ x. open_in (f x)) ds)) ≡ cond b (connection_of_facts d (f d) ∷ connections_by f ds) (connections_by f ds)
-    mapped' true = refl
-    mapped' false = refl
+    (elim (cases_Bool (open_in (g d))) [ inl is ↦ rw is | inr is ↦ rw is ]) ∙ ap (λ ls. cond (open_in (g d)) (connection_of_facts d (g d) ∷ ls) ls) (connections-same f g ds h) ∙ ap (λ x. cond (open_in x) (connection_of_facts d x ∷ connections_by f ds) (connections_by f ds)) e
+    ∙ sym ((elim (cases_Bool (open_in (f d))) [ inl t ↦ rw t | inr t ↦ rw t ]))
 
 -- ---- what an admitted event says
 

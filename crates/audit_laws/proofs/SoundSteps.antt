@@ -3,9 +3,8 @@ use Rattle.std.proofs.Common.{◌≡◌, refl, ap, ◌∙◌, sym, subst, ℕ, s
 use Rattle.std.specs.Prelude.{◌==◌}
 use Rattle.std.specs.List.{filter, find}
 use Rattle.std.specs.Option.{option_map}
-use Rattle.std.proofs.lemmas.Bool.{ne_eqb, eqb-true}
+use Rattle.std.proofs.lemmas.Bool.{cond_both, ne_eqb, eqb-true}
 use Rattle.std.proofs.lemmas.Bool.Decides.{nat_tests}
-use Rattle.audit_model.specs.Bytewise.{same}
 use Rattle.audit_model.specs.History.{Effect, History, Opened, Closed, Fed, Settled, Stored, Ran}
 use Rattle.audit_model.specs.Loads.{Sent, key_loaded, sent_by, loads_sent, is_settled, loads_under_way, key_of_load, waits_for, sends_for, joined}
 use Rattle.audit_model.specs.Places.{happening_of}
@@ -18,7 +17,7 @@ use Rattle.audit_model.specs.declared.event.Event.TheVariants as event
 use Rattle.audit_model.specs.declared.event.Outcome.{Outcome}
 use Rattle.audit_model.specs.declared.event.Instant.{Instant}
 use Rattle.audit_model.specs.declared.transcript.Step.{Step}
-use Rattle.audit_laws.proofs.Told.{Each, each-append, each-more}
+use Rattle.audit_laws.proofs.Told.{each-filter, Each, each-append, each-more}
 use Rattle.audit_laws.proofs.HeldEvent.{stand-event}
 use Rattle.audit_laws.proofs.Connections.{facts, facts-opened, facts-closed, facts-fed, facts-ran, facts-own}
 use Rattle.audit_laws.proofs.LinesRead.{Complete, facts-own_fed, complete-fed, complete-ran}
@@ -26,7 +25,7 @@ use Rattle.audit_laws.proofs.Connections.{open_in}
 use Rattle.audit_laws.proofs.PendingLoads.{SendsRightly, settled-filter}
 use Rattle.audit_laws.proofs.Leaving.{Distinct, distinct-filter}
 use Rattle.audit_laws.proofs.Changes.{StepFits, StoreFits, NumbersRightly, stand-ran, stand-stored}
-use Rattle.audit_laws.proofs.Sound.{Sound, le_open, le_other', each-filter, Admitted}
+use Rattle.audit_laws.proofs.Sound.{Sound, le_open, le_other', Admitted}
 
 one_more : (x n : ℕ) → ((suc n == x) || (nat_lt 0 x && nat_le x n)) ≡ (nat_lt 0 x && nat_le x (suc n))
 one_more x n = grind (arith, nat_tests)
@@ -87,12 +86,7 @@ module _ (past : History) (h : Sound past) where
 
   found_within : (load n : ℕ) (sents : List Sent) → Each (λ sent. sent.number ≤ n) sents → is_some (option_map (λ sent. sent.key) (find (λ sent. sent.number == load) sents)) ≡ true → load ≤ n
   found_within load n [] k e = absurd (true≢false (sym e))
-  found_within load n (x ∷ xs) (p, k) e = go (x.number == load) refl e (found_within load n xs k)
-    where
-      go : (b : Bool) → (x.number == load) ≡ b → is_some (option_map (λ sent. sent.key) (cond b (Some x) (find (λ sent. sent.number == load) xs))) ≡ true
-          → (is_some (option_map (λ sent. sent.key) (find (λ sent. sent.number == load) xs)) ≡ true → load ≤ n) → load ≤ n
-      go true q e f = subst (λ m. m ≤ n) (eqb-true x.number load q) p
-      go false q e f = f e
+  found_within load n (x ∷ xs) (p, k) e = let next = found_within load n xs k in grind (arith, nat_tests, e, next)
 
   pub sound-settled : (load : ℕ) (moment : Instant) → is_some (key_of_load load past) ≡ true → Sound (Settled load moment.nanos ∷ past)
   sound-settled load moment a =
@@ -134,10 +128,6 @@ module _ (past : History) (h : Sound past) where
         unsettled = h.unsettled;
       }
 
-  each_cond : {X : Type 0} (P : X → Type 0) (b : Bool) (xs ys : List X) → Each P xs → Each P ys → Each P (cond b xs ys)
-  each_cond P true xs ys h k = h
-  each_cond P false xs ys h k = k
-
   module _ (config : Config) (made : ℕ) (task : Option Task) (step : Step) (effect : Effect) (fits : StepFits config made past task step effect) where
     abbrev c : ℕ
     c = step.conn
@@ -162,11 +152,7 @@ module _ (past : History) (h : Sound past) where
         → Distinct (filter (λ sent. not (is_settled sent.number past)) (sent_by ko lo ++ loads_sent past))
     keys_then waits None lo r = h.keys
     keys_then waits (Some key) None r = h.keys
-    keys_then waits (Some key) (Some n) r = go (not (is_settled n past)) r.2
-      where
-        go : (b : Bool) → Each (λ sent. same sent.key key ≡ false) (loads_under_way past) → Distinct (cond b (record { number = n; key = key } ∷ loads_under_way past) (loads_under_way past))
-        go true e = (e, h.keys)
-        go false e = h.keys
+    keys_then waits (Some key) (Some n) r = grind (arith, nat_tests, r.2)
 
     unsettled_then : (ko : Option (List ℕ)) (lo : Option ℕ) (n : ℕ) → length (sent_by ko lo ++ loads_sent past) < n → is_settled n past ≡ false
     unsettled_then None lo n k = h.unsettled n k
@@ -181,8 +167,8 @@ module _ (past : History) (h : Sound past) where
           listed = h.listed;
           joined_opened = λ key.
               each-append _ (cond (sends_for key effect) [] (filter (λ x. not (x == c)) (joined key past))) _
-              (each_cond _ (sends_for key effect) [] (filter (λ x. not (x == c)) (joined key past)) tt (each-filter _ _ (joined key past) (h.joined_opened key)))
-              (each_cond _ (waits_for key effect) (c ∷ []) [] (within, tt) tt);
+              (cond_both (sends_for key effect) [] _ (Each _) (λ _. tt) (λ _. each-filter _ _ (joined key past) (h.joined_opened key)))
+              (cond_both (waits_for key effect) _ [] (Each _) (λ _. (within, tt)) (λ _. tt));
           fresh = λ x k. facts-ran x c effect past (le_other' x c (opened_count past) within k) ∙ h.fresh x k;
           complete = λ x. complete_ran x (c == x) refl;
           sent_numbers = numbers_then (key_loaded effect.action) effect.load fits.numbers;

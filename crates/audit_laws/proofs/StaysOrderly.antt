@@ -1,5 +1,5 @@
 -- Situations that records lead to are orderly.
-use Rattle.std.proofs.Common.{◌≡◌, refl, ap, ◌∙◌, sym, subst, ℕ, Bool, true, false, true≢false, not, ◌&&◌, ◌||◌, List, [], ◌∷◌, ◌++◌, map, Option, Some, None}
+use Rattle.std.proofs.Common.{arith, ◌≡◌, refl, ap, ◌∙◌, sym, subst, ℕ, Bool, true, false, true≢false, not, ◌||◌, List, [], ◌∷◌, ◌++◌, map, Option, Some, None}
 use Rattle.std.specs.Prelude.{IsTrue}
 use Rattle.std.specs.List.{list_all, IsDistinct}
 use Rattle.std.specs.Option.{option_map, option_to_list}
@@ -14,7 +14,7 @@ use Rattle.audit_model.specs.History.{Value}
 use Rattle.audit_model.specs.Notes.{is_over, newcomer, candidates_of, is_rewritten, is_succeeded, are_true_notes}
 use Rattle.audit_model.specs.Situation.{Situation, HeldValue, candidate_at}
 use Rattle.audit_model.specs.Steps.{Task, is_right}
-use Rattle.audit_model.specs.Values.{is_value_of, untold}
+use Rattle.audit_model.specs.Values.{untold}
 use Rattle.audit_model.specs.View.{Candidate}
 use Rattle.audit_model.specs.declared.config.Config.{Config}
 use Rattle.audit_model.specs.declared.event.Event.{Event}
@@ -29,6 +29,7 @@ use Rattle.audit_laws.proofs.HeldAll.{none_succeeded}
 use Rattle.audit_laws.proofs.PlacedStepsAgree.{parts-of}
 use Rattle.audit_laws.proofs.Kept.{held-stepped, event-ages}
 use Rattle.audit_laws.proofs.Following.{records-keep}
+use Rattle.std.proofs.lemmas.Bool.Decides.{nat_tests}
 
 abbrev Marked : Config → List HeldValue → Type 0
 Marked config held = IsTrue (list_all (λ h. not (is_over config h.value.part (map (λ k. k.value) held)) || h.evictable) held)
@@ -127,14 +128,10 @@ module _ (config : Config) (now : ℕ) (held : List HeldValue) (deed : Deed) (no
       each-append Fresh olds (option_to_list (option_map (newcomer config) deed.value)) (each-map Fresh (candidate_at config now) held (each-any held (λ h e. absurd (true≢false (sym e))))) (new-fresh deed.value refl)
 
   differ-left : (c d : Candidate) → Apart c d → IsTrue (not (is_succeeded deed c)) → Fresh d → Differ c.value.key d.value.key
-  differ-left c d apart spared fresh = go d.new refl
+  differ-left c d apart spared fresh = grind (arith, nat_tests)
     where
       unwritten : is_rewritten deed c ≡ false
       unwritten = (or_parts (is_rewritten deed c) (is_this c.value.key deed.deletes) (not-true (is_succeeded deed c) spared)).0
-
-      go : (b : Bool) → d.new ≡ b → Differ c.value.key d.value.key
-      go false e = apart.1 e
-      go true e = ap (is_value_of c.value.key) (sym (fresh e)) ∙ ap (λ b. not b && is_value_of c.value.key deed.value) (sym apart.0) ∙ unwritten
 
   distinct-after : Pairs (λ g h. Differ g.value.key h.value.key) held → IsTrue (are_true_notes config olds deed all notes) → Distinct (all_held_after config now held deed notes)
   distinct-after h told =

@@ -1,5 +1,5 @@
 -- Two transcripts of one list of events: the same replies, where nothing is told `Size` and the same commands are taken.
-use Rattle.std.proofs.Common.{◌≡◌, refl, ap, ◌∙◌, sym, subst, ℕ, Bool, true, false, true≢false, ◌&&◌, cond, List, [], ◌∷◌, ◌++◌, map, max, Option, Some, None, is_some, is_none}
+use Rattle.std.proofs.Common.{arith, ◌≡◌, refl, ap, ◌∙◌, sym, subst, ℕ, Bool, true, false, true≢false, ◌&&◌, List, [], ◌∷◌, ◌++◌, map, max, Option, Some, None, is_some, is_none}
 use Rattle.std.specs.List.{list_all, flat_map}
 use Rattle.std.specs.Option.{option_map_or, option_and_then}
 use Rattle.std.proofs.lemmas.Bool.{and_parts, and_from}
@@ -34,6 +34,7 @@ use Rattle.audit_laws.proofs.PlacedStepsAgree.{parts-of}
 use Rattle.audit_laws.proofs.StaysOrderly.{orderly_stays}
 use Rattle.audit_laws.proofs.TranscriptsAgree.{agrees}
 use Rattle.audit_laws.proofs.Twins.{second, Twin, gs-after, after-same, twin-after, answers-alike}
+use Rattle.std.proofs.lemmas.Bool.Decides.{nat_tests}
 
 -- ---- tasks of connections
 
@@ -42,11 +43,7 @@ of_conns tasks = list_all (λ t. is_of_conn (Some t)) tasks
 
 due-of_conns : (may : ℕ → Bool) (tasks : List Task) → of_conns tasks ≡ true → of_conns (due may tasks) ≡ true
 due-of_conns may [] e = refl
-due-of_conns may (RunLines c ∷ tasks) e = go (may c) (due-of_conns may tasks e)
-  where
-    go : (b : Bool) → of_conns (due may tasks) ≡ true → of_conns (cond b (RunLines c ∷ tasks) (due may tasks)) ≡ true
-    go true h = e
-    go false h = h
+due-of_conns may (RunLines c ∷ tasks) e = let next = due-of_conns may tasks e in grind (arith, nat_tests, next)
 due-of_conns may (Store key outcome ∷ tasks) e = e
 due-of_conns may (Deliver c outcome ∷ tasks) e = e
 due-of_conns may (RunAgain c ∷ tasks) e = e

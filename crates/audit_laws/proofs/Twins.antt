@@ -1,13 +1,13 @@
 -- Two situations in which the same is live, with another capacity, eviction policy and number of parts: each step leads to two such again.
-use Rattle.std.proofs.Common.{◌≡◌, refl, ap, ◌∙◌, sym, ℕ, Bool, true, false, true≢false, not, ◌||◌, cond, List, Option, Some, None, is_some, nat_le}
+use Rattle.std.proofs.Common.{inr, inl, arith, ◌≡◌, refl, ap, ◌∙◌, sym, ℕ, Bool, true, false, true≢false, ◌||◌, cond, List, Option, Some, None, is_some, nat_le}
 use Rattle.std.specs.Prelude.{nat_eq}
 use Rattle.std.specs.Option.{option_map, option_map_or, option_eq}
-use Rattle.std.proofs.lemmas.Bool.{and_parts, eqb-true}
+use Rattle.std.proofs.lemmas.Bool.{cases_Bool, and_parts, eqb-true}
 use Rattle.audit_model.specs.Changes.{all_held_after, connection_after, join_by, join_load, with_connection_after, after_step}
 use Rattle.audit_model.specs.Commands.{Nothing, deed_of, key_used, key_deleted, covering_of, covers_key, is_this, is_sync, drops, quits}
 use Rattle.audit_model.specs.Follows.{line_in, placed_step_in}
 use Rattle.audit_model.specs.Grammar.{reading}
-use Rattle.audit_model.specs.History.{Effect, Action, Running, Holding, Abandoning, accepts_values}
+use Rattle.audit_model.specs.History.{Effect, Action, Running, Holding, accepts_values}
 use Rattle.audit_model.specs.Loads.{key_loaded}
 use Rattle.audit_model.specs.Replies.{offer_of, load_sent_by, value_from}
 use Rattle.audit_model.specs.Situation.{Situation, Connection, HeldValue, connection_in, with_connection, view_in}
@@ -30,6 +30,7 @@ use Rattle.audit_laws.proofs.PlacedStepsAgree.{Parts, parts-of}
 use Rattle.audit_laws.proofs.Rightly.{line-due}
 use Rattle.audit_laws.proofs.SameReplies.{SeenAlike, other, living_bytes, live-bytes, some-bytes, reply-same, sync-replies, loads-same, offers-same, living-accepted, fresh-deed}
 use Rattle.audit_laws.proofs.StaysOrderly.{orderly_stays, held-pairs}
+use Rattle.std.proofs.lemmas.Bool.Decides.{nat_tests}
 
 -- ---- what does not look at the values held
 
@@ -108,11 +109,7 @@ lines-by s None a b h = ap (λ n. line_in None (connection_in n s)) (h refl)
 -- a value is accepted exactly where one is offered
 accepts-offers : (config : Config) (placed : PlacedStep) (o : Option Accepted) → has_right_acceptance config (record placed { step = record placed.step { accepted = o } }) ≡ true
     → is_some (option_map (λ a. a.part) o) ≡ is_some (offer_of config placed.seen placed.effect.action)
-accepts-offers config placed None e = go (is_some (offer_of config placed.seen placed.effect.action)) e
-  where
-    go : (b : Bool) → not b ≡ true → false ≡ b
-    go true e = absurd (true≢false (sym e))
-    go false e = refl
+accepts-offers config placed None e = grind (arith, nat_tests, e)
 accepts-offers config placed (Some a) e = sym (and_parts (is_some (offer_of config placed.seen placed.effect.action)) _ e).0
 
 option_map-some : (o : Option Accepted) → is_some (option_map (λ a. a.part) o) ≡ is_some o
@@ -200,11 +197,7 @@ module _ (config : Config) (capacity : Option ℕ) (policy : EvictionPolicy) (pa
     actions-by (Some (Deliver c outcome)) h = refl
     actions-by (Some (RunAgain c)) h =
         ap (λ n. action_in config (option_map_or (λ m. m.waited) (connection_in n s) 0) (Some (RunAgain c)) x) (h refl)
-        ∙ again (nat_le 200 (option_map_or (λ m. m.waited) (connection_in y.conn s) 0))
-      where
-        again : (b : Bool) → cond b Abandoning (action_of_line config x) ≡ cond b Abandoning (action_of_line second y)
-        again true = refl
-        again false = line-action
+        ∙ (elim (cases_Bool (nat_le 200 (option_map_or (λ m. m.waited) (connection_in y.conn s) 0))) [ inl e ↦ rw e | inr e ↦ rw e line-action ])
     actions-by (Some (RunHeld c)) h = line-action
     actions-by (Some (RunLines c)) h = line-action
     actions-by None h = line-action
@@ -216,13 +209,11 @@ module _ (config : Config) (capacity : Option ℕ) (policy : EvictionPolicy) (pa
     answers-same n = reply-same config capacity policy parts accepts px.seen py.seen px.held py.held px.effect py.effect seen actions-same n refused of_x.reply of_y.reply
 
     replied-same : is_some x.reply ≡ is_some y.reply
-    replied-same = go (is_sync px.effect.action) refl
-      where
-        go : (b : Bool) → is_sync px.effect.action ≡ b → is_some x.reply ≡ is_some y.reply
-        go true e =
-            sync-replies config capacity policy parts accepts config px.seen px.held px.effect e of_x.reply
-            ∙ sym (sync-replies config capacity policy parts accepts second py.seen py.held py.effect (ap is_sync (sym actions-same) ∙ e) of_y.reply)
-        go false e = ap is_some (answers-same e)
+    replied-same =
+        elim (cases_Bool (is_sync px.effect.action)) [
+          | inl is ↦ sync-replies config capacity policy parts accepts config px.seen px.held px.effect is of_x.reply ∙ sym (sync-replies config capacity policy parts accepts second py.seen py.held py.effect (ap is_sync (sym actions-same) ∙ is) of_y.reply)
+          | inr is ↦ ap is_some (answers-same is)
+        ]
 
     loads_sent-same : x.load ≡ y.load
     loads_sent-same =
@@ -244,14 +235,10 @@ module _ (config : Config) (capacity : Option ℕ) (policy : EvictionPolicy) (pa
         of_line true = refl
         of_line false = n
 
-        or_gone : (b : Bool) → is_sync (cond b Abandoning (action_of_line config x)) ≡ false
-        or_gone true = refl
-        or_gone false = of_line x.held
-
         go : (task : Option Task) → is_sync (action_in config waited task x) ≡ false
         go (Some (Store key outcome)) = refl
         go (Some (Deliver c outcome)) = refl
-        go (Some (RunAgain c)) = or_gone (nat_le 200 waited)
+        go (Some (RunAgain c)) = grind (arith, nat_tests)
         go (Some (RunHeld c)) = of_line x.held
         go (Some (RunLines c)) = of_line x.held
         go None = of_line x.held
@@ -270,22 +257,18 @@ module _ (config : Config) (capacity : Option ℕ) (policy : EvictionPolicy) (pa
     -- ---- the situations then
 
     covers-same : covering_of px.effect ≡ covering_of py.effect
-    covers-same = go (is_sync px.effect.action) refl
-      where
-        go : (b : Bool) → is_sync px.effect.action ≡ b → covering_of px.effect ≡ covering_of py.effect
-        go true e = sync-covers px.effect px.effect.action e ∙ sym (sync-covers py.effect py.effect.action (ap is_sync (sym actions-same) ∙ e))
-        go false e =
-            ap (λ a. covering_of (record px.effect { action = a })) actions-same
-            ∙ ap (λ r. covering_of (record px.effect { action = py.effect.action; reply = r })) (answers-same e)
+    covers-same =
+        elim (cases_Bool (is_sync px.effect.action)) [
+          | inl is ↦ sync-covers px.effect px.effect.action is ∙ sym (sync-covers py.effect py.effect.action (ap is_sync (sym actions-same) ∙ is))
+          | inr is ↦ ap (λ a. covering_of (record px.effect { action = a })) actions-same ∙ ap (λ r. covering_of (record px.effect { action = py.effect.action; reply = r })) (answers-same is)
+        ]
 
     drops-same : drops px.effect ≡ drops py.effect
-    drops-same = go (is_sync px.effect.action) refl
-      where
-        go : (b : Bool) → is_sync px.effect.action ≡ b → drops px.effect ≡ drops py.effect
-        go true e = sync-drops px.effect px.effect.action e ∙ sym (sync-drops py.effect py.effect.action (ap is_sync (sym actions-same) ∙ e))
-        go false e =
-            ap (λ a. drops (record px.effect { action = a })) actions-same
-            ∙ ap (λ r. drops (record px.effect { action = py.effect.action; reply = r })) (answers-same e)
+    drops-same =
+        elim (cases_Bool (is_sync px.effect.action)) [
+          | inl is ↦ sync-drops px.effect px.effect.action is ∙ sym (sync-drops py.effect py.effect.action (ap is_sync (sym actions-same) ∙ is))
+          | inr is ↦ ap (λ a. drops (record px.effect { action = a })) actions-same ∙ ap (λ r. drops (record px.effect { action = py.effect.action; reply = r })) (answers-same is)
+        ]
 
     -- the values held then in the other situation
     abbrev pub gs-after : List HeldValue

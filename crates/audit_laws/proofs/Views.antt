@@ -1,5 +1,5 @@
 -- A step sees the same of the history and of the situation that the history leaves.
-use Rattle.std.proofs.Common.{◌≡◌, refl, ap, ◌∙◌, sym, ℕ, Bool, true, false, true≢false, not, ◌&&◌, ◌||◌, cond, List, [], ◌∷◌, map, Option, Some, None}
+use Rattle.std.proofs.Common.{inr, inl, ◌≡◌, refl, ap, ◌∙◌, sym, ℕ, Bool, true, false, true≢false, not, ◌&&◌, ◌||◌, cond, List, [], ◌∷◌, map, Option, Some, None}
 use Rattle.std.specs.Prelude.{◌==◌}
 use Rattle.std.specs.List.{filter, filter_map, find, list_any, cons_option}
 use Rattle.std.specs.Option.{option_map, option_and_then}
@@ -12,13 +12,14 @@ use Rattle.audit_model.specs.Bytewise.{same}
 use Rattle.audit_model.specs.History.{Value, History, latest_moment}
 use Rattle.audit_model.specs.Loads.{loads_under_way, load_of_key, key_of_load, next_load}
 use Rattle.audit_model.specs.Seen.{candidate_of, has_dropped, view_of}
-use Rattle.audit_model.specs.Situation.{HeldValue, Situation, load_in, key_in, is_live_at, live_at, live_keys_at, view_in}
+use Rattle.audit_model.specs.Situation.{Situation, load_in, key_in, is_live_at, live_at, live_keys_at, view_in}
 use Rattle.audit_model.specs.Summary.{pending_from, held_from, situation_of}
 use Rattle.audit_model.specs.Values.{deadline, has_come, last_accepted, is_covered, is_deleted, held_values, is_told, if_lives, last_use, live_value, sorted, live_keys}
 use Rattle.audit_model.specs.declared.config.Config.{Config}
 use Rattle.audit_laws.proofs.Told.{Each, each-more, each-both}
 use Rattle.audit_laws.proofs.HeldStep.{Stands, find-map}
 use Rattle.audit_laws.proofs.HeldAll.{none_told}
+use Rattle.std.proofs.lemmas.Bool.{cases_Bool}
 
 pub same-true : (a b : List ℕ) → same a b ≡ true → a ≡ b
 same-true a b e = (bytes_eq-Decides a b).0 e
@@ -122,12 +123,7 @@ module _ (config : Config) (made : ℕ) (past : History) (stand : Each (Stands p
   keys-same (v ∷ vs) (p, h) =
       ap (λ o. cons_option (option_map (λ w. w.key) o) (filter_map (λ x. option_map (λ w. w.key) (live_value config x.key past now)) vs)) (live-own v p.0 p.1)
       ∙ ap (cons_option (option_map (λ w. w.key) (cond (is_live_at config now (held_from config past v)) (Some v) None))) (keys-same vs h)
-      ∙ go (is_live_at config now (held_from config past v)) (filter (is_live_at config now) (map (held_from config past) vs))
-    where
-      go : (b : Bool) (ks : List HeldValue)
-          → cons_option (option_map (λ w. w.key) (cond b (Some v) None)) (map (λ k. k.value.key) ks) ≡ map (λ k. k.value.key) (cond b (held_from config past v ∷ ks) ks)
-      go true ks = refl
-      go false ks = refl
+      ∙ (elim (cases_Bool (is_live_at config now (held_from config past v))) [ inl e ↦ rw e | inr e ↦ rw e ])
 
   load-same : (key : List ℕ) → load_of_key key past ≡ load_in s key
   load-same key =

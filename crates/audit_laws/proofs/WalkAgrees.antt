@@ -1,5 +1,5 @@
 -- Steps, records and transcripts agree.
-use Rattle.std.proofs.Common.{◌≡◌, refl, ap, ◌∙◌, sym, ℕ, Bool, true, false, true≢false, ◌&&◌, cond, List, [], ◌∷◌, Option, Some, None}
+use Rattle.std.proofs.Common.{⊎_elim, ◌≡◌, refl, ap, ◌∙◌, sym, ℕ, true, false, true≢false, ◌&&◌, cond, List, [], ◌∷◌, Option, Some, None}
 use Rattle.std.specs.List.{list_all}
 use Rattle.std.proofs.Math.Path.{fun_ext}
 use Rattle.audit_model.specs.Bytewise.{is_empty}
@@ -18,6 +18,7 @@ use Rattle.audit_laws.proofs.Connections.{ready-same}
 use Rattle.audit_laws.proofs.Sound.{Sound}
 use Rattle.audit_laws.proofs.InOrder.{InOrder, RunsFirst, due-in_order, due-runs}
 use Rattle.audit_laws.proofs.PlacedStepsAgree.{Next, right-same, next}
+use Rattle.std.proofs.lemmas.Bool.{cases_Bool}
 
 abbrev pub outcome_of : Config → ℕ → Walk → Option Situation
 outcome_of config made w = cond (list_all (is_right config) w.placed_steps && is_empty w.left) (Some (situation_of config made w.after)) None
@@ -99,16 +100,15 @@ module _ (config : Config) (made : ℕ) (past : History) (step : Step) (steps : 
                 ∙ ap (λ (x : PlacedStep). x ∷ placed_steps_in config (after_step config s x.task step x.effect) (left_after (task ∷ tasks)) steps) on.same;
           }
 
-      one_due : (b : Bool) → is_right config outer ≡ b → DueAgrees (task ∷ tasks)
-      one_due true e = right_due e
-      one_due false e = wrong_due e
+      one_due : DueAgrees (task ∷ tasks)
+      one_due = ⊎_elim right_due wrong_due (cases_Bool (is_right config outer))
 
     none_due : DueAgrees []
     none_due = record { due_is = refl; due_sound = λ k. absurd (true≢false (sym k)); due_placed = λ k. absurd (true≢false (sym k)) }
 
     due_agrees : (now_due : List Task) → InOrder past now_due → RunsFirst (λ c. may_run c past) now_due → DueAgrees now_due
     due_agrees [] order runs = none_due
-    due_agrees (task ∷ tasks) order runs = one_due task tasks order runs (is_right config (placed_step config made past (Some task) step)) refl
+    due_agrees (task ∷ tasks) order runs = one_due task tasks order runs
 
     step_agrees : (tasks : List Task) → InOrder past tasks → Agrees config made past tasks (step ∷ steps)
     step_agrees tasks order =

@@ -11,7 +11,7 @@ use Rattle.std.specs.declared.cmp.Ordering.TheVariants.{Less, Equal, Greater}
 use Rattle.std.specs.declared.vec.Vec.{Vec}
 use Rattle.std.specs.declared.alloc.Global.{Global}
 use Rattle.std.proofs.lemmas.Option.{none-some}
-use Rattle.std.proofs.lemmas.Bool.{eqb-true, eqb-false, eq-eqb, ne_eqb, not-true, or_cases, or_right, false_from_ne_true}
+use Rattle.std.proofs.lemmas.Bool.{cond_both, cases_Bool, eqb-true, eqb-false, eq-eqb, ne_eqb, not-true, or_cases, false_from_ne_true}
 use Rattle.std.proofs.lemmas.Bool.Decides.{nat_tests}
 use Rattle.std.proofs.lemmas.List.Folds.{list_any-append}
 use Rattle.std.proofs.lemmas.Map.Text.{is_eq-slice_cmp}
@@ -34,27 +34,15 @@ module _ {X : Type 0} where
 
   all-filter : (P Q : X → Type 0) (p : X → Bool) → ((x : X) → p x ≡ true → P x → Q x) → (xs : List X) → AllByRecursion P xs → AllByRecursion Q (filter p xs)
   all-filter P Q p to [] a = tt
-  all-filter P Q p to (x ∷ xs) a = go (p x) refl (all-filter P Q p to xs a.1)
-    where
-      go : (b : Bool) → p x ≡ b → AllByRecursion Q (filter p xs) → AllByRecursion Q (cond b (x ∷ filter p xs) (filter p xs))
-      go true e r = (to x e a.0, r)
-      go false e r = r
+  all-filter P Q p to (x ∷ xs) a = let next = all-filter P Q p to xs a.1 in grind (arith, nat_tests, next)
 
   all-find : (P : X → Type 0) (p : X → Bool) (xs : List X) (x : X) → AllByRecursion P xs → find p xs ≡ Some x → P x
   all-find P p [] x a e = absurd (none-some x e)
-  all-find P p (y ∷ ys) x a e = go (p y) e (all-find P p ys x a.1)
-    where
-      go : (b : Bool) → cond b (Some y) (find p ys) ≡ Some x → (find p ys ≡ Some x → P x) → P x
-      go true e ih = let is : y ≡ x = cc in subst P is a.0
-      go false e ih = ih e
+  all-find P p (y ∷ ys) x a e = let next = all-find P p ys x a.1 in grind (arith, nat_tests, e, next)
 
   find-true : (p : X → Bool) (xs : List X) (x : X) → find p xs ≡ Some x → p x ≡ true
   find-true p [] x e = absurd (none-some x e)
-  find-true p (y ∷ ys) x e = go (p y) refl e (find-true p ys x)
-    where
-      go : (b : Bool) → p y ≡ b → cond b (Some y) (find p ys) ≡ Some x → (find p ys ≡ Some x → p x ≡ true) → p x ≡ true
-      go true h e ih = let is : y ≡ x = cc in ap p (sym is) ∙ h
-      go false h e ih = ih e
+  find-true p (y ∷ ys) x e = let next = find-true p ys x in grind (arith, nat_tests, e, next)
 
   map-same : (f g : X → X) (xs : List X) → AllByRecursion (λ x. f x ≡ g x) xs → map f xs ≡ map g xs
   map-same f g [] a = refl
@@ -102,7 +90,7 @@ hit q n = n == q
 -- what is left of them when one goes
 any-left : (conn q : ℕ) (ns : List ℕ) → list_any (λ n. n == q) (filter (λ n. not (n == conn)) ns) ≡ true → (list_any (λ n. n == q) ns ≡ true) × ((conn == q) ≡ false)
 any-left conn q [] e = absurd (true≢false (sym e))
-any-left conn q (n ∷ ns) e = go (n == conn) refl e (any-left conn q ns)
+any-left conn q (n ∷ ns) e = let next = any-left conn q ns in grind (arith, nat_tests, e, next)
   where
     left : List ℕ
     left = filter (λ m. not (m == conn)) ns
@@ -112,20 +100,10 @@ any-left conn q (n ∷ ns) e = go (n == conn) refl e (any-left conn q ns)
     first true s h e ih = (refl, ne_eqb conn q (λ is. eqb-false n conn h (eqb-true n q s ∙ sym is)))
     first false s h e ih = ih e
 
-    go : (b : Bool) → (n == conn) ≡ b → list_any (λ m. m == q) (cond (not b) (n ∷ left) left) ≡ true → (list_any (λ m. m == q) left ≡ true → (list_any (λ m. m == q) ns ≡ true) × ((conn == q) ≡ false))
-        → (((n == q) || list_any (λ m. m == q) ns) ≡ true) × ((conn == q) ≡ false)
-    go true h e ih = let r = ih e in (or_right (n == q) _ r.0, r.1)
-    go false h e ih = first (n == q) refl h e ih
-
 -- where it is none of them, all stay
 none-left : (conn : ℕ) (ns : List ℕ) → list_any (λ n. n == conn) ns ≡ false → filter (λ n. not (n == conn)) ns ≡ ns
 none-left conn [] e = refl
-none-left conn (n ∷ ns) e = go (n == conn) e (none-left conn ns)
-  where
-    go : (b : Bool) → (b || list_any (λ m. m == conn) ns) ≡ false → (list_any (λ m. m == conn) ns ≡ false → filter (λ m. not (m == conn)) ns ≡ ns)
-        → cond (not b) (n ∷ filter (λ m. not (m == conn)) ns) (filter (λ m. not (m == conn)) ns) ≡ n ∷ ns
-    go true e ih = absurd (true≢false e)
-    go false e ih = ap (λ ms. n ∷ ms) (ih e)
+none-left conn (n ∷ ns) e = let next = none-left conn ns in grind (arith, nat_tests, e, next)
 
 -- ---- tests of keys
 
@@ -157,27 +135,17 @@ equal : (a b : List ℕ) → same a b ≡ true → a ≡ b
 equal a b e = (bytes_eq-Decides a b).0 e
 
 at-other : (q : List ℕ) (k : Word) → same k.items q ≡ false → at q k ≡ false
-at-other q k h = go (at q k) refl
-  where
-    go : (b : Bool) → at q k ≡ b → b ≡ false
-    go true e = absurd (true≢false (sym ((bytes_eq-Decides k.items q).1 (sym (at-same q k e))) ∙ h))
-    go false e = refl
+at-other q k h = elim (cases_Bool (at q k)) [ inl is ↦ rw is (absurd (true≢false (sym ((bytes_eq-Decides k.items q).1 (sym (at-same q k is))) ∙ h))) | inr is ↦ rw is ]
 
 removed-other : (key q : List ℕ) (es : List (Word × ℕ)) → same key q ≡ false → lookup (at q) (remove_entry (at key) es) ≡ lookup (at q) es
 removed-other key q [] h = refl
-removed-other key q (e ∷ es) h = go (at key e.0) refl (removed-other key q es h)
-  where
-    go : (b : Bool) → at key e.0 ≡ b → lookup (at q) (remove_entry (at key) es) ≡ lookup (at q) es → lookup (at q) (cond b es (e ∷ remove_entry (at key) es)) ≡ cond (at q e.0) (Some e.1) (lookup (at q) es)
-    go true f ih = sym (ap (λ b. cond b (Some e.1) (lookup (at q) es)) (at-other q e.0 (ap (λ t. same t q) (sym (at-same key e.0 f)) ∙ h)))
-    go false f ih = ap (λ o. cond (at q e.0) (Some e.1) o) ih
+removed-other key q (e ∷ es) h =
+    cond_both (at key e.0) _ _ (λ z. lookup (at q) z ≡ cond (at q e.0) (Some e.1) (lookup (at q) es)) (λ is. sym (ap (λ b. cond b (Some e.1) (lookup (at q) es)) (at-other q e.0 (ap (λ t. same t q) (sym (at-same key e.0 is)) ∙ h)))) (λ _. ap (λ o. cond (at q e.0) (Some e.1) o) (removed-other key q es h))
 
 -- a key taken out
 pub removed : (key q : List ℕ) (before after : Keys) → after.entries ≡ remove_entry (at key) before.entries → number_at key after ≡ None → number_at q after ≡ cond (same key q) None (number_at q before)
-removed key q before after e none = go (same key q) refl
-  where
-    go : (b : Bool) → same key q ≡ b → number_at q after ≡ cond b None (number_at q before)
-    go true h = ap (λ t. number_at t after) (sym (equal key q h)) ∙ none
-    go false h = ap (lookup (at q)) e ∙ removed-other key q before.entries h
+removed key q before after e none =
+    elim (cases_Bool (same key q)) [ inl is ↦ rw is (ap (λ t. number_at t after) (sym (equal key q is)) ∙ none) | inr is ↦ rw is (ap (lookup (at q)) e ∙ removed-other key q before.entries is) ]
 
 put-other : (key : Word) (n : ℕ) (q : List ℕ) (es : List (Word × ℕ)) → same key.items q ≡ false → lookup (at q) (insert_entry (λ x y. slice_cmp nat_cmp x.items y.items) es key n) ≡ lookup (at q) es
 put-other key n q [] h = ap (λ b. cond b (Some n) None) (at-other q key h)
@@ -194,11 +162,8 @@ put-other key n q (e ∷ es) h = go (slice_cmp nat_cmp key.items e.0.items) refl
 -- a number put at a key
 pub put : (key : Word) (n : ℕ) (q : List ℕ) (before after : Keys) → after.entries ≡ insert_entry (λ x y. slice_cmp nat_cmp x.items y.items) before.entries key n → number_at key.items after ≡ Some n
     → number_at q after ≡ cond (same key.items q) (Some n) (number_at q before)
-put key n q before after e has = go (same key.items q) refl
-  where
-    go : (b : Bool) → same key.items q ≡ b → number_at q after ≡ cond b (Some n) (number_at q before)
-    go true h = ap (λ t. number_at t after) (sym (equal key.items q h)) ∙ has
-    go false h = ap (lookup (at q)) e ∙ put-other key n q before.entries h
+put key n q before after e has =
+    cond_both (same key.items q) _ _ (λ z. number_at q after ≡ z) (λ is. ap (λ t. number_at t after) (sym (equal key.items q is)) ∙ has) (λ is. ap (lookup (at q)) e ∙ put-other key n q before.entries is)
 
 -- what holds whether a call went well or not
 pub either-way : {A E : Type 0} (P : List PendingLoad → Type 0) (r : Result A E) (x y new : List PendingLoad) → OnOk r (new ≡ x) → OnErr r (new ≡ y) → P x → P y → P new
@@ -224,11 +189,8 @@ same-keys last keys after joined loads is k =
 -- a connection that waited for nothing waits
 pub joins : (conn number : ℕ) (joined after : Joined) → is_some (load_of conn joined) ≡ false → ((q : ℕ) → load_of q after ≡ cond (conn == q) (Some number) (load_of q joined))
     → (q : ℕ) → is_some (load_of q joined) ≡ true → load_of q after ≡ load_of q joined
-joins conn number joined after free is q h = is q ∙ go (conn == q) refl
-  where
-    go : (b : Bool) → (conn == q) ≡ b → cond b (Some number) (load_of q joined) ≡ load_of q joined
-    go true e = absurd (true≢false (sym h ∙ ap (λ n. is_some (load_of n joined)) (sym (eqb-true conn q e)) ∙ free))
-    go false e = refl
+joins conn number joined after free is q h =
+    is q ∙ (elim (cases_Bool (conn == q)) [ inl t ↦ rw t (absurd (true≢false (sym h ∙ ap (λ n. is_some (load_of n joined)) (sym (eqb-true conn q t)) ∙ free))) | inr t ↦ rw t ])
 
 is-none : {X : Type 0} (o : Option X) → is_some o ≡ false → o ≡ None
 is-none None e = refl
@@ -248,24 +210,17 @@ module _ (last : ℕ) (keys : Keys) where
   module _ (after : Keys) (key : List ℕ) (number : ℕ) (higher : last < number) (free : is_some (number_at key keys) ≡ false)
       (puts : (q : List ℕ) → number_at q after ≡ cond (same key q) (Some number) (number_at q keys)) (past : (key : List ℕ) (n : ℕ) → number_at key keys ≡ Some n → n ≤ last) where
     past-after : (q : List ℕ) (n : ℕ) → number_at q after ≡ Some n → n ≤ number
-    past-after q n h = go (same key q) (sym (puts q) ∙ h)
-      where
-        go : (b : Bool) → cond b (Some number) (number_at q keys) ≡ Some n → n ≤ number
-        go true e = let is : number ≡ n = cc in omega (arith, is)
-        go false e = let le = past q n e in omega (arith, le)
+    past-after q n h = let next = sym (puts q) ∙ h in grind (arith, nat_tests, next)
 
     keyed-after : (p : PendingLoad) → IsKeyed keys p → IsKeyed after p
-    keyed-after p k q = go (same key q) refl
-      where
-        go : (b : Bool) → same key q ≡ b → same p.key q ≡ has_number (number_at q after) p
-        go true e =
-            let le = below past p k in
-            k q ∙ ap (λ o. has_number o p) (ap (λ t. number_at t keys) (sym (equal key q e)) ∙ is-none (number_at key keys) free)
-            ∙ sym (ap (λ o. has_number o p) (puts q ∙ ap (λ b. cond b (Some number) (number_at q keys)) e) ∙ ne_eqb p.number number (λ is. omega (arith, is, le)))
-        go false e = k q ∙ sym (ap (λ o. has_number o p) (puts q ∙ ap (λ b. cond b (Some number) (number_at q keys)) e))
+    keyed-after p k q =
+        elim (cases_Bool (same key q)) [
+          | inl h ↦ let le = below past p k in k q ∙ ap (λ o. has_number o p) (ap (λ t. number_at t keys) (sym (equal key q h)) ∙ is-none (number_at key keys) free) ∙ sym (ap (λ o. has_number o p) (puts q ∙ ap (λ b. cond b (Some number) (number_at q keys)) h) ∙ ne_eqb p.number number (λ is. omega (arith, is, le)))
+          | inr h ↦ k q ∙ sym (ap (λ o. has_number o p) (puts q ∙ ap (λ b. cond b (Some number) (number_at q keys)) h))
+        ]
 
     keyed-new : (waiting : List ℕ) → IsKeyed after (record { number = number; key = key; waiting = waiting })
-    keyed-new waiting q = go (same key q) refl
+    keyed-new waiting q = grind (arith, nat_tests)
       where
         load : PendingLoad
         load = record { number = number; key = key; waiting = waiting }
@@ -273,10 +228,6 @@ module _ (last : ℕ) (keys : Keys) where
         other : (o : Option ℕ) → number_at q keys ≡ o → has_number o load ≡ false
         other None h = refl
         other (Some n) h = let le = past q n h in ne_eqb number n (λ is. omega (arith, is, le))
-
-        go : (b : Bool) → same key q ≡ b → b ≡ has_number (number_at q after) load
-        go true e = sym (ap (λ o. has_number o load) (puts q ∙ ap (λ b. cond b (Some number) (number_at q keys)) e) ∙ eq-eqb number number refl)
-        go false e = sym (ap (λ o. has_number o load) (puts q ∙ ap (λ b. cond b (Some number) (number_at q keys)) e) ∙ other (number_at q keys) refl)
 
     -- the keys know it before it is there
     pub known : (joined : Joined) (loads : List PendingLoad) → KeepsNumbers last keys joined loads → KeepsNumbers number after joined loads
@@ -288,11 +239,7 @@ module _ (last : ℕ) (keys : Keys) where
         keep number after joined (record { number = number; key = key; waiting = conn ∷ [] } ∷ loads) past-after (keyed-new (conn ∷ []), all-to (IsKeyed keys) (IsKeyed after) keyed-after loads (keyed-of k)) (first, awaited-of k)
       where
         first : (q : ℕ) → ((conn == q) || false) ≡ true → load_of q joined ≡ Some number
-        first q h = go (conn == q) refl h
-          where
-            go : (b : Bool) → (conn == q) ≡ b → (b || false) ≡ true → load_of q joined ≡ Some number
-            go true e h = ap (λ n. load_of n joined) (sym (eqb-true conn q e)) ∙ waits
-            go false e h = absurd (true≢false (sym h))
+        first q h = grind (arith, nat_tests, h)
 
 -- ---- a load looked up
 
@@ -321,11 +268,7 @@ unjoined_is keys key conn loads k e =
 
 -- a load changed in what waits for it stands at the same key
 same-place : (keys : Keys) (n : ℕ) (f : PendingLoad → PendingLoad) → ((p : PendingLoad) → IsKeyed keys p → IsKeyed keys (f p)) → (p : PendingLoad) → IsKeyed keys p → IsKeyed keys (changed_at (λ p. p.number) n f p)
-same-place keys n f to p k = go (p.number == n)
-  where
-    go : (b : Bool) → IsKeyed keys (if b then f p else p)
-    go true = to p k
-    go false = k
+same-place keys n f to p k = grind (arith, nat_tests)
 
 pub joined-keeps : (last n conn : ℕ) (keys : Keys) (joined after : Joined) (loads : List PendingLoad) → is_some (load_of conn joined) ≡ false → ((q : ℕ) → load_of q after ≡ cond (conn == q) (Some n) (load_of q joined))
     → KeepsNumbers last keys joined loads → KeepsNumbers last keys after (map (changed_at (λ p. p.number) n (with_one conn)) loads)
@@ -338,7 +281,7 @@ joined-keeps last n conn keys joined after loads free puts k =
     stays p a q w = joins conn n joined after free puts q (ap is_some (a q w)) ∙ a q w
 
     one : (p : PendingLoad) → IsAwaited joined p → IsAwaited after (changed_at (λ p. p.number) n (with_one conn) p)
-    one p a = go (p.number == n) refl
+    one p a = cond_both (p.number == n) _ _ (IsAwaited after) (λ is. new is) (λ _. stays p a)
       where
         new : (p.number == n) ≡ true → IsAwaited after (with_one conn p)
         new e q w = elim (or_cases (list_any (λ m. m == q) p.waiting) ((conn == q) || false) (sym (list_any-append (λ m. m == q) p.waiting (conn ∷ [])) ∙ w)) [
@@ -349,10 +292,6 @@ joined-keeps last n conn keys joined after loads free puts k =
             own : (b : Bool) → (conn == q) ≡ b → (b || false) ≡ true → load_of q after ≡ Some p.number
             own true f h = puts q ∙ ap (λ b. cond b (Some n) (load_of q joined)) f ∙ ap (λ m. Some m) (sym (eqb-true p.number n e))
             own false f h = absurd (true≢false (sym h))
-
-        go : (b : Bool) → (p.number == n) ≡ b → IsAwaited after (if b then with_one conn p else p)
-        go true e = new e
-        go false e = stays p a
 
 -- ---- a connection that waits no more
 
@@ -365,11 +304,8 @@ left_is conn n joined loads a e =
     map-same (changed_at (λ p. p.number) n (without_waiting conn)) (without_waiting conn) loads (all-to (IsAwaited joined) (λ p. changed_at (λ p. p.number) n (without_waiting conn) p ≡ without_waiting conn p) one loads (to-rec (IsAwaited joined) loads a))
   where
     one : (p : PendingLoad) → IsAwaited joined p → changed_at (λ p. p.number) n (without_waiting conn) p ≡ without_waiting conn p
-    one p f = go (p.number == n) refl
-      where
-        go : (b : Bool) → (p.number == n) ≡ b → (if b then without_waiting conn p else p) ≡ without_waiting conn p
-        go true h = refl
-        go false h = stays-out conn p (false_from_ne_true _ (λ w. let is : Some p.number ≡ Some n = sym (f conn w) ∙ e in let number : p.number ≡ n = cc in eqb-false p.number n h number))
+    one p f =
+        cond_both (p.number == n) _ _ (λ z. z ≡ without_waiting conn p) (λ _. refl) (λ t. stays-out conn p (false_from_ne_true _ (λ w. let is : Some p.number ≡ Some n = sym (f conn w) ∙ e in let number : p.number ≡ n = cc in eqb-false p.number n t number)))
 
 pub unleft_is : (conn : ℕ) (joined : Joined) (loads : List PendingLoad) → All (IsAwaited joined) loads → load_of conn joined ≡ None → loads ≡ map (without_waiting conn) loads
 unleft_is conn joined loads a e =
@@ -399,34 +335,25 @@ module _ (last number : ℕ) (keys keys_after : Keys) (joined joined_after : Joi
   own = eqb-true load.number number (find-true (λ p. p.number == number) loads load found)
 
   key-left : (p : PendingLoad) → not (p.number == number) ≡ true → IsKeyed keys p → IsKeyed keys_after p
-  key-left p e f q = go (same load.key q) refl
+  key-left p e f q =
+      elim (cases_Bool (same load.key q)) [
+        | inl is ↦ f q ∙ not-it (number_at q keys) (sym (all-find (IsKeyed keys) (λ p. p.number == number) loads load (keyed-of k) found q) ∙ is) ∙ sym (ap (λ o. has_number o p) (less q ∙ ap (λ b. cond b None (number_at q keys)) is))
+        | inr is ↦ f q ∙ sym (ap (λ o. has_number o p) (less q ∙ ap (λ b. cond b None (number_at q keys)) is))
+      ]
     where
       not-it : (o : Option ℕ) → has_number o load ≡ true → has_number o p ≡ false
       not-it None h = refl
       not-it (Some n) h = ap (λ m. p.number == m) (sym (eqb-true load.number n h) ∙ own) ∙ not-true _ e
 
-      go : (b : Bool) → same load.key q ≡ b → same p.key q ≡ has_number (number_at q keys_after) p
-      go true h =
-          f q ∙ not-it (number_at q keys) (sym (all-find (IsKeyed keys) (λ p. p.number == number) loads load (keyed-of k) found q) ∙ h)
-          ∙ sym (ap (λ o. has_number o p) (less q ∙ ap (λ b. cond b None (number_at q keys)) h))
-      go false h = f q ∙ sym (ap (λ o. has_number o p) (less q ∙ ap (λ b. cond b None (number_at q keys)) h))
-
   past-left : (q : List ℕ) (n : ℕ) → number_at q keys_after ≡ Some n → n ≤ last
-  past-left q n h = go (same load.key q) (sym (less q) ∙ h)
-    where
-      go : (b : Bool) → cond b None (number_at q keys) ≡ Some n → n ≤ last
-      go true e = absurd (none-some n e)
-      go false e = k.past q n e
+  past-left q n h = let next = sym (less q) ∙ h in grind (arith, nat_tests, next)
 
   waits-left : (p : PendingLoad) → not (p.number == number) ≡ true → IsAwaited joined p → IsAwaited joined_after p
-  waits-left p e a conn w = go (list_any (λ n. n == conn) load.waiting) refl
-    where
-      go : (b : Bool) → list_any (λ n. n == conn) load.waiting ≡ b → load_of conn joined_after ≡ Some p.number
-      go true h =
-          let is : Some p.number ≡ Some load.number = sym (a conn w) ∙ all-find (IsAwaited joined) (λ p. p.number == number) loads load (awaited-of k) found conn h in
-          let number_is : p.number ≡ load.number = cc in
-          absurd (true≢false (sym (eq-eqb p.number number (number_is ∙ own)) ∙ not-true _ e))
-      go false h = fewer conn ∙ ap (λ b. cond b None (load_of conn joined)) h ∙ a conn w
+  waits-left p e a conn w =
+      elim (cases_Bool (list_any (λ n. n == conn) load.waiting)) [
+        | inl t ↦ let is : Some p.number ≡ Some load.number = sym (a conn w) ∙ all-find (IsAwaited joined) (λ p. p.number == number) loads load (awaited-of k) found conn t in let number_is : p.number ≡ load.number = cc in absurd (true≢false (sym (eq-eqb p.number number (number_is ∙ own)) ∙ not-true _ e))
+        | inr t ↦ fewer conn ∙ ap (λ b. cond b None (load_of conn joined)) t ∙ a conn w
+      ]
 
   pub removed-keeps : KeepsNumbers last keys_after joined_after (filter (λ p. not (p.number == number)) loads)
   removed-keeps =

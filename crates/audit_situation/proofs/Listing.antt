@@ -1,15 +1,16 @@
 -- Entries by number.
-use Rattle.std.proofs.Common.{◌≡◌, refl, sym, ap, ◌∙◌, subst, ℕ, ◌<◌, ◌==◌, nat_lt, nat_le, Bool, true, false, cond, not, ◌&&◌, List, [], ◌∷◌, ◌++◌, map, Option, option_map, Some, None, Result, Ok, Err, OnOk, OnErr, Bor, if◌then◌else◌, arith}
+use Rattle.std.proofs.Common.{inr, inl, ◌≡◌, refl, sym, ap, ◌∙◌, subst, ℕ, ◌<◌, ◌==◌, nat_lt, nat_le, Bool, true, false, cond, not, ◌&&◌, List, [], ◌∷◌, ◌++◌, map, Option, option_map, Some, None, Result, Ok, Err, OnOk, OnErr, Bor, if◌then◌else◌, arith}
 use Rattle.std.specs.Prelude.{nat_eq}
 use Rattle.std.specs.List.{find, filter, list_all}
 use Rattle.std.specs.Map.{values_of, lookup, set_value}
 use Rattle.std.specs.Option.{option_copied}
 use Rattle.std.proofs.lemmas.Option.{none-some}
-use Rattle.std.proofs.lemmas.Bool.{not-true, and_parts, and_from, eq-eqb, eqb-true, ne_eqb, lt-ltb, le-ltb, ltb-true, leb-true, le-leb}
+use Rattle.std.proofs.lemmas.Bool.{cases_Bool, not-true, and_parts, and_from, eq-eqb, eqb-true, ne_eqb, lt-ltb, le-ltb, ltb-true, leb-true, le-leb}
 use Rattle.audit_loads.specs.Numbered.{changed_at}
 use Rattle.indexmap.specs.IndexMap.{insert_entry, swap_remove_entry}
 use Rattle.audit_situation.specs.Listings.{is_new_number, is_listing, are_apart, ranked}
 use Rattle.audit_situation.proofs.Ranked.{flip, swap_out, swapped_is, swap_out-map, all-swap_out, apart-out, IsOrder, rising, falling, ranked-find, left-out, ranked-map, ranked-newest_first, ranked-newest_last, all-ranked}
+use Rattle.std.proofs.lemmas.Bool.Decides.{nat_tests}
 
 -- where a call went well, what follows from what it left
 pub follows : {A E P Q : Type 0} (r : Result A E) → (P → Q) → OnOk r P → OnOk r Q
@@ -29,22 +30,14 @@ lent (Some x) = refl
 module _ {X : Type 0} where
   none-new : (n : ℕ) (es : List (ℕ × X)) → lookup (nat_eq n) es ≡ None → is_new_number n es ≡ true
   none-new n [] e = refl
-  none-new n (x ∷ es) e = go (nat_eq n x.0) refl e (none-new n es)
-    where
-      go : (b : Bool) → nat_eq n x.0 ≡ b → cond b (Some x.1) (lookup (nat_eq n) es) ≡ None → (lookup (nat_eq n) es ≡ None → is_new_number n es ≡ true) → (not (x.0 == n) && is_new_number n es) ≡ true
-      go true h e ih = absurd (none-some x.1 (sym e))
-      go false h e ih = and_from _ _ (ap not (flip x.0 n ∙ h)) (ih e)
+  none-new n (x ∷ es) e = let next = none-new n es in grind (arith, nat_tests, e, next)
 
   same-new : (n : ℕ) (e : ℕ × X) (es : List (ℕ × X)) → nat_eq n e.0 ≡ true → is_new_number e.0 es ≡ true → is_new_number n es ≡ true
   same-new n e es h k = subst (λ m. is_new_number m es ≡ true) (sym (eqb-true n e.0 h)) k
 
   new-set : (m n : ℕ) (es : List (ℕ × X)) (w : X) → is_new_number m (set_value (nat_eq n) es w) ≡ is_new_number m es
   new-set m n [] w = refl
-  new-set m n (e ∷ es) w = go (nat_eq n e.0) (new-set m n es w)
-    where
-      go : (b : Bool) → is_new_number m (set_value (nat_eq n) es w) ≡ is_new_number m es → is_new_number m (cond b ((e.0, w) ∷ es) (e ∷ set_value (nat_eq n) es w)) ≡ (not (e.0 == m) && is_new_number m es)
-      go true ih = refl
-      go false ih = ap (λ b. not (e.0 == m) && b) ih
+  new-set m n (e ∷ es) w = let next = new-set m n es w in grind (arith, nat_tests, next)
 
   new-last : (m n : ℕ) (x : X) (es : List (ℕ × X)) → is_new_number m es ≡ true → (n == m) ≡ false → is_new_number m (es ++ (n, x) ∷ []) ≡ true
   new-last m n x [] k f = ap (λ b. not b && true) f
@@ -101,38 +94,26 @@ module _ {X : Type 0} (number : X → ℕ) where
     changed_is [] x w l found is = absurd (none-some x found)
     changed_is (e ∷ es) x w l found is =
         let p = parts_of e es l in
-        go (nat_eq n e.0) refl p found (changed_is es x w p.rest)
+        (elim (cases_Bool (nat_eq n e.0)) [ inl t ↦ rw t (let same : e.1 ≡ x = cc in ap (λ y. y ∷ values_of es) (is ∙ ap f (sym same)) ∙ ap (λ ys. f e.1 ∷ ys) (same_at es p.rest (same-new n e es t p.new))) | inr t ↦ rw t (ap (λ ys. e.1 ∷ ys) ((changed_is es x w p.rest) (rw t at found) is)) ])
         ∙ sym (ap (λ b. (if b then f e.1 else e.1) ∷ map (changed_at number n f) (values_of es)) (head-is n e p.own))
-      where
-        go : (b : Bool) → nat_eq n e.0 ≡ b → Parts e es → cond b (Some e.1) (lookup (nat_eq n) es) ≡ Some x
-            → (lookup (nat_eq n) es ≡ Some x → w ≡ f x → values_of (set_value (nat_eq n) es w) ≡ map (changed_at number n f) (values_of es))
-            → values_of (cond b ((e.0, w) ∷ es) (e ∷ set_value (nat_eq n) es w)) ≡ (if b then f e.1 else e.1) ∷ map (changed_at number n f) (values_of es)
-        go true h p found ih =
-            let same : e.1 ≡ x = cc in
-            ap (λ y. y ∷ values_of es) (is ∙ ap f (sym same)) ∙ ap (λ ys. f e.1 ∷ ys) (same_at es p.rest (same-new n e es h p.new))
-        go false h p found ih = ap (λ ys. e.1 ∷ ys) (ih found is)
 
   pub changed-listing : (n : ℕ) (es : List (ℕ × X)) (x w : X) → is_listing number es ≡ true → lookup (nat_eq n) es ≡ Some x → number w ≡ number x → is_listing number (set_value (nat_eq n) es w) ≡ true
   changed-listing n [] x w l found is = refl
-  changed-listing n (e ∷ es) x w l found is = let p = parts_of e es l in go (nat_eq n e.0) p found (changed-listing n es x w p.rest)
-    where
-      go : (b : Bool) → Parts e es → cond b (Some e.1) (lookup (nat_eq n) es) ≡ Some x → (lookup (nat_eq n) es ≡ Some x → number w ≡ number x → is_listing number (set_value (nat_eq n) es w) ≡ true)
-          → is_listing number (cond b ((e.0, w) ∷ es) (e ∷ set_value (nat_eq n) es w)) ≡ true
-      go true p found ih =
-          let same : e.1 ≡ x = cc in
-          whole (e.0, w) es (ap (λ m. e.0 == m) (is ∙ ap number (sym same)) ∙ p.own) p.new p.rest
-      go false p found ih = whole e (set_value (nat_eq n) es w) p.own (new-set e.0 n es w ∙ p.new) (ih found is)
+  changed-listing n (e ∷ es) x w l found is =
+      let p = parts_of e es l in elim (cases_Bool (nat_eq n e.0)) [
+        | inl t ↦ rw t (let same : e.1 ≡ x = cc in whole (e.0, w) es (ap (λ m. e.0 == m) (is ∙ ap number (sym same)) ∙ p.own) p.new p.rest)
+        | inr t ↦ rw t (whole e (set_value (nat_eq n) es w) p.own (new-set e.0 n es w ∙ p.new) ((changed-listing n es x w p.rest) (rw t at found) is))
+      ]
 
   -- ---- an entry added as the last
 
   pub last-listing : (x : X) (es : List (ℕ × X)) → is_listing number es ≡ true → lookup (nat_eq (number x)) es ≡ None → is_listing number (es ++ (number x, x) ∷ []) ≡ true
   last-listing x [] l absent = whole (number x, x) [] (eq-eqb (number x) (number x) refl) refl refl
-  last-listing x (e ∷ es) l absent = let p = parts_of e es l in go (nat_eq (number x) e.0) refl p absent (last-listing x es p.rest)
-    where
-      go : (b : Bool) → nat_eq (number x) e.0 ≡ b → Parts e es → cond b (Some e.1) (lookup (nat_eq (number x)) es) ≡ None
-          → (lookup (nat_eq (number x)) es ≡ None → is_listing number (es ++ (number x, x) ∷ []) ≡ true) → is_listing number (e ∷ es ++ (number x, x) ∷ []) ≡ true
-      go true h p absent ih = absurd (none-some e.1 (sym absent))
-      go false h p absent ih = whole e (es ++ (number x, x) ∷ []) p.own (new-last e.0 (number x) x es p.new h) (ih absent)
+  last-listing x (e ∷ es) l absent =
+      let p = parts_of e es l in elim (cases_Bool (nat_eq (number x) e.0)) [
+        | inl is ↦ absurd (none-some e.1 (sym (rw is at absent)))
+        | inr is ↦ whole e (es ++ (number x, x) ∷ []) p.own (new-last e.0 (number x) x es p.new is) ((last-listing x es p.rest) (rw is at absent))
+      ]
 
 -- no two values have the same number
 pub numbers-apart : {X : Type 0} (number : X → ℕ) (es : List (ℕ × X)) → is_listing number es ≡ true → are_apart (λ x y. number x == number y) (values_of es) ≡ true
@@ -203,11 +184,7 @@ module _ {X : Type 0} (before : ℕ → ℕ → Bool) (order : IsOrder before) (
 
   module _ (n : ℕ) (F : X → X) (keeps : (x : X) → number (F x) ≡ number x) where
     keeps-all : (x : X) → number (changed_at number n F x) ≡ number x
-    keeps-all x = go (number x == n)
-      where
-        go : (b : Bool) → number (if b then F x else x) ≡ number x
-        go true = keeps x
-        go false = refl
+    keeps-all x = grind (arith, nat_tests)
 
     pub changed-ranked : (es : List (ℕ × X)) (x w : X) → is_listing number es ≡ true → lookup (nat_eq n) es ≡ Some x → w ≡ F x → in_order (set_value (nat_eq n) es w) ≡ map (changed_at number n F) (in_order es)
     changed-ranked es x w l found is = ap (ranked before number) (changed_is number n F es x w l found is) ∙ ranked-map before number number (changed_at number n F) keeps-all (values_of es)
@@ -243,11 +220,7 @@ all-past last n x (e ∷ es) h lt =
 
 pub set-past : {X : Type 0} (last n : ℕ) (es : List (ℕ × X)) (w : X) → list_all (λ e. nat_le e.0 last) es ≡ true → list_all (λ e. nat_le e.0 last) (set_value (nat_eq n) es w) ≡ true
 set-past last n [] w h = refl
-set-past last n (e ∷ es) w h = let s = and_parts (nat_le e.0 last) (list_all (λ e. nat_le e.0 last) es) h in go (nat_eq n e.0) s.0 s.1 (set-past last n es w s.1)
-  where
-    go : (b : Bool) → nat_le e.0 last ≡ true → list_all (λ e. nat_le e.0 last) es ≡ true → list_all (λ e. nat_le e.0 last) (set_value (nat_eq n) es w) ≡ true → list_all (λ e. nat_le e.0 last) (cond b ((e.0, w) ∷ es) (e ∷ set_value (nat_eq n) es w)) ≡ true
-    go true a k ih = and_from _ _ a k
-    go false a k ih = and_from _ _ a ih
+set-past last n (e ∷ es) w h = let s = and_parts (nat_le e.0 last) (list_all (λ e. nat_le e.0 last) es) h in let next = set-past last n es w s.1 in grind (arith, nat_tests, s.0, s.1, next)
 
 module _ {X : Type 0} (number : X → ℕ) (x : X) where
   below-apart : (xs : List X) → list_all (λ y. nat_lt (number y) (number x)) xs ≡ true → list_all (λ y. not (number x == number y)) xs ≡ true
@@ -276,12 +249,7 @@ module _ {X : Type 0} (number : X → ℕ) (x : X) where
   -- a map's entries after a new one, the rising order with it last, and the falling one with it first
   pub inserted : (es : List (ℕ × X)) (n : ℕ) → n ≡ number x → lookup (nat_eq n) es ≡ None → insert_entry nat_eq es n x ≡ es ++ (number x, x) ∷ []
   inserted [] n same e = ap (λ m. (m, x) ∷ []) same
-  inserted (d ∷ es) n same e = go (nat_eq n d.0) e (inserted es n same)
-    where
-      go : (b : Bool) → cond b (Some d.1) (lookup (nat_eq n) es) ≡ None → (lookup (nat_eq n) es ≡ None → insert_entry nat_eq es n x ≡ es ++ (number x, x) ∷ [])
-          → (if b then (d.0, x) ∷ es else d ∷ insert_entry nat_eq es n x) ≡ d ∷ (es ++ (number x, x) ∷ [])
-      go true e ih = absurd (none-some d.1 (sym e))
-      go false e ih = ap (λ l. d ∷ l) (ih e)
+  inserted (d ∷ es) n same e = let next = inserted es n same in grind (arith, nat_tests, e, next)
 
   pub added-last : (last : ℕ) (es : List (ℕ × X)) → is_listing number es ≡ true → list_all (λ e. nat_le e.0 last) es ≡ true → last < number x
       → ranked nat_lt number (values_of (es ++ (number x, x) ∷ [])) ≡ ranked nat_lt number (values_of es) ++ x ∷ []
@@ -312,8 +280,4 @@ module _ {X : Type 0} (number : X → ℕ) (x : X) where
 -- a value put back where it stood
 pub put-back : {X : Type 0} (n : ℕ) (es : List (ℕ × X)) (x w : X) → lookup (nat_eq n) es ≡ Some x → w ≡ x → set_value (nat_eq n) es w ≡ es
 put-back n [] x w found is = refl
-put-back {X} n (e ∷ es) x w found is = go (nat_eq n e.0) found (put-back n es x w)
-  where
-    go : (b : Bool) → cond b (Some e.1) (lookup (nat_eq n) es) ≡ Some x → (lookup (nat_eq n) es ≡ Some x → w ≡ x → set_value (nat_eq n) es w ≡ es) → cond b ((e.0, w) ∷ es) (e ∷ set_value (nat_eq n) es w) ≡ e ∷ es
-    go true f ih = let same : e.1 ≡ x = cc in ap (λ y. (e.0, y) ∷ es) (is ∙ sym same)
-    go false f ih = ap (λ ys. e ∷ ys) (ih f is)
+put-back {X} n (e ∷ es) x w found is = let next = put-back n es x w in grind (arith, nat_tests, found, next)

@@ -1,14 +1,15 @@
 -- A connection changed, and what loads are to connections.
-use Rattle.std.proofs.Common.{◌≡◌, refl, sym, ap, ◌∙◌, ℕ, ◌==◌, Bool, true, false, cond, not, ◌||◌, List, [], ◌∷◌, map, Option, Some, None, if◌then◌else◌, true≢false}
+use Rattle.std.proofs.Common.{inr, inl, arith, ◌≡◌, refl, sym, ap, ◌∙◌, ℕ, ◌==◌, Bool, true, false, cond, not, ◌||◌, List, [], ◌∷◌, map, Option, Some, None, if◌then◌else◌, true≢false}
 use Rattle.std.specs.Prelude.{is_some}
 use Rattle.std.specs.List.{find, list_any}
 use Rattle.std.specs.Option.{option_map_or}
 use Rattle.std.proofs.lemmas.Option.{none-some}
-use Rattle.std.proofs.lemmas.Bool.{eqb-true, and_parts, not-true}
+use Rattle.std.proofs.lemmas.Bool.{cases_Bool, eqb-true, and_parts, not-true}
 use Rattle.audit_model.specs.Changes.{join_by}
 use Rattle.audit_model.specs.Situation.{Situation, Connection, connection_in, without_number, without_connection, with_connection, is_overlong, without_waiting}
 use Rattle.audit_loads.specs.Numbered.{changed_at}
 use Rattle.audit_situation.specs.States.{have_numbers_apart}
+use Rattle.std.proofs.lemmas.Bool.Decides.{nat_tests}
 
 -- what a step does to loads changes no connection
 pub join-keeps : (conn : ℕ) (waits : Bool) (key : Option (List ℕ)) (load : Option ℕ) (s : Situation) → (join_by conn waits key load s).connections ≡ s.connections
@@ -39,53 +40,29 @@ module _ (conn : ℕ) where
 
   hit-number : (cs : List Connection) (c : Connection) → find hits cs ≡ Some c → c.number ≡ conn
   hit-number [] c e = absurd (none-some c e)
-  hit-number (d ∷ ds) c e = go (hits d) refl e (hit-number ds c)
-    where
-      go : (b : Bool) → hits d ≡ b → cond b (Some d) (find hits ds) ≡ Some c → (find hits ds ≡ Some c → c.number ≡ conn) → c.number ≡ conn
-      go true h e ih = let same : d ≡ c = cc in ap of_number (sym same) ∙ eqb-true d.number conn h
-      go false h e ih = ih e
+  hit-number (d ∷ ds) c e = let next = hit-number ds c in grind (arith, nat_tests, e, next)
 
   module _ (F : Connection → Connection) where
     untouched : (cs : List Connection) → list_any hits cs ≡ false → map (changed_at of_number conn F) cs ≡ cs
     untouched [] e = refl
-    untouched (d ∷ ds) e = go (hits d) e (untouched ds)
-      where
-        go : (b : Bool) → (b || list_any hits ds) ≡ false → (list_any hits ds ≡ false → map (changed_at of_number conn F) ds ≡ ds) → (if b then F d else d) ∷ map (changed_at of_number conn F) ds ≡ d ∷ ds
-        go true e ih = absurd (true≢false e)
-        go false e ih = ap (λ xs. d ∷ xs) (ih e)
+    untouched (d ∷ ds) e = let next = untouched ds in grind (arith, nat_tests, e, next)
 
     missed : (cs : List Connection) → find hits cs ≡ None → map (changed_at of_number conn F) cs ≡ cs
     missed [] e = refl
-    missed (d ∷ ds) e = go (hits d) e (missed ds)
-      where
-        go : (b : Bool) → cond b (Some d) (find hits ds) ≡ None → (find hits ds ≡ None → map (changed_at of_number conn F) ds ≡ ds) → (if b then F d else d) ∷ map (changed_at of_number conn F) ds ≡ d ∷ ds
-        go true e ih = absurd (none-some d (sym e))
-        go false e ih = ap (λ xs. d ∷ xs) (ih e)
+    missed (d ∷ ds) e = let next = missed ds in grind (arith, nat_tests, e, next)
 
     dropped : ((c : Connection) → (F c).number ≡ c.number) → (cs : List Connection) → without_number conn (map (changed_at of_number conn F) cs) ≡ without_number conn cs
     dropped keeps [] = refl
-    dropped keeps (d ∷ ds) = go (hits d) refl (dropped keeps ds)
-      where
-        go : (b : Bool) → hits d ≡ b → without_number conn (map (changed_at of_number conn F) ds) ≡ without_number conn ds
-            → without_number conn ((if b then F d else d) ∷ map (changed_at of_number conn F) ds) ≡ cond (not b) (d ∷ without_number conn ds) (without_number conn ds)
-        go true h ih =
-            ap (λ b. cond (not b) (F d ∷ without_number conn (map (changed_at of_number conn F) ds)) (without_number conn (map (changed_at of_number conn F) ds))) (ap (λ n. n == conn) (keeps d) ∙ h) ∙ ih
-        go false h ih =
-            ap (λ b. cond (not b) (d ∷ without_number conn (map (changed_at of_number conn F) ds)) (without_number conn (map (changed_at of_number conn F) ds))) h ∙ ap (λ ys. d ∷ ys) ih
+    dropped keeps (d ∷ ds) = let next = dropped keeps ds in grind (arith, nat_tests, next)
 
   -- where no two have one number, it is one that changes
   swapped : (F : Connection → Connection) (cs : List Connection) (c : Connection) → have_numbers_apart cs ≡ true → find hits cs ≡ Some c → map (changed_at of_number conn F) cs ≡ map (changed_at of_number conn (λ _. F c)) cs
   swapped F [] c a e = refl
-  swapped F (d ∷ ds) c a e = let p = and_parts _ _ a in go (hits d) refl p.0 e (swapped F ds c p.1)
-    where
-      go : (b : Bool) → hits d ≡ b → not (list_any (λ k. k.number == d.number) ds) ≡ true → cond b (Some d) (find hits ds) ≡ Some c
-          → (find hits ds ≡ Some c → map (changed_at of_number conn F) ds ≡ map (changed_at of_number conn (λ _. F c)) ds)
-          → (if b then F d else d) ∷ map (changed_at of_number conn F) ds ≡ (if b then F c else d) ∷ map (changed_at of_number conn (λ _. F c)) ds
-      go true h n e ih =
-          let same : d ≡ c = cc in
-          let others : list_any hits ds ≡ false = ap (λ m. list_any (λ k. k.number == m) ds) (sym (eqb-true d.number conn h)) ∙ not-true _ n in
-          ap (λ x. F x ∷ map (changed_at of_number conn F) ds) same ∙ ap (λ ys. F c ∷ ys) (untouched F ds others ∙ sym (untouched (λ _. F c) ds others))
-      go false h n e ih = ap (λ ys. d ∷ ys) (ih e)
+  swapped F (d ∷ ds) c a e =
+      let p = and_parts _ _ a in elim (cases_Bool (hits d)) [
+        | inl is ↦ rw is (let same : d ≡ c = cc in let others : list_any hits ds ≡ false = ap (λ m. list_any (λ k. k.number == m) ds) (sym (eqb-true d.number conn is)) ∙ not-true _ p.0 in ap (λ x. F x ∷ map (changed_at of_number conn F) ds) same ∙ ap (λ ys. F c ∷ ys) (untouched F ds others ∙ sym (untouched (λ _. F c) ds others)))
+        | inr is ↦ rw is (ap (λ ys. d ∷ ys) ((swapped F ds c p.1) (rw is at e)))
+      ]
 
   module _ (F : Connection → Connection) (keeps : (c : Connection) → (F c).number ≡ c.number) (quits : Bool) (s : Situation) where
     abbrev changed : Situation

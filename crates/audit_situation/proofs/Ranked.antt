@@ -1,13 +1,14 @@
 -- Lists in the order of numbers, and the entry that a removal lets the last one replace.
-use Rattle.std.proofs.Common.{◌≡◌, refl, sym, ap, ◌∙◌, ℕ, suc, ◌+◌, ◌-◌, Bool, true, false, cond, not, ◌&&◌, nat_lt, List, [], ◌∷◌, ◌++◌, map, length, take, get_or, set, position, Option, option_map, Some, None, if◌then◌else◌, arith, true≢false}
+use Rattle.std.proofs.Common.{inr, inl, ◌≡◌, refl, sym, ap, ◌∙◌, ℕ, suc, ◌+◌, ◌-◌, Bool, true, false, cond, not, ◌&&◌, nat_lt, List, [], ◌∷◌, ◌++◌, map, length, take, get_or, set, position, Option, option_map, Some, None, if◌then◌else◌, arith, true≢false}
 use Rattle.std.specs.Prelude.{◌==◌}
 use Rattle.std.specs.List.{find, filter, list_all, swap_remove, position_or_len}
 use Rattle.std.specs.Map.{keys_of}
 use Rattle.std.specs.Option.{option_map_or}
 use Rattle.std.proofs.lemmas.Option.{none-some}
-use Rattle.std.proofs.lemmas.Bool.{and_parts, and_from, not-true, lt-ltb, ltb-true, ltb-false, le-ltb, eqb-false, eqb-true, eq-eqb}
+use Rattle.std.proofs.lemmas.Bool.{cond_both, cases_Bool, and_parts, and_from, not-true, lt-ltb, ltb-true, ltb-false, le-ltb, eqb-false, eqb-true, eq-eqb}
 use Rattle.indexmap.specs.IndexMap.{swap_remove_entry}
 use Rattle.audit_situation.specs.Listings.{are_apart, put_ranked, ranked}
+use Rattle.std.proofs.lemmas.Bool.Decides.{nat_tests}
 
 pub flip : (m n : ℕ) → (m == n) ≡ (n == m)
 flip m n = go (m == n) (n == m) refl refl
@@ -59,11 +60,7 @@ module _ {X : Type 0} where
   place_is p (x ∷ xs) = go (p x) (place_is p xs)
     where
       one : (n m : ℕ) → nat_lt (1 + n) (suc m) ≡ nat_lt n m
-      one n m = by (nat_lt n m) refl
-        where
-          by : (b : Bool) → nat_lt n m ≡ b → nat_lt (1 + n) (suc m) ≡ b
-          by true e = let lt = ltb-true n m e in lt-ltb (1 + n) (suc m) (omega arith)
-          by false e = let le = ltb-false n m e in le-ltb (1 + n) (suc m) (omega arith)
+      one n m = grind (arith, nat_tests)
 
       further : (b : Bool) (n : ℕ) → cond b (Some (1 + n)) None ≡ option_map suc (cond b (Some n) None)
       further true n = ap Some (omega arith)
@@ -78,11 +75,7 @@ module _ {X : Type 0} where
 
   placed : (p : X → Bool) (xs : List X) (d : X) → option_map_or (λ i. swap_remove xs i d) (place p xs) xs ≡ swap_out p xs
   placed p [] d = refl
-  placed p (x ∷ []) d = go (p x)
-    where
-      go : (b : Bool) → option_map_or (λ i. swap_remove (x ∷ []) i d) (cond b (Some 0) None) (x ∷ []) ≡ cond b [] (x ∷ [])
-      go true = refl
-      go false = refl
+  placed p (x ∷ []) d = grind (arith, nat_tests)
   placed p (x ∷ y ∷ ys) d = go (p x) (place p (y ∷ ys)) (placed p (y ∷ ys) d)
     where
       less : suc (suc (length ys)) - 1 ≡ suc (length ys)
@@ -131,11 +124,7 @@ module _ {X Y : Type 0} (f : X → Y) where
   swap_out-map ok p q same [] h = refl
   swap_out-map ok p q same (x ∷ xs) h =
       let s = and_parts (ok x) (list_all ok xs) h in
-      go (p x) (swap_out-map ok p q same xs s.1) ∙ sym (ap (λ b. cond b (last_first (map f xs)) (f x ∷ swap_out q (map f xs))) (same x s.0))
-    where
-      go : (b : Bool) → map f (swap_out p xs) ≡ swap_out q (map f xs) → map f (cond b (last_first xs) (x ∷ swap_out p xs)) ≡ cond b (last_first (map f xs)) (f x ∷ swap_out q (map f xs))
-      go true ih = sym (last_first-map xs)
-      go false ih = ap (λ l. f x ∷ l) ih
+      (elim (cases_Bool (p x)) [ inl e ↦ rw e (sym (last_first-map xs)) | inr e ↦ rw e (ap (λ l. f x ∷ l) (swap_out-map ok p q same xs s.1)) ]) ∙ sym (ap (λ b. cond b (last_first (map f xs)) (f x ∷ swap_out q (map f xs))) (same x s.0))
 
 -- ---- what stays of all
 
@@ -154,11 +143,7 @@ module _ {X : Type 0} (p : X → Bool) where
 
   pub all-swap_out : (q : X → Bool) (xs : List X) → list_all p xs ≡ true → list_all p (swap_out q xs) ≡ true
   all-swap_out q [] h = refl
-  all-swap_out q (x ∷ xs) h = let s = and_parts (p x) (list_all p xs) h in go (q x) s.0 s.1 (all-swap_out q xs s.1)
-    where
-      go : (b : Bool) → p x ≡ true → list_all p xs ≡ true → list_all p (swap_out q xs) ≡ true → list_all p (cond b (last_first xs) (x ∷ swap_out q xs)) ≡ true
-      go true a h ih = all-last_first xs h
-      go false a h ih = and_from _ _ a ih
+  all-swap_out q (x ∷ xs) h = let s = and_parts (p x) (list_all p xs) h in elim (cases_Bool (q x)) [ inl e ↦ rw e (all-last_first xs s.1) | inr e ↦ rw e (and_from _ _ s.0 (all-swap_out q xs s.1)) ]
 
   pub all-map : {Y : Type 0} (q : Y → Bool) (f : Y → X) → ((y : Y) → q y ≡ true → p (f y) ≡ true) → (ys : List Y) → list_all q ys ≡ true → list_all p (map f ys) ≡ true
   all-map q f k [] h = refl
@@ -170,19 +155,11 @@ module _ {X : Type 0} (p : X → Bool) where
 
   pub found-none : (xs : List X) → find p xs ≡ None → list_all (λ x. not (p x)) xs ≡ true
   found-none [] h = refl
-  found-none (x ∷ xs) h = go (p x) h (found-none xs)
-    where
-      go : (b : Bool) → cond b (Some x) (find p xs) ≡ None → (find p xs ≡ None → list_all (λ x. not (p x)) xs ≡ true) → (not b && list_all (λ x. not (p x)) xs) ≡ true
-      go true e ih = absurd (none-some x (sym e))
-      go false e ih = ih e
+  found-none (x ∷ xs) h = let next = found-none xs in grind (arith, nat_tests, h, next)
 
   pub none-out : (xs : List X) → find p xs ≡ None → swap_out p xs ≡ xs
   none-out [] e = refl
-  none-out (x ∷ xs) e = go (p x) e (none-out xs)
-    where
-      go : (b : Bool) → cond b (Some x) (find p xs) ≡ None → (find p xs ≡ None → swap_out p xs ≡ xs) → cond b (last_first xs) (x ∷ swap_out p xs) ≡ x ∷ xs
-      go true e ih = absurd (none-some x (sym e))
-      go false e ih = ap (λ l. x ∷ l) (ih e)
+  none-out (x ∷ xs) e = let next = none-out xs in grind (arith, nat_tests, e, next)
 
 -- ---- lists of which no two are alike
 
@@ -218,11 +195,8 @@ module _ {X : Type 0} (alike : X → X → Bool) (turned : (x y : X) → alike x
 
   pub apart-out : (p : X → Bool) (xs : List X) → are_apart alike xs ≡ true → are_apart alike (swap_out p xs) ≡ true
   apart-out p [] a = refl
-  apart-out p (x ∷ xs) a = let s = and_parts (list_all (λ y. not (alike x y)) xs) (are_apart alike xs) a in go (p x) s.0 s.1 (apart-out p xs s.1)
-    where
-      go : (b : Bool) → list_all (λ y. not (alike x y)) xs ≡ true → are_apart alike xs ≡ true → are_apart alike (swap_out p xs) ≡ true → are_apart alike (cond b (last_first xs) (x ∷ swap_out p xs)) ≡ true
-      go true h a ih = apart-last_first xs a
-      go false h a ih = and_from _ _ (all-swap_out (λ y. not (alike x y)) p xs h) ih
+  apart-out p (x ∷ xs) a =
+      let s = and_parts (list_all (λ y. not (alike x y)) xs) (are_apart alike xs) a in cond_both (p x) _ _ (λ z. are_apart alike z ≡ true) (λ _. apart-last_first xs s.1) (λ _. and_from _ _ (all-swap_out (λ y. not (alike x y)) p xs s.0) (apart-out p xs s.1))
 
 pub apart-map : {X Y : Type 0} (f : X → Y) (alike : Y → Y → Bool) (xs : List X) → are_apart alike (map f xs) ≡ are_apart (λ x y. alike (f x) (f y)) xs
 apart-map f alike [] = refl
@@ -238,19 +212,12 @@ module _ {X : Type 0} (alike : X → X → Bool) (p : X → Bool) (passes : (x y
   others x [] h a = refl
   others x (y ∷ ys) h a =
       let s = and_parts (not (alike x y)) (list_all (λ y. not (alike x y)) ys) a in
-      and_from _ _ (go (p y) refl s.0) (others x ys h s.1)
-    where
-      go : (b : Bool) → p y ≡ b → not (alike x y) ≡ true → not b ≡ true
-      go true e n = absurd (true≢false (sym (passes x y h e) ∙ not-true _ n))
-      go false e n = refl
+      and_from _ _ ((elim (cases_Bool (p y)) [ inl is ↦ rw is (absurd (true≢false (sym (passes x y h is) ∙ not-true _ s.0))) | inr is ↦ rw is ])) (others x ys h s.1)
 
   pub gone-out : (xs : List X) → are_apart alike xs ≡ true → list_all (λ y. not (p y)) (swap_out p xs) ≡ true
   gone-out [] a = refl
-  gone-out (x ∷ xs) a = let s = and_parts (list_all (λ y. not (alike x y)) xs) (are_apart alike xs) a in go (p x) refl s.0 (gone-out xs s.1)
-    where
-      go : (b : Bool) → p x ≡ b → list_all (λ y. not (alike x y)) xs ≡ true → list_all (λ y. not (p y)) (swap_out p xs) ≡ true → list_all (λ y. not (p y)) (cond b (last_first xs) (x ∷ swap_out p xs)) ≡ true
-      go true e h ih = all-last_first (λ y. not (p y)) xs (others x xs e h)
-      go false e h ih = and_from _ _ (ap not e) ih
+  gone-out (x ∷ xs) a =
+      let s = and_parts (list_all (λ y. not (alike x y)) xs) (are_apart alike xs) a in cond_both (p x) _ _ (λ z. list_all (λ y. not (p y)) z ≡ true) (λ is. all-last_first (λ y. not (p y)) xs (others x xs is s.0)) (λ is. and_from _ _ (ap not is) (gone-out xs s.1))
 
 -- ---- the order
 
@@ -275,11 +242,7 @@ module _ {X : Type 0} (before : ℕ → ℕ → Bool) (number : X → ℕ) where
 
   put-all : (p : X → Bool) (x : X) (l : List X) → p x ≡ true → list_all p l ≡ true → list_all p (put x l) ≡ true
   put-all p x [] h k = and_from _ _ h refl
-  put-all p x (y ∷ ys) h k = go (before (number x) (number y)) (put-all p x ys h (and_parts (p y) (list_all p ys) k).1)
-    where
-      go : (b : Bool) → list_all p (put x ys) ≡ true → list_all p (if b then x ∷ y ∷ ys else y ∷ put x ys) ≡ true
-      go true ih = and_from _ _ h k
-      go false ih = and_from _ _ (and_parts (p y) (list_all p ys) k).0 ih
+  put-all p x (y ∷ ys) h k = let next = put-all p x ys h (and_parts (p y) (list_all p ys) k).1 in grind (arith, nat_tests, next)
 
   pub ranked-all : (p : X → Bool) (xs : List X) → list_all p xs ≡ true → list_all p (ranked before number xs) ≡ true
   ranked-all p [] h = refl
@@ -287,11 +250,7 @@ module _ {X : Type 0} (before : ℕ → ℕ → Bool) (number : X → ℕ) where
 
   all-put : (p : X → Bool) (x : X) (l : List X) → list_all p (put x l) ≡ true → (p x ≡ true) × (list_all p l ≡ true)
   all-put p x [] h = ((and_parts (p x) true h).0, refl)
-  all-put p x (y ∷ ys) h = go (before (number x) (number y)) h (all-put p x ys)
-    where
-      go : (b : Bool) → list_all p (if b then x ∷ y ∷ ys else y ∷ put x ys) ≡ true → (list_all p (put x ys) ≡ true → (p x ≡ true) × (list_all p ys ≡ true)) → (p x ≡ true) × (list_all p (y ∷ ys) ≡ true)
-      go true h ih = and_parts (p x) (list_all p (y ∷ ys)) h
-      go false h ih = let s = and_parts (p y) (list_all p (put x ys)) h in let r = ih s.1 in (r.0, and_from _ _ s.0 r.1)
+  all-put p x (y ∷ ys) h = let next = all-put p x ys in grind (arith, nat_tests, h, next)
 
   pub all-ranked : (p : X → Bool) (xs : List X) → list_all p (ranked before number xs) ≡ true → list_all p xs ≡ true
   all-ranked p [] h = refl
@@ -308,11 +267,7 @@ module _ {X : Type 0} (before : ℕ → ℕ → Bool) (number : X → ℕ) where
 
   put-length : (x : X) (l : List X) → length (put x l) ≡ suc (length l)
   put-length x [] = refl
-  put-length x (y ∷ ys) = go (before (number x) (number y)) (put-length x ys)
-    where
-      go : (b : Bool) → length (put x ys) ≡ suc (length ys) → length (if b then x ∷ y ∷ ys else y ∷ put x ys) ≡ suc (suc (length ys))
-      go true ih = refl
-      go false ih = ap suc ih
+  put-length x (y ∷ ys) = let next = put-length x ys in grind (arith, nat_tests, next)
 
   pub ranked-length : (xs : List X) → length (ranked before number xs) ≡ length xs
   ranked-length [] = refl
@@ -335,12 +290,7 @@ module _ {X Y : Type 0} (before : ℕ → ℕ → Bool) (number : X → ℕ) (sh
   put-map x (y ∷ ys) =
       ap (λ n. if before n (shown (f y)) then f x ∷ f y ∷ map f ys else f y ∷ put_ranked before shown (f x) (map f ys)) (keeps x)
       ∙ ap (λ n. if before (number x) n then f x ∷ f y ∷ map f ys else f y ∷ put_ranked before shown (f x) (map f ys)) (keeps y)
-      ∙ go (before (number x) (number y)) (put-map x ys)
-    where
-      go : (b : Bool) → put_ranked before shown (f x) (map f ys) ≡ map f (put_ranked before number x ys)
-          → (if b then f x ∷ f y ∷ map f ys else f y ∷ put_ranked before shown (f x) (map f ys)) ≡ map f (if b then x ∷ y ∷ ys else y ∷ put_ranked before number x ys)
-      go true ih = refl
-      go false ih = ap (λ l. f y ∷ l) ih
+      ∙ (elim (cases_Bool (before (number x) (number y))) [ inl e ↦ rw e | inr e ↦ rw e (ap (λ l. f y ∷ l) (put-map x ys)) ])
 
   pub ranked-map : (xs : List X) → ranked before shown (map f xs) ≡ map f (ranked before number xs)
   ranked-map [] = refl
@@ -447,11 +397,7 @@ module _ {X : Type 0} (before : ℕ → ℕ → Bool) (order : IsOrder before) (
     where
       other : (ys : List X) → find p ys ≡ Some z → list_all (λ y. not (number x == number y)) ys ≡ true → (number x == number z) ≡ false
       other [] e h = absurd (none-some z e)
-      other (y ∷ ys) e h = let s = and_parts (not (number x == number y)) (list_all (λ y. not (number x == number y)) ys) h in at (p y) e s.0 (other ys) s.1
-        where
-          at : (b : Bool) → cond b (Some y) (find p ys) ≡ Some z → not (number x == number y) ≡ true → (find p ys ≡ Some z → list_all (λ y. not (number x == number y)) ys ≡ true → (number x == number z) ≡ false) → list_all (λ y. not (number x == number y)) ys ≡ true → (number x == number z) ≡ false
-          at true e n ih h = let same : y ≡ z = cc in ap (λ w. number x == number w) (sym same) ∙ not-true _ n
-          at false e n ih h = ih e h
+      other (y ∷ ys) e h = let s = and_parts (not (number x == number y)) (list_all (λ y. not (number x == number y)) ys) h in let next = other ys in grind (arith, nat_tests, e, s.0, next, s.1)
 
       go : (b : Bool) → list_all (λ y. not (number x == number y)) xs ≡ true → are_apart numbered_alike xs ≡ true → cond b (Some x) (find p xs) ≡ Some z
           → (find p xs ≡ Some z → ranked before number xs ≡ put_ranked before number z (ranked before number (swap_out p xs)))
@@ -462,11 +408,7 @@ module _ {X : Type 0} (before : ℕ → ℕ → Bool) (order : IsOrder before) (
 module _ {X : Type 0} (before : ℕ → ℕ → Bool) (number : X → ℕ) where
   filter-put : (q : X → Bool) (x : X) (l : List X) → q x ≡ false → filter q (put_ranked before number x l) ≡ filter q l
   filter-put q x [] h = ap (λ b. cond b (x ∷ []) []) h
-  filter-put q x (y ∷ ys) h = go (before (number x) (number y)) (filter-put q x ys h)
-    where
-      go : (b : Bool) → filter q (put_ranked before number x ys) ≡ filter q ys → filter q (if b then x ∷ y ∷ ys else y ∷ put_ranked before number x ys) ≡ filter q (y ∷ ys)
-      go true ih = ap (λ b. cond b (x ∷ filter q (y ∷ ys)) (filter q (y ∷ ys))) h
-      go false ih = ap (λ l. cond (q y) (y ∷ l) l) ih
+  filter-put q x (y ∷ ys) h = let next = filter-put q x ys h in grind (arith, nat_tests, next)
 
 filter-all : {X : Type 0} (q : X → Bool) (l : List X) → list_all q l ≡ true → filter q l ≡ l
 filter-all q [] h = refl
@@ -474,11 +416,7 @@ filter-all q (x ∷ xs) h = let s = and_parts (q x) (list_all q xs) h in ap (λ 
 
 pub found-passes : {X : Type 0} (p : X → Bool) (xs : List X) (z : X) → find p xs ≡ Some z → p z ≡ true
 found-passes p [] z e = absurd (none-some z e)
-found-passes p (x ∷ xs) z e = go (p x) refl e (found-passes p xs z)
-  where
-    go : (b : Bool) → p x ≡ b → cond b (Some x) (find p xs) ≡ Some z → (find p xs ≡ Some z → p z ≡ true) → p z ≡ true
-    go true h e ih = let same : x ≡ z = cc in ap p (sym same) ∙ h
-    go false h e ih = ih e
+found-passes p (x ∷ xs) z e = let next = found-passes p xs z in grind (arith, nat_tests, e, next)
 
 -- what is swapped out is left out of the order
 module _ {X : Type 0} (before : ℕ → ℕ → Bool) (order : IsOrder before) (number : X → ℕ) (p : X → Bool) (passes : (x y : X) → p x ≡ true → p y ≡ true → (number x == number y) ≡ true) where

@@ -1,9 +1,10 @@
 -- The record of a number, looked for under the hash of its key.
-use Rattle.std.proofs.Common.{◌≡◌, refl, ap, ◌∙◌, sym, subst, ℕ, Bool, true, false, true≢false, eqb, List, Option, Some, None}
+use Rattle.std.proofs.Common.{arith, ◌≡◌, refl, ap, ◌∙◌, sym, subst, ℕ, Bool, true, false, true≢false, eqb, List, Option, Some, None}
 use Rattle.engine_cells.specs.Keys.Spots.{Spots, IsUnder}
 use Rattle.engine_reference.specs.declared.data.Record.{Record}
 use Rattle.engine_cells.specs.Cells.{cell_at}
 use Rattle.engine_cells.specs.Spotted.{AreSpotted, IsHeldUnder, is_numbered}
+use Rattle.std.proofs.lemmas.Bool.Decides.{nat_tests}
 
 module _ {K V : Type 0} where
   -- none of the hash's places has it, so no place has
@@ -11,13 +12,9 @@ module _ {K V : Type 0} where
       → ((i : ℕ) → IsUnder spots hash i → is_numbered number (cell_at cells i) ≡ false) → (i : ℕ) → is_numbered number (cell_at cells i) ≡ false
   none-numbered eq cells spots number hash h held none i = by (cell_at cells i) refl
     where
-      matches : (c : Record K V) → cell_at cells i ≡ Some c → (b : Bool) → is_numbered number (Some c) ≡ b → is_numbered number (cell_at cells i) ≡ false
-      matches c at true e = let p = held i c at e in none i (subst (λ x. IsUnder spots x i) p.1 (h.spotted i c at p.0))
-      matches c at false e = ap (is_numbered number) at ∙ e
-
       by : (o : Option (Record K V)) → cell_at cells i ≡ o → is_numbered number (cell_at cells i) ≡ false
       by None at = ap (is_numbered number) at
-      by (Some c) at = matches c at (is_numbered number (Some c)) refl
+      by (Some c) at = grind (arith, nat_tests, c, at)
 
   pub numbered-cell : (cells : List (Option (Record K V))) (i number : ℕ) → is_numbered number (cell_at cells i) ≡ true → (c : Record K V) × (cell_at cells i ≡ Some c) × (eqb c.number number ≡ true)
   numbered-cell cells i number t = go (cell_at cells i) refl t

@@ -1,9 +1,9 @@
 -- The held records in the order of their numbers, and their keys.
-use Rattle.std.proofs.Common.{◌≡◌, refl, ap, sym, ◌∙◌, ℕ, ◌+◌, suc, zero, arith, Bool, true, false, cond, eqb, List, [], ◌∷◌, ◌++◌, Option, Some, None}
+use Rattle.std.proofs.Common.{inr, inl, ◌≡◌, refl, ap, sym, ◌∙◌, ℕ, ◌+◌, suc, zero, arith, Bool, true, false, cond, eqb, List, [], ◌∷◌, ◌++◌, Option, Some, None}
 use Rattle.std.specs.Prelude.{map, sum_by}
 use Rattle.std.specs.List.{AllByRecursion}
 use Rattle.std.specs.List.Sorted.{IsPermutation, IsNonDecreasingBy}
-use Rattle.std.proofs.lemmas.Bool.{eq-eqb, ne_eqb}
+use Rattle.std.proofs.lemmas.Bool.{cond_both, cases_Bool, eq-eqb, ne_eqb}
 use Rattle.std.proofs.lemmas.List.Elements.{All-from_recursion, recursion_from_All}
 use Rattle.std.proofs.lemmas.List.Sorted.{All-permutation, sum_by-IsPermutation}
 use Rattle.std.proofs.lemmas.List.Sums.{sum_by-cons}
@@ -19,6 +19,7 @@ use Rattle.engine_cells.proofs.Listed.{record_at-there, records-rising}
 use Rattle.engine_cells.proofs.Placed.{AllAbove, AreRising}
 use Rattle.engine_cells.proofs.Sorting.{count, AllFrom, NeverFall, same-counts, sorted-never_falls}
 use Rattle.engine_cells.proofs.Totals.{sum_over-is}
+use Rattle.std.proofs.lemmas.Bool.Decides.{nat_tests}
 
 listed-counted : (n : ℕ) (ss : List Stand) → count n (map (λ s. s.number) ss) ≡ sum_by (λ (s : Stand). cond (eqb s.number n) 1 0) ss
 listed-counted n [] = refl
@@ -36,37 +37,21 @@ module _ {K V : Type 0} where
 
   numbers-counted : (n : ℕ) (rs : List (Record K V)) → count n (held_numbers rs) ≡ sum_by (part n) rs
   numbers-counted n [] = refl
-  numbers-counted n (r ∷ rs) = go r.is_held (numbers-counted n rs) ∙ sym (sum_by-cons (part n) r rs)
-    where
-      go : (b : Bool) → count n (held_numbers rs) ≡ sum_by (part n) rs → count n (cond b (r.number ∷ held_numbers rs) (held_numbers rs)) ≡ cond b (cond (eqb r.number n) 1 0) 0 + sum_by (part n) rs
-      go true later = ap (λ m. cond (eqb r.number n) 1 0 + m) later
-      go false later = omega arith
+  numbers-counted n (r ∷ rs) =
+      (elim (cases_Bool r.is_held) [ inl e ↦ rw e (ap (λ m. cond (eqb r.number n) 1 0 + m) (numbers-counted n rs)) | inr e ↦ let later = numbers-counted n rs in rw e (omega arith) ]) ∙ sym (sum_by-cons (part n) r rs)
 
   stands-counted : (n k : ℕ) (cells : List (Option (Record K V))) → count n (map (λ s. s.number) (stands_from k cells)) ≡ sum_over (part n) cells
   stands-counted n k [] = refl
   stands-counted n k (None ∷ cells) = stands-counted n (k + 1) cells
-  stands-counted n k (Some c ∷ cells) = go c.is_held (stands-counted n (k + 1) cells)
-    where
-      go : (b : Bool) → count n (map (λ s. s.number) (stands_from (k + 1) cells)) ≡ sum_over (part n) cells
-          → count n (map (λ (s : Stand). s.number) (cond b ((record { number = c.number; place = k }) ∷ []) [] ++ stands_from (k + 1) cells)) ≡ cond b (cond (eqb c.number n) 1 0) 0 + sum_over (part n) cells
-      go true later = ap (λ m. cond (eqb c.number n) 1 0 + m) later
-      go false later = omega arith
+  stands-counted n k (Some c ∷ cells) = let next = stands-counted n (k + 1) cells in grind (arith, nat_tests, next)
 
   numbers-above : (x : ℕ) (rs : List (Record K V)) → AllAbove x rs → AllFrom x (held_numbers rs)
   numbers-above x [] h = tt
-  numbers-above x (r ∷ rs) h = go r.is_held (numbers-above x rs h.1)
-    where
-      go : (b : Bool) → AllFrom x (held_numbers rs) → AllFrom x (cond b (r.number ∷ held_numbers rs) (held_numbers rs))
-      go true later = (let above = h.0 in omega arith, later)
-      go false later = later
+  numbers-above x (r ∷ rs) h = let next = numbers-above x rs h.1 in grind (arith, nat_tests, next)
 
   numbers-rise : (rs : List (Record K V)) → AreRising rs → NeverFall (held_numbers rs)
   numbers-rise [] h = tt
-  numbers-rise (r ∷ rs) h = go r.is_held (numbers-rise rs h.1)
-    where
-      go : (b : Bool) → NeverFall (held_numbers rs) → NeverFall (cond b (r.number ∷ held_numbers rs) (held_numbers rs))
-      go true later = (numbers-above r.number rs h.0, later)
-      go false later = later
+  numbers-rise (r ∷ rs) h = cond_both r.is_held _ _ NeverFall (λ _. (numbers-above r.number rs h.0, (numbers-rise rs h.1))) (λ _. numbers-rise rs h.1)
 
   -- what was sorted has the numbers of the held records
   numbers-sorted : (cells : List (Option (Record K V))) (ss : List Stand) → HaveOwnNumbers cells → IsPermutation (stands_from 0 cells) ss → IsNonDecreasingBy (λ s. s.number) ss → map (λ s. s.number) ss ≡ held_numbers (records_by_number cells)
@@ -105,11 +90,7 @@ module _ {K V : Type 0} where
 
   keys-held : (whole xs : List (Record K V)) → AreOwn whole xs → keys_by whole (held_numbers xs) ≡ held_keys xs
   keys-held whole [] h = refl
-  keys-held whole (x ∷ xs) h = go x.is_held (keys-held whole xs h.1)
-    where
-      go : (b : Bool) → keys_by whole (held_numbers xs) ≡ held_keys xs → keys_by whole (cond b (x.number ∷ held_numbers xs) (held_numbers xs)) ≡ map (λ (e : Entry K V). e.key) (cond b (x.entry ∷ held_entries xs) (held_entries xs))
-      go true later = ap (λ o. key_at o ++ keys_by whole (held_numbers xs)) h.0 ∙ ap (λ l. x.entry.key ∷ l) later
-      go false later = later
+  keys-held whole (x ∷ xs) h = let next = keys-held whole xs h.1 in grind (arith, nat_tests, next)
 
   -- a stand leads to the record of its number
   abbrev Leads : List (Option (Record K V)) → Stand → Type 0
@@ -118,14 +99,11 @@ module _ {K V : Type 0} where
   all-lead : (whole : List (Option (Record K V))) (k : ℕ) (cells : List (Option (Record K V))) → HaveOwnNumbers whole → ((i : ℕ) → cell_at whole (k + i) ≡ cell_at cells i) → AllByRecursion (Leads whole) (stands_from k cells)
   all-lead whole k [] apart at = tt
   all-lead whole k (None ∷ cells) apart at = all-lead whole (k + 1) cells apart (λ i. ap (λ n. cell_at whole n) (let e : k + 1 + i ≡ k + suc i = omega arith in e) ∙ at (suc i))
-  all-lead whole k (Some c ∷ cells) apart at = go c.is_held (all-lead whole (k + 1) cells apart (λ i. ap (λ n. cell_at whole n) (let e : k + 1 + i ≡ k + suc i = omega arith in e) ∙ at (suc i)))
+  all-lead whole k (Some c ∷ cells) apart at =
+      cond_both c.is_held _ _ (λ z. AllByRecursion (Leads whole) (z ++ stands_from (k + 1) cells)) (λ _. (ap (λ o. key_of o) here ∙ sym (ap (λ o. key_at o) (record_at-there whole k c apart here)), (all-lead whole (k + 1) cells apart (λ i. ap (λ n. cell_at whole n) (let e : k + 1 + i ≡ k + suc i = omega arith in e) ∙ at (suc i))))) (λ _. all-lead whole (k + 1) cells apart (λ i. ap (λ n. cell_at whole n) (let e : k + 1 + i ≡ k + suc i = omega arith in e) ∙ at (suc i)))
     where
       here : cell_at whole k ≡ Some c
       here = ap (λ n. cell_at whole n) (let e : k ≡ k + zero = omega arith in e) ∙ at zero
-
-      go : (b : Bool) → AllByRecursion (Leads whole) (stands_from (k + 1) cells) → AllByRecursion (Leads whole) (cond b ((record { number = c.number; place = k }) ∷ []) [] ++ stands_from (k + 1) cells)
-      go true later = (ap (λ o. key_of o) here ∙ sym (ap (λ o. key_at o) (record_at-there whole k c apart here)), later)
-      go false later = later
 
   keys-lead : (cells : List (Option (Record K V))) (ss : List Stand) → AllByRecursion (Leads cells) ss → keys_in cells ss ≡ keys_by (records_by_number cells) (map (λ s. s.number) ss)
   keys-lead cells [] h = refl

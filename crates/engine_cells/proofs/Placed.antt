@@ -1,10 +1,11 @@
 -- Records by rising number.
 use Rattle.std.proofs.Common.{◌≡◌, ◌≢◌, refl, ap, sym, ◌∙◌, ℕ, ◌<◌, arith, Bool, true, false, cond, List, [], ◌∷◌, ◌++◌, Some, None, eqb}
 use Rattle.std.specs.Prelude.{nat_lt}
-use Rattle.std.proofs.lemmas.Bool.{eqb-true, eq-eqb, ltb-true, ltb-false, lt-ltb, le-ltb}
+use Rattle.std.proofs.lemmas.Bool.{cond_both, eqb-true, eq-eqb, ltb-true, ltb-false, lt-ltb, le-ltb}
 use Rattle.engine_reference.specs.declared.data.Record.{Record}
 use Rattle.engine_reference.specs.Records.{record_at, without_record, changed_at}
 use Rattle.engine_cells.specs.Cells.{put_among}
+use Rattle.std.proofs.lemmas.Bool.Decides.{nat_tests}
 
 module _ {K V : Type 0} where
   -- every record has a smaller number; every record has a larger number
@@ -26,16 +27,12 @@ module _ {K V : Type 0} where
 
   -- what is missing from a list is missing from the rest, and is not the first
   rest-none : (x : Record K V) (xs : List (Record K V)) (n : ℕ) → record_at (x ∷ xs) n ≡ None → (eqb x.number n ≡ false) × (record_at xs n ≡ None)
-  rest-none x xs n h = go (eqb x.number n) refl h
-    where
-      go : (b : Bool) → eqb x.number n ≡ b → cond b (Some x) (record_at xs n) ≡ None → (eqb x.number n ≡ false) × (record_at xs n ≡ None)
-      go true t h = absurd (cc)
-      go false t h = (t, h)
+  rest-none x xs n h = grind (arith, nat_tests, h)
 
   -- the record that was put_among, or what was there
   pub record_at-put_among : (r : Record K V) (xs : List (Record K V)) (n : ℕ) → record_at xs r.number ≡ None → record_at (put_among r xs) n ≡ cond (eqb r.number n) (Some r) (record_at xs n)
   record_at-put_among r [] n h = refl
-  record_at-put_among r (x ∷ xs) n h = go (nat_lt r.number x.number) (record_at-put_among r xs n (rest-none x xs r.number h).1)
+  record_at-put_among r (x ∷ xs) n h = let next = record_at-put_among r xs n (rest-none x xs r.number h).1 in grind (arith, nat_tests, next)
     where
       apart : eqb x.number r.number ≡ false
       apart = (rest-none x xs r.number h).0
@@ -46,29 +43,14 @@ module _ {K V : Type 0} where
       both false true e f = refl
       both false false e f = refl
 
-      go : (b : Bool) → record_at (put_among r xs) n ≡ cond (eqb r.number n) (Some r) (record_at xs n)
-          → record_at (cond b (r ∷ x ∷ xs) (x ∷ put_among r xs)) n ≡ cond (eqb r.number n) (Some r) (record_at (x ∷ xs) n)
-      go true later = refl
-      go false later = ap (λ o. cond (eqb x.number n) (Some x) o) later ∙ both (eqb x.number n) (eqb r.number n) refl refl
-
   -- what was put_among is changed
   pub changed-placed_here : (r : Record K V) (xs : List (Record K V)) (f : Record K V → Record K V) → (f r).number ≡ r.number → record_at xs r.number ≡ None
       → changed_at r.number f (put_among r xs) ≡ put_among (f r) xs
   changed-placed_here r [] f same h = ap (λ b. cond b (f r ∷ []) (r ∷ [])) (eq-eqb r.number r.number refl)
-  changed-placed_here r (x ∷ xs) f same h = go (nat_lt r.number x.number) refl (changed-placed_here r xs f same (rest-none x xs r.number h).1)
+  changed-placed_here r (x ∷ xs) f same h = let next = changed-placed_here r xs f same (rest-none x xs r.number h).1 in grind (arith, nat_tests, next)
     where
       apart : eqb x.number r.number ≡ false
       apart = (rest-none x xs r.number h).0
-
-      go : (b : Bool) → nat_lt r.number x.number ≡ b → changed_at r.number f (put_among r xs) ≡ put_among (f r) xs
-          → changed_at r.number f (cond b (r ∷ x ∷ xs) (x ∷ put_among r xs)) ≡ put_among (f r) (x ∷ xs)
-      go true t later =
-          ap (λ b. cond b (f r ∷ x ∷ xs) (r ∷ changed_at r.number f (x ∷ xs))) (eq-eqb r.number r.number refl)
-          ∙ sym (ap (λ b. cond b (f r ∷ x ∷ xs) (x ∷ put_among (f r) xs)) (ap (λ m. nat_lt m x.number) same ∙ t))
-      go false t later =
-          ap (λ b. cond b (f x ∷ put_among r xs) (x ∷ changed_at r.number f (put_among r xs))) apart
-          ∙ ap (λ l. x ∷ l) later
-          ∙ sym (ap (λ b. cond b (f r ∷ x ∷ xs) (x ∷ put_among (f r) xs)) (ap (λ m. nat_lt m x.number) same ∙ t))
 
   -- another is changed
   pub changed-placed_there : (r : Record K V) (xs : List (Record K V)) (n : ℕ) (f : Record K V → Record K V) → ((x : Record K V) → (f x).number ≡ x.number) → eqb r.number n ≡ false
@@ -85,26 +67,15 @@ module _ {K V : Type 0} where
           ap (λ c. cond c (f r ∷ x ∷ xs) (r ∷ x ∷ changed_at n f xs)) other
           ∙ sym (ap (λ c. cond c (r ∷ x ∷ changed_at n f xs) (x ∷ put_among r (changed_at n f xs))) t)
 
-      behind : (b : Bool) → nat_lt r.number x.number ≡ false → changed_at n f (put_among r xs) ≡ put_among r (changed_at n f xs)
-          → cond b (f x ∷ put_among r xs) (x ∷ changed_at n f (put_among r xs)) ≡ put_among r (cond b (f x ∷ xs) (x ∷ changed_at n f xs))
-      behind true t later = sym (ap (λ c. cond c (r ∷ f x ∷ xs) (f x ∷ put_among r xs)) (ap (λ m. nat_lt r.number m) (same x) ∙ t))
-      behind false t later =
-          ap (λ l. x ∷ l) later
-          ∙ sym (ap (λ c. cond c (r ∷ x ∷ changed_at n f xs) (x ∷ put_among r (changed_at n f xs))) t)
-
       go : (a : Bool) → nat_lt r.number x.number ≡ a → changed_at n f (put_among r xs) ≡ put_among r (changed_at n f xs)
           → changed_at n f (cond a (r ∷ x ∷ xs) (x ∷ put_among r xs)) ≡ put_among r (changed_at n f (x ∷ xs))
       go true t later = before (eqb x.number n) t
-      go false t later = behind (eqb x.number n) t later
+      go false t later = grind (arith, nat_tests, t, later)
 
   -- what was put_among goes
   pub without-placed_here : (r : Record K V) (xs : List (Record K V)) → record_at xs r.number ≡ None → without_record r.number (put_among r xs) ≡ xs
   without-placed_here r [] h = ap (λ b. cond b [] (r ∷ [])) (eq-eqb r.number r.number refl)
-  without-placed_here r (x ∷ xs) h = go (nat_lt r.number x.number) (without-placed_here r xs (rest-none x xs r.number h).1)
-    where
-      go : (b : Bool) → without_record r.number (put_among r xs) ≡ xs → without_record r.number (cond b (r ∷ x ∷ xs) (x ∷ put_among r xs)) ≡ x ∷ xs
-      go true later = ap (λ b. cond b (x ∷ xs) (r ∷ without_record r.number (x ∷ xs))) (eq-eqb r.number r.number refl)
-      go false later = ap (λ b. cond b (put_among r xs) (x ∷ without_record r.number (put_among r xs))) (rest-none x xs r.number h).0 ∙ ap (λ l. x ∷ l) later
+  without-placed_here r (x ∷ xs) h = let next = without-placed_here r xs (rest-none x xs r.number h).1 in grind (arith, nat_tests, next)
 
   -- before all others, and behind all others
   pub put_among-first : (r : Record K V) (xs : List (Record K V)) → AllAbove r.number xs → put_among r xs ≡ r ∷ xs
@@ -119,11 +90,7 @@ module _ {K V : Type 0} where
 
   pub put_among-append : (r : Record K V) (xs : List (Record K V)) (last : Record K V) → r.number < last.number → put_among r (xs ++ last ∷ []) ≡ put_among r xs ++ last ∷ []
   put_among-append r [] last h = ap (λ b. cond b (r ∷ last ∷ []) (last ∷ r ∷ [])) (lt-ltb r.number last.number h)
-  put_among-append r (x ∷ xs) last h = go (nat_lt r.number x.number) (put_among-append r xs last h)
-    where
-      go : (b : Bool) → put_among r (xs ++ last ∷ []) ≡ put_among r xs ++ last ∷ [] → cond b (r ∷ x ∷ xs ++ last ∷ []) (x ∷ put_among r (xs ++ last ∷ [])) ≡ cond b (r ∷ x ∷ xs) (x ∷ put_among r xs) ++ last ∷ []
-      go true later = refl
-      go false later = ap (λ l. x ∷ l) later
+  put_among-append r (x ∷ xs) last h = let next = put_among-append r xs last h in grind (arith, nat_tests, next)
 
   -- another goes, of records by rising number
   pub without-placed_there : (r : Record K V) (xs : List (Record K V)) (n : ℕ) → AreRising xs → eqb r.number n ≡ false → without_record n (put_among r xs) ≡ put_among r (without_record n xs)
@@ -138,41 +105,23 @@ module _ {K V : Type 0} where
           ap (λ c. cond c (x ∷ xs) (r ∷ x ∷ without_record n xs)) other
           ∙ sym (ap (λ c. cond c (r ∷ x ∷ without_record n xs) (x ∷ put_among r (without_record n xs))) t)
 
-      behind : (b : Bool) → nat_lt r.number x.number ≡ false → without_record n (put_among r xs) ≡ put_among r (without_record n xs)
-          → cond b (put_among r xs) (x ∷ without_record n (put_among r xs)) ≡ put_among r (cond b xs (x ∷ without_record n xs))
-      behind true t later = refl
-      behind false t later =
-          ap (λ l. x ∷ l) later
-          ∙ sym (ap (λ c. cond c (r ∷ x ∷ without_record n xs) (x ∷ put_among r (without_record n xs))) t)
-
       go : (a : Bool) → nat_lt r.number x.number ≡ a → without_record n (put_among r xs) ≡ put_among r (without_record n xs)
           → without_record n (cond a (r ∷ x ∷ xs) (x ∷ put_among r xs)) ≡ put_among r (without_record n (x ∷ xs))
       go true t later = before (eqb x.number n) t
-      go false t later = behind (eqb x.number n) t later
+      go false t later = grind (arith, nat_tests, t, later)
 
   above-put_among : (m : ℕ) (r : Record K V) (xs : List (Record K V)) → m < r.number → AllAbove m xs → AllAbove m (put_among r xs)
   above-put_among m r [] less h = (less, tt)
-  above-put_among m r (x ∷ xs) less h = go (nat_lt r.number x.number) (above-put_among m r xs less h.1)
-    where
-      go : (b : Bool) → AllAbove m (put_among r xs) → AllAbove m (cond b (r ∷ x ∷ xs) (x ∷ put_among r xs))
-      go true later = (less, h)
-      go false later = (h.0, later)
+  above-put_among m r (x ∷ xs) less h = let next = above-put_among m r xs less h.1 in grind (arith, nat_tests, next)
 
   pub rising-put_among : (r : Record K V) (xs : List (Record K V)) → record_at xs r.number ≡ None → AreRising xs → AreRising (put_among r xs)
   rising-put_among r [] none h = (tt, tt)
-  rising-put_among r (x ∷ xs) none h = go (nat_lt r.number x.number) refl (rising-put_among r xs (rest-none x xs r.number none).1 h.1)
+  rising-put_among r (x ∷ xs) none h =
+      cond_both (nat_lt r.number x.number) _ _ AreRising (λ e. let less = ltb-true r.number x.number e in ((less, above-later r.number x.number xs less h.0), h)) (λ e. let more = ltb-false r.number x.number e in (above-put_among x.number r xs (let d : x.number ≢ r.number = differ in omega arith) h.0, (rising-put_among r xs (rest-none x xs r.number none).1 h.1)))
     where
       differ : x.number ≡ r.number → ⊥
       differ same = let t = eq-eqb x.number r.number same in let f = (rest-none x xs r.number none).0 in absurd (cc)
 
-      go : (b : Bool) → nat_lt r.number x.number ≡ b → AreRising (put_among r xs) → AreRising (cond b (r ∷ x ∷ xs) (x ∷ put_among r xs))
-      go true t later = let less = ltb-true r.number x.number t in ((less, above-later r.number x.number xs less h.0), h)
-      go false t later = let more = ltb-false r.number x.number t in (above-put_among x.number r xs (let d : x.number ≢ r.number = differ in omega arith) h.0, later)
-
   pub below-put_among : (m : ℕ) (r : Record K V) (xs : List (Record K V)) → r.number < m → AllBelow m xs → AllBelow m (put_among r xs)
   below-put_among m r [] less h = (less, tt)
-  below-put_among m r (x ∷ xs) less h = go (nat_lt r.number x.number) (below-put_among m r xs less h.1)
-    where
-      go : (b : Bool) → AllBelow m (put_among r xs) → AllBelow m (cond b (r ∷ x ∷ xs) (x ∷ put_among r xs))
-      go true later = (less, h)
-      go false later = (h.0, later)
+  below-put_among m r (x ∷ xs) less h = let next = below-put_among m r xs less h.1 in grind (arith, nat_tests, next)

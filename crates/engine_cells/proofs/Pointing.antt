@@ -2,7 +2,7 @@
 use Rattle.std.proofs.Common.{◌≡◌, refl, ap, sym, ◌∙◌, subst, ℕ, zero, suc, ◌+◌, ◌-◌, ◌≤◌, arith, Bool, true, false, not, cond, ◌&&◌, List, [], ◌∷◌, ◌++◌, Option, Some, None, is_some, inl, inr, eqb}
 use Rattle.std.specs.Prelude.{map, option_map, slice_get, IfSome, IfNone}
 use Rattle.std.proofs.lemmas.List.{map-append}
-use Rattle.std.proofs.lemmas.Bool.{and_parts, eqb-true, eq-eqb}
+use Rattle.std.proofs.lemmas.Bool.{cases_Bool, and_parts, eqb-true, eq-eqb}
 use Rattle.policy_queue.specs.Indices.{has_index}
 use Rattle.policy_queue.specs.Queue.{head}
 use Rattle.engine_reference.specs.Records.{record_at, without_record, without, moved_to_back}
@@ -143,11 +143,7 @@ module _ {K V : Type 0} where
 
   others-aimed : (cells : List (Option (Record K V))) (next t : ℕ) (us : List (Ticketed PlacedWrite)) → AreUnsentAimed cells next us → AreUnsentAimed cells next (without_ticketed t us)
   others-aimed cells next t [] h = tt
-  others-aimed cells next t (u ∷ us) h = go (eqb u.ticket t) (others-aimed cells next t us h.1)
-    where
-      go : (b : Bool) → AreUnsentAimed cells next (without_ticketed t us) → AreUnsentAimed cells next (cond b us (u ∷ without_ticketed t us))
-      go true later = h.1
-      go false later = (h.0, later)
+  others-aimed cells next t (u ∷ us) h = elim (cases_Bool (eqb u.ticket t)) [ inl e ↦ rw e h.1 | inr e ↦ rw e (h.0, (others-aimed cells next t us h.1)) ]
 
   aims-sent_of : (cells : List (Option (Record K V))) (next t : ℕ) (o : Option PlacedWrite) {P S R : Type 0} (p : Pending K V Noted PlacedWrite P S R) → ticketed_at p.unsent t ≡ o → AreAllAimed cells next p.reads p.writes p.unsent
       → AreAllAimed cells next p.reads (with_sent_of t o p).writes (with_sent_of t o p).unsent
@@ -201,21 +197,13 @@ module _ {K V : Type 0} where
       → after_hit (record_at (records_by_number cells) number) s ≡ s
   hit-nothing cells place number s apart points h = go (cell_at cells place) refl h
     where
-      same : (c : Record K V) → cell_at cells place ≡ Some c → (b : Bool) → eqb c.number number ≡ b → (b && is_some c.counts) ≡ false → after_hit (record_at (records_by_number cells) number) s ≡ s
-      same c e true t no_counts =
-          ap (λ o. after_hit o s) (ap (λ n. record_at (records_by_number cells) n) (sym (eqb-true c.number number t)) ∙ record_at-there cells place c apart e)
-          ∙ ap (λ b. cond b (record s { access = moved_to_back c.number s.access }) s) no_counts
-      same c e false t no_counts =
-          ap (λ o. after_hit o s) (gone-elsewhere cells place number apart points (λ d at is.
-          let f : Some d ≡ Some c = sym at ∙ e in
-          let is_c : d ≡ c = cc in
-          let yes_there = eq-eqb c.number number (ap (λ x. x.number) (sym is_c) ∙ is) in
-          let wrong : false ≡ true = sym t ∙ yes_there in
-          cc))
-
       go : (o : Option (Record K V)) → cell_at cells place ≡ o → is_admitted_as number o ≡ false → after_hit (record_at (records_by_number cells) number) s ≡ s
       go None e t = ap (λ o. after_hit o s) (gone-elsewhere cells place number apart points (λ d at is. let f : Some d ≡ None = sym at ∙ e in cc))
-      go (Some c) e t = same c e (eqb c.number number) refl t
+      go (Some c) e t =
+          elim (cases_Bool (eqb c.number number)) [
+            | inl h ↦ ap (λ o. after_hit o s) (ap (λ n. record_at (records_by_number cells) n) (sym (eqb-true c.number number h)) ∙ record_at-there cells place c apart e) ∙ ap (λ b. cond b (record s { access = moved_to_back c.number s.access }) s) (rw h at t)
+            | inr h ↦ ap (λ o. after_hit o s) (gone-elsewhere cells place number apart points (λ d at is. let f : Some d ≡ Some c = sym at ∙ e in let is_c : d ≡ c = cc in let yes_there = eq-eqb c.number number (ap (λ x. x.number) (sym is_c) ∙ is) in let wrong : false ≡ true = sym h ∙ yes_there in cc))
+          ]
 
   -- the record of the first of these places, which stand in a queue
   pub record Front (cells : List (Option (Record K V))) (places : List ℕ) (i : ℕ) : Type 0 where

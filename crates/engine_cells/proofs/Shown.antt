@@ -1,7 +1,7 @@
 -- The held keys that have a visible value are as many as the cells whose records show one.
-use Rattle.std.proofs.Common.{◌≡◌, refl, ap, sym, ◌∙◌, ℕ, zero, suc, ◌+◌, arith, Bool, true, false, cond, ◌&&◌, List, [], ◌∷◌, length, map, Option, Some, None, is_some}
+use Rattle.std.proofs.Common.{inr, inl, ◌≡◌, refl, ap, sym, ◌∙◌, ℕ, zero, suc, ◌+◌, arith, Bool, true, false, cond, ◌&&◌, List, [], ◌∷◌, length, map, Option, Some, None, is_some}
 use Rattle.std.specs.Prelude.{filter, sum_by, count_by, option_map}
-use Rattle.std.proofs.lemmas.Bool.{and_from}
+use Rattle.std.proofs.lemmas.Bool.{cases_Bool, and_from}
 use Rattle.std.proofs.lemmas.List.Sums.{sum_by-cons, length-filter}
 use Rattle.engine_pending.specs.Pending.{Pending}
 use Rattle.engine_pending.specs.Whole.{whole}
@@ -26,19 +26,11 @@ module _ {K V : Type 0} (test : K → Bool) where
 
   counted : (rs : List (Record K V)) → count_by test (held_keys rs) ≡ sum_by keyed_part rs
   counted [] = refl
-  counted (r ∷ rs) = go r.is_held refl (counted rs)
-    where
-      go : (b : Bool) → r.is_held ≡ b → count_by test (held_keys rs) ≡ sum_by keyed_part rs → count_by test (held_keys (r ∷ rs)) ≡ sum_by keyed_part (r ∷ rs)
-      go true e later =
-          ap (λ b. count_by test (map (λ x. x.key) (cond b (r.entry ∷ held_entries rs) (held_entries rs)))) e
-          ∙ sum_by-cons (λ k. cond (test k) 1 0) r.entry.key (held_keys rs)
-          ∙ ap (λ n. cond (test r.entry.key) 1 0 + n) later
-          ∙ sym (sum_by-cons keyed_part r rs ∙ ap (λ b. cond b (cond (test r.entry.key) 1 0) 0 + sum_by keyed_part rs) e)
-      go false e later =
-          ap (λ b. count_by test (map (λ x. x.key) (cond b (r.entry ∷ held_entries rs) (held_entries rs)))) e
-          ∙ later
-          ∙ (let z : sum_by keyed_part rs ≡ 0 + sum_by keyed_part rs = omega arith in z)
-          ∙ sym (sum_by-cons keyed_part r rs ∙ ap (λ b. cond b (cond (test r.entry.key) 1 0) 0 + sum_by keyed_part rs) e)
+  counted (r ∷ rs) =
+      elim (cases_Bool r.is_held) [
+        | inl is ↦ ap (λ b. count_by test (map (λ x. x.key) (cond b (r.entry ∷ held_entries rs) (held_entries rs)))) is ∙ sum_by-cons (λ k. cond (test k) 1 0) r.entry.key (held_keys rs) ∙ ap (λ n. cond (test r.entry.key) 1 0 + n) (counted rs) ∙ sym (sum_by-cons keyed_part r rs ∙ ap (λ b. cond b (cond (test r.entry.key) 1 0) 0 + sum_by keyed_part rs) is)
+        | inr is ↦ ap (λ b. count_by test (map (λ x. x.key) (cond b (r.entry ∷ held_entries rs) (held_entries rs)))) is ∙ (counted rs) ∙ (let z : sum_by keyed_part rs ≡ 0 + sum_by keyed_part rs = omega arith in z) ∙ sym (sum_by-cons keyed_part r rs ∙ ap (λ b. cond b (cond (test r.entry.key) 1 0) 0 + sum_by keyed_part rs) is)
+      ]
 
   keys-counted : (rs : List (Record K V)) → length (filter test (held_keys rs)) ≡ sum_by keyed_part rs
   keys-counted rs = length-filter test (held_keys rs) ∙ counted rs
@@ -74,12 +66,8 @@ module _ {K V O W P S R : Type 0} (read_of : O → Read) (write_of : W → Write
       go i c there true held =
           let seen : Bool = is_visible answers state now c.entry in
           ap (λ b. cond {A = ℕ} (b && seen) 1 0) held
-          ∙ ap (λ b. cond {A = ℕ} b 1 0) (sym (ap (λ o. is_some (option_map (λ e. e.value) (option_map (λ r. r.entry) (passing (λ r. is_visible answers state now r.entry) o)))) (at-own i c there held) ∙ twice seen))
+          ∙ ap (λ b. cond {A = ℕ} b 1 0) (sym (ap (λ o. is_some (option_map (λ e. e.value) (option_map (λ r. r.entry) (passing (λ r. is_visible answers state now r.entry) o)))) (at-own i c there held) ∙ (elim (cases_Bool seen) [ inl is ↦ rw is | inr is ↦ rw is ])))
           ∙ sym (ap (λ b. cond {A = ℕ} b (cond {A = ℕ} (has_value c.entry.key) 1 0) 0) held)
-        where
-          twice : (b : Bool) → is_some (option_map (λ e. e.value) (option_map (λ r. r.entry) (cond b (Some c) None))) ≡ b
-          twice true = refl
-          twice false = refl
       go i c there false held =
           ap (λ b. cond {A = ℕ} (b && is_visible answers state now c.entry) 1 0) held
           ∙ sym (ap (λ b. cond {A = ℕ} b (cond {A = ℕ} (has_value c.entry.key) 1 0) 0) held)

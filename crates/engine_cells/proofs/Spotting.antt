@@ -11,6 +11,7 @@ use Rattle.engine_cells.specs.Cells.{cell_at, records_by_number}
 use Rattle.engine_cells.specs.Spotted.{AreHashed, LeavesIf, is_match, AreSpotted}
 use Rattle.engine_cells.proofs.Changes.{Gets, Loses, place_of}
 use Rattle.engine_cells.proofs.Held.{held-there}
+use Rattle.std.proofs.lemmas.Bool.Decides.{nat_tests}
 
 -- keys that feed a hasher alike have one hash
 pub hash-alike : {K S H : Type 0} (finish : H → ℕ) (write : H → List ℕ → H) (build_hasher : S → H) (hash_input : K → List (List ℕ)) (hasher : S) (a b : K) → hash_input a ≡ hash_input b
@@ -139,11 +140,7 @@ module _ {K V : Type 0} (eq : K → K → Bool) where
 
     -- where it was held its place stood under its hash
     pub space-unholds : spots.space ≤ after.space
-    space-unholds = space c.is_held leaves
-      where
-        space : (b : Bool) → LeavesIf b spots after c.hash i → spots.space ≤ after.space
-        space true l = l.space
-        space false l = let e : after.space ≡ spots.space = ap (λ s. s.space) l in omega arith
+    space-unholds = grind (arith, nat_tests, leaves)
 
   -- a key that is not held matches nowhere
   pub none-matches : (cells : List (Option (Record K V))) (spots : Spots) (key : K) → AreSpotted eq cells spots → held_at eq (records_by_number cells) key ≡ None → (j : ℕ) → is_match eq key (cell_at cells j) ≡ false

@@ -13,6 +13,7 @@ use Rattle.engine_cells.specs.Fitting.{HasPlacesFor, StepsOut, ComesLast}
 use Rattle.engine_cells.specs.Tallying.{held_part, admitted_part, sum_over, IsLightly, IsTallied}
 use Rattle.engine_cells.proofs.Changes.{Loses, Gets, was, place_of}
 use Rattle.engine_cells.proofs.Counting.{gets-set}
+use Rattle.std.proofs.lemmas.Bool.{cond_both, cases_Bool}
 
 -- what is known of totals where there are fewer than 2^32 records
 pub record IsFitting (t : Tally) : Type 0 where
@@ -27,30 +28,19 @@ one-or-none false = refl
 module _ {K V : Type 0} where
   pub held-sum : (rs : List (Record K V)) → held_weight rs ≡ sum_by held_part rs
   held-sum [] = refl
-  held-sum (r ∷ rs) = go r.is_held refl (held-sum rs)
-    where
-      go : (b : Bool) → r.is_held ≡ b → sum_by (λ e. e.weight) (held_entries rs) ≡ sum_by held_part rs → sum_by (λ e. e.weight) (cond r.is_held (r.entry ∷ held_entries rs) (held_entries rs)) ≡ sum_by held_part (r ∷ rs)
-      go true e later =
-          ap (λ b. sum_by (λ x. x.weight) (cond b (r.entry ∷ held_entries rs) (held_entries rs))) e
-          ∙ sum_by-cons (λ x. x.weight) r.entry (held_entries rs)
-          ∙ ap (λ n. r.entry.weight + n) later
-          ∙ sym (sum_by-cons held_part r rs ∙ ap (λ b. cond b r.entry.weight 0 + sum_by held_part rs) e)
-      go false e later =
-          ap (λ b. sum_by (λ x. x.weight) (cond b (r.entry ∷ held_entries rs) (held_entries rs))) e
-          ∙ later
-          ∙ (let z : sum_by held_part rs ≡ 0 + sum_by held_part rs = omega arith in z)
-          ∙ sym (sum_by-cons held_part r rs ∙ ap (λ b. cond b r.entry.weight 0 + sum_by held_part rs) e)
+  held-sum (r ∷ rs) =
+      elim (cases_Bool r.is_held) [
+        | inl is ↦ ap (λ b. sum_by (λ x. x.weight) (cond b (r.entry ∷ held_entries rs) (held_entries rs))) is ∙ sum_by-cons (λ x. x.weight) r.entry (held_entries rs) ∙ ap (λ n. r.entry.weight + n) (held-sum rs) ∙ sym (sum_by-cons held_part r rs ∙ ap (λ b. cond b r.entry.weight 0 + sum_by held_part rs) is)
+        | inr is ↦ ap (λ b. sum_by (λ x. x.weight) (cond b (r.entry ∷ held_entries rs) (held_entries rs))) is ∙ (held-sum rs) ∙ (let z : sum_by held_part rs ≡ 0 + sum_by held_part rs = omega arith in z) ∙ sym (sum_by-cons held_part r rs ∙ ap (λ b. cond b r.entry.weight 0 + sum_by held_part rs) is)
+      ]
 
   sum-put_among : (f : Record K V → ℕ) (r : Record K V) (xs : List (Record K V)) → sum_by f (put_among r xs) ≡ f r + sum_by f xs
   sum-put_among f r [] = sum_by-cons f r []
-  sum-put_among f r (x ∷ xs) = go (nat_lt r.number x.number) (sum-put_among f r xs)
-    where
-      go : (b : Bool) → sum_by f (put_among r xs) ≡ f r + sum_by f xs → sum_by f (cond b (r ∷ x ∷ xs) (x ∷ put_among r xs)) ≡ f r + sum_by f (x ∷ xs)
-      go true later = sum_by-cons f r (x ∷ xs)
-      go false later =
-          let a = sum_by-cons f x (put_among r xs) in
-          let b = sum_by-cons f x xs in
-          omega arith
+  sum-put_among f r (x ∷ xs) =
+      elim (cases_Bool (nat_lt r.number x.number)) [
+        | inl e ↦ rw e (sum_by-cons f r (x ∷ xs))
+        | inr e ↦ let later = sum-put_among f r xs in rw e (let a = sum_by-cons f x (put_among r xs) in let b = sum_by-cons f x xs in omega arith)
+      ]
 
   -- in whatever order
   pub sum_over-is : (f : Record K V → ℕ) (cells : List (Option (Record K V))) → sum_by f (records_by_number cells) ≡ sum_over f cells
@@ -134,15 +124,11 @@ module _ {K V : Type 0} where
 
   pub tally-fits : (cells : List (Option (Record K V))) (t : Tally) → IsTallied cells t → count_by is_some cells < 2 ^ 32 → IsFitting t
   tally-fits cells t h few =
-      let held : sum_over held_part cells ≤ 4294967295 * count_by is_some cells = sum_over-below held_part 4294967295 cells (λ i c there. held-small c c.is_held refl (h.light i c there).entry) in
+      let held : sum_over held_part cells ≤ 4294967295 * count_by is_some cells = sum_over-below held_part 4294967295 cells (λ i c there. (cond_both c.is_held _ _ (λ z. z ≤ 4294967295) (λ _. omega (arith, (h.light i c there).entry)) (λ _. omega arith))) in
       let weight : sum_over weight_at cells ≤ 4294967295 * count_by is_some cells = sum_over-below weight_at 4294967295 cells (λ i c there. let l = (h.light i c there).counted in omega (arith, l)) in
       let number : sum_over admitted_part cells ≤ 1 * count_by is_some cells = sum_over-below admitted_part 1 cells (λ i c there. one (is_some c.counts)) in
       record { held = omega (arith, held, h.held); weight = omega (arith, weight, h.weight); number = omega (arith, number, h.number) }
     where
-      held-small : (r : Record K V) (b : Bool) → r.is_held ≡ b → r.entry.weight < 2 ^ 32 → cond b r.entry.weight 0 ≤ 4294967295
-      held-small r true e l = omega (arith, l)
-      held-small r false e l = omega arith
-
       one : (b : Bool) → cond b 1 0 ≤ 1
       one true = omega arith
       one false = omega arith
@@ -283,22 +269,15 @@ module _ {K V : Type 0} where
   -- there are no more admitted records than records
   pub number-below : (cells : List (Option (Record K V))) (t : Tally) → IsTallied cells t → t.number ≤ count_by is_some cells
   number-below cells t h =
-      let number : sum_over admitted_part cells ≤ 1 * count_by is_some cells = sum_over-below admitted_part 1 cells (λ i c there. one (is_some c.counts)) in
+      let number : sum_over admitted_part cells ≤ 1 * count_by is_some cells = sum_over-below admitted_part 1 cells (λ i c there. (cond_both (is_some c.counts) _ _ (λ z. z ≤ 1) (λ _. omega arith) (λ _. omega arith))) in
       omega (arith, number, h.number)
-    where
-      one : (b : Bool) → cond b 1 0 ≤ 1
-      one true = omega arith
-      one false = omega arith
 
   -- there are fewer where one is not admitted
   admitted-below : (cells : List (Option (Record K V))) → sum_over admitted_part cells ≤ count_by is_some cells
   admitted-below [] = omega arith
   admitted-below (None ∷ cells) = let later = admitted-below cells in let many = no_more cells in omega (arith, later, many)
-  admitted-below (Some x ∷ cells) = go (is_some x.counts) (admitted-below cells)
-    where
-      go : (b : Bool) → sum_over admitted_part cells ≤ count_by is_some cells → cond b 1 0 + sum_over admitted_part cells ≤ count_by is_some (Some x ∷ cells)
-      go true later = let many = one_more x cells in omega (arith, later, many)
-      go false later = let many = one_more x cells in omega (arith, later, many)
+  admitted-below (Some x ∷ cells) =
+      cond_both (is_some x.counts) _ _ (λ z. z + sum_over admitted_part cells ≤ count_by is_some (Some x ∷ cells)) (λ _. let many = one_more x cells in omega (arith, (admitted-below cells), many)) (λ _. let many = one_more x cells in omega (arith, (admitted-below cells), many))
 
   fewer-admitted : (cells : List (Option (Record K V))) (i : ℕ) (c : Record K V) → cell_at cells i ≡ Some c → is_some c.counts ≡ false → sum_over admitted_part cells < count_by is_some cells
   fewer-admitted [] i c there off = absurd (cc)
@@ -310,11 +289,8 @@ module _ {K V : Type 0} where
       let later = admitted-below cells in
       let many = one_more x cells in
       omega (arith, none, later, many)
-  fewer-admitted (Some x ∷ cells) (suc i) c there off = go (is_some x.counts) (fewer-admitted cells i c there off)
-    where
-      go : (b : Bool) → sum_over admitted_part cells < count_by is_some cells → cond b 1 0 + sum_over admitted_part cells < count_by is_some (Some x ∷ cells)
-      go true later = let many = one_more x cells in omega (arith, later, many)
-      go false later = let many = one_more x cells in omega (arith, later, many)
+  fewer-admitted (Some x ∷ cells) (suc i) c there off =
+      cond_both (is_some x.counts) _ _ (λ z. z + sum_over admitted_part cells < count_by is_some (Some x ∷ cells)) (λ _. let many = one_more x cells in omega (arith, (fewer-admitted cells i c there off), many)) (λ _. let many = one_more x cells in omega (arith, (fewer-admitted cells i c there off), many))
 
   pub number-fewer : (cells : List (Option (Record K V))) (t : Tally) (i : ℕ) (c : Record K V) → IsTallied cells t → cell_at cells i ≡ Some c → is_some c.counts ≡ false → t.number < count_by is_some cells
   number-fewer cells t i c h there off = let fewer = fewer-admitted cells i c there off in omega (arith, fewer, h.number)

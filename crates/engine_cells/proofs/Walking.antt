@@ -1,11 +1,12 @@
 -- Walks over cells and queues.
-use Rattle.std.proofs.Common.{◌≡◌, refl, sym, ◌∙◌, ℕ, ◌<◌, zero, suc, arith, length, Bool, true, false, cond, eqb, List, [], ◌∷◌, Option, Some, None}
+use Rattle.std.proofs.Common.{inr, inl, ◌≡◌, refl, sym, ◌∙◌, ℕ, ◌<◌, zero, suc, arith, length, Bool, true, false, cond, eqb, List, [], ◌∷◌, Option, Some, None}
 use Rattle.std.specs.Prelude.{IfSome, IfNone, OnOk, OnErr, Result, Ok, Err, option_map, is_some}
 use Rattle.engine_reference.specs.declared.data.Record.{Record}
 use Rattle.engine_reference.specs.Records.{record_at}
 use Rattle.engine_cells.specs.Cells.{cell_at, records_by_number, numbers_of, HaveOwnNumbers}
 use Rattle.engine_cells.proofs.Listed.{apart-later, first-alone}
 use Rattle.engine_cells.proofs.Placed.{record_at-put_among}
+use Rattle.std.proofs.lemmas.Bool.{cases_Bool}
 
 -- what is told of an answer, told otherwise
 pub found-map : (P Q : ℕ → Type 0) → ((i : ℕ) → P i → Q i) → (o : Option ℕ) → IfSome o P → IfSome o Q
@@ -50,11 +51,11 @@ module _ {K V : Type 0} where
   pub place-there : (cells : List (Option (Record K V))) (n : ℕ) (r : Record K V) → HaveOwnNumbers cells → record_at (records_by_number cells) n ≡ Some r → Stands cells r
   place-there [] n r apart h = absurd (cc)
   place-there (None ∷ cells) n r apart h = later_place None cells r (place-there cells n r (apart-later None cells apart) h)
-  place-there (Some c ∷ cells) n r apart h = go (eqb c.number n) (sym (record_at-put_among c (records_by_number cells) n (first-alone c cells apart)) ∙ h) (place-there cells n r (apart-later (Some c) cells apart))
-    where
-      go : (b : Bool) → cond b (Some c) (record_at (records_by_number cells) n) ≡ Some r → (record_at (records_by_number cells) n ≡ Some r → Stands cells r) → Stands (Some c ∷ cells) r
-      go true e later = record { place = zero; cell = c; there = refl; is = cc }
-      go false e later = later_place (Some c) cells r (later e)
+  place-there (Some c ∷ cells) n r apart h =
+      elim (cases_Bool (eqb c.number n)) [
+        | inl t ↦ let e = rw t at (sym (record_at-put_among c (records_by_number cells) n (first-alone c cells apart)) ∙ h) in let later = place-there cells n r (apart-later (Some c) cells apart) in record { place = zero; cell = c; there = refl; is = cc }
+        | inr t ↦ let e = rw t at (sym (record_at-put_among c (records_by_number cells) n (first-alone c cells apart)) ∙ h) in later_place (Some c) cells r ((place-there cells n r (apart-later (Some c) cells apart)) e)
+      ]
 
   -- each cell has its number
   pub many-numbers : (cells : List (Option (Record K V))) → length (numbers_of cells) ≡ length cells

@@ -1,7 +1,7 @@
 -- Records that are accounted for stay so as writes are applied.
 use Rattle.std.proofs.Common.{◌≡◌, refl, ap, sym, ◌∙◌, subst, ℕ, ◌<◌, arith, Bool, true, false, true≢false, cond, not, List, [], ◌∷◌, ◌++◌, Option, Some, None, inl, inr, ◌⊎◌, eqb, ◌==◌}
 use Rattle.std.specs.Prelude.{nat_lt}
-use Rattle.std.proofs.lemmas.Bool.{eqb-true, eqb-false, cases_eq, ltb-true, or_cases, not-true}
+use Rattle.std.proofs.lemmas.Bool.{cond_both, cases_Bool, eqb-true, eqb-false, cases_eq, ltb-true, or_cases, not-true}
 use Rattle.engine_reference.specs.declared.data.Record.{Record}
 use Rattle.engine_reference.specs.declared.data.Unsent.{Unsent}
 use Rattle.engine_reference.specs.declared.data.Upsert.{Upsert}
@@ -10,6 +10,7 @@ use Rattle.engine_reference.specs.declared.data.Write.TheVariants.{Put, Removed}
 use Rattle.engine_reference.specs.Records.{record_at, without_record, changed_at, without, moved_to_back}
 use Rattle.engine_reference.specs.Runs.{is_overtaken}
 use Rattle.engine_reference.specs.Soundness.{AreOnce, IsIn, number_of, IsPending, Each, AreNumbered, IsLastOf, Fits, IsAccounted}
+use Rattle.std.proofs.lemmas.Bool.Decides.{nat_tests}
 
 -- what a choice gives that is none
 cond_none : {A : Type 0} (b : Bool) (x : A) (o : Option A) → cond b (Some x) o ≡ None → (b ≡ false) × (o ≡ None)
@@ -21,13 +22,7 @@ cond_none false x o h = (refl, h)
 -- another number stays
 pub IsIn-without : (n m : ℕ) (ns : List ℕ) → (m ≡ n → ⊥) → IsIn m ns → IsIn m (without n ns)
 IsIn-without n m [] apart h = h
-IsIn-without n m (x ∷ ns) apart h = go (x == n) refl h (λ k. IsIn-without n m ns apart k)
-  where
-    go : (b : Bool) → eqb x n ≡ b → (x ≡ m) ⊎ IsIn m ns → (IsIn m ns → IsIn m (without n ns)) → IsIn m (cond (not b) (x ∷ without n ns) (without n ns))
-    go true t (inl e) later = absurd (apart (sym e ∙ eqb-true x n t))
-    go true t (inr k) later = later k
-    go false t (inl e) later = inl e
-    go false t (inr k) later = inr (later k)
+IsIn-without n m (x ∷ ns) apart h = let next = IsIn-without n m ns apart in grind (arith, nat_tests, h, next)
 
 pub IsIn-append_left : {X : Type 0} (x : X) (xs ys : List X) → IsIn x xs → IsIn x (xs ++ ys)
 IsIn-append_left x [] ys h = elim h [ ]
@@ -48,29 +43,15 @@ IsIn-moved n m ns h = elim (cases_eq m n) [
 
 pub IsIn-without_from : (n m : ℕ) (ns : List ℕ) → IsIn m (without n ns) → IsIn m ns
 IsIn-without_from n m [] h = h
-IsIn-without_from n m (x ∷ ns) h = go (x == n) h (IsIn-without_from n m ns)
-  where
-    go : (b : Bool) → IsIn m (cond (not b) (x ∷ without n ns) (without n ns)) → (IsIn m (without n ns) → IsIn m ns) → (x ≡ m) ⊎ IsIn m ns
-    go true k later = inr (later k)
-    go false (inl e) later = inl e
-    go false (inr k) later = inr (later k)
+IsIn-without_from n m (x ∷ ns) h = let next = IsIn-without_from n m ns in grind (arith, nat_tests, h, next)
 
 pub not_in-without : (n : ℕ) (ns : List ℕ) → IsIn n (without n ns) → ⊥
 not_in-without n [] h = h
-not_in-without n (x ∷ ns) h = go (x == n) refl h (not_in-without n ns)
-  where
-    go : (b : Bool) → eqb x n ≡ b → IsIn n (cond (not b) (x ∷ without n ns) (without n ns)) → (IsIn n (without n ns) → ⊥) → ⊥
-    go true t k later = later k
-    go false t (inl e) later = eqb-false x n t e
-    go false t (inr k) later = later k
+not_in-without n (x ∷ ns) h = let next = not_in-without n ns in grind (arith, nat_tests, h, next)
 
 pub once-without : (n : ℕ) (ns : List ℕ) → AreOnce ns → AreOnce (without n ns)
 once-without n [] h = tt
-once-without n (x ∷ ns) h = go (x == n) (once-without n ns h.1)
-  where
-    go : (b : Bool) → AreOnce (without n ns) → AreOnce (cond (not b) (x ∷ without n ns) (without n ns))
-    go true later = later
-    go false later = ((λ k. h.0 (IsIn-without_from n x ns k)), later)
+once-without n (x ∷ ns) h = elim (cases_Bool (x == n)) [ inl e ↦ rw e (once-without n ns h.1) | inr e ↦ rw e ((λ k. h.0 (IsIn-without_from n x ns k)), (once-without n ns h.1)) ]
 
 pub in_pushed : (n m : ℕ) (ns : List ℕ) → IsIn m (ns ++ n ∷ []) → IsIn m ns ⊎ (n ≡ m)
 in_pushed n m [] (inl e) = inr e
@@ -131,60 +112,33 @@ module _ {K V : Type 0} where
   record_at-changed_none n m change same [] h = refl
   record_at-changed_none n m change same (r ∷ rs) h =
       let p = cond_none (eqb r.number m) r (record_at rs m) h in
-      go (r.number == n) p (record_at-changed_none n m change same rs p.1)
-    where
-      go : (b : Bool) → (eqb r.number m ≡ false) × (record_at rs m ≡ None) → record_at (changed_at n change rs) m ≡ None → record_at (cond b (change r ∷ rs) (r ∷ changed_at n change rs)) m ≡ None
-      go true p later = ap (λ k. cond (eqb k m) (Some (change r)) (record_at rs m)) (same r) ∙ ap (λ b. cond b (Some (change r)) (record_at rs m)) p.0 ∙ p.1
-      go false p later = ap (λ b. cond b (Some r) (record_at (changed_at n change rs) m)) p.0 ∙ later
+      cond_both (r.number == n) _ _ (λ z. record_at z m ≡ None) (λ _. ap (λ k. cond (eqb k m) (Some (change r)) (record_at rs m)) (same r) ∙ ap (λ b. cond b (Some (change r)) (record_at rs m)) p.0 ∙ p.1) (λ _. ap (λ b. cond b (Some r) (record_at (changed_at n change rs) m)) p.0 ∙ (record_at-changed_none n m change same rs p.1))
 
   pub numbered-changed : (n : ℕ) (change : Record K V → Record K V) → ((x : Record K V) → (change x).number ≡ x.number) → (rs : List (Record K V)) → AreNumbered rs → AreNumbered (changed_at n change rs)
   numbered-changed n change same [] h = tt
-  numbered-changed n change same (r ∷ rs) h = go (r.number == n) (numbered-changed n change same rs h.1)
-    where
-      go : (b : Bool) → AreNumbered (changed_at n change rs) → AreNumbered (cond b (change r ∷ rs) (r ∷ changed_at n change rs))
-      go true later = (ap (λ k. record_at rs k) (same r) ∙ h.0, h.1)
-      go false later = (record_at-changed_none n r.number change same rs h.0, later)
+  numbered-changed n change same (r ∷ rs) h =
+      cond_both (r.number == n) _ _ AreNumbered (λ _. (ap (λ k. record_at rs k) (same r) ∙ h.0, h.1)) (λ _. (record_at-changed_none n r.number change same rs h.0, (numbered-changed n change same rs h.1)))
 
   record_at-without_none : (n m : ℕ) (rs : List (Record K V)) → record_at rs m ≡ None → record_at (without_record n rs) m ≡ None
   record_at-without_none n m [] h = refl
   record_at-without_none n m (r ∷ rs) h =
       let p = cond_none (eqb r.number m) r (record_at rs m) h in
-      go (r.number == n) p (record_at-without_none n m rs p.1)
-    where
-      go : (b : Bool) → (eqb r.number m ≡ false) × (record_at rs m ≡ None) → record_at (without_record n rs) m ≡ None → record_at (cond b rs (r ∷ without_record n rs)) m ≡ None
-      go true p later = p.1
-      go false p later = ap (λ b. cond b (Some r) (record_at (without_record n rs) m)) p.0 ∙ later
+      elim (cases_Bool (r.number == n)) [ inl e ↦ rw e p.1 | inr e ↦ rw e (ap (λ b. cond b (Some r) (record_at (without_record n rs) m)) p.0 ∙ (record_at-without_none n m rs p.1)) ]
 
   pub numbered-without : (n : ℕ) (rs : List (Record K V)) → AreNumbered rs → AreNumbered (without_record n rs)
   numbered-without n [] h = tt
-  numbered-without n (r ∷ rs) h = go (r.number == n) (numbered-without n rs h.1)
-    where
-      go : (b : Bool) → AreNumbered (without_record n rs) → AreNumbered (cond b rs (r ∷ without_record n rs))
-      go true later = h.1
-      go false later = (record_at-without_none n r.number rs h.0, later)
+  numbered-without n (r ∷ rs) h = cond_both (r.number == n) _ _ AreNumbered (λ _. h.1) (λ _. (record_at-without_none n r.number rs h.0, (numbered-without n rs h.1)))
 
   pub each-changed : (n : ℕ) (change : Record K V → Record K V) (P Q : Record K V → Type 0) → ((r : Record K V) → r.number ≡ n → P r → Q (change r)) → ((r : Record K V) → (r.number ≡ n → ⊥) → P r → Q r)
       → (rs : List (Record K V)) → AreNumbered rs → Each P rs → Each Q (changed_at n change rs)
   each-changed n change P Q own other [] numbered h = tt
-  each-changed n change P Q own other (r ∷ rs) numbered h = go (r.number == n) refl (each-changed n change P Q own other rs numbered.1 h.1)
-    where
-      go : (b : Bool) → eqb r.number n ≡ b → Each Q (changed_at n change rs) → Each Q (cond b (change r ∷ rs) (r ∷ changed_at n change rs))
-      go true t later =
-          let same = eqb-true r.number n t in
-          let rest = none_there n rs (ap (λ k. record_at rs k) (sym same) ∙ numbered.0) in
-          (own r same h.0, each-map (λ x. P x × (x.number ≡ n → ⊥)) Q (λ x k. other x k.1 k.0) rs (each-both P (λ x. x.number ≡ n → ⊥) rs h.1 rest))
-      go false t later = (other r (eqb-false r.number n t) h.0, later)
+  each-changed n change P Q own other (r ∷ rs) numbered h =
+      cond_both (r.number == n) _ _ (Each Q) (λ e. let same = eqb-true r.number n e in let rest = none_there n rs (ap (λ k. record_at rs k) (sym same) ∙ numbered.0) in (own r same h.0, each-map (λ x. P x × (x.number ≡ n → ⊥)) Q (λ x k. other x k.1 k.0) rs (each-both P (λ x. x.number ≡ n → ⊥) rs h.1 rest))) (λ e. (other r (eqb-false r.number n e) h.0, (each-changed n change P Q own other rs numbered.1 h.1)))
 
   pub each-without : (n : ℕ) (P Q : Record K V → Type 0) → ((r : Record K V) → (r.number ≡ n → ⊥) → P r → Q r) → (rs : List (Record K V)) → AreNumbered rs → Each P rs → Each Q (without_record n rs)
   each-without n P Q other [] numbered h = tt
-  each-without n P Q other (r ∷ rs) numbered h = go (r.number == n) refl (each-without n P Q other rs numbered.1 h.1)
-    where
-      go : (b : Bool) → eqb r.number n ≡ b → Each Q (without_record n rs) → Each Q (cond b rs (r ∷ without_record n rs))
-      go true t later =
-          let same = eqb-true r.number n t in
-          let rest = none_there n rs (ap (λ k. record_at rs k) (sym same) ∙ numbered.0) in
-          each-map (λ x. P x × (x.number ≡ n → ⊥)) Q (λ x k. other x k.1 k.0) rs (each-both P (λ x. x.number ≡ n → ⊥) rs h.1 rest)
-      go false t later = (other r (eqb-false r.number n t) h.0, later)
+  each-without n P Q other (r ∷ rs) numbered h =
+      cond_both (r.number == n) _ _ (Each Q) (λ e. let same = eqb-true r.number n e in let rest = none_there n rs (ap (λ k. record_at rs k) (sym same) ∙ numbered.0) in each-map (λ x. P x × (x.number ≡ n → ⊥)) Q (λ x k. other x k.1 k.0) rs (each-both P (λ x. x.number ≡ n → ⊥) rs h.1 rest)) (λ e. (other r (eqb-false r.number n e) h.0, (each-without n P Q other rs numbered.1 h.1)))
 
   -- ---- one record, as the oldest write is taken off
 

@@ -1,5 +1,5 @@
 -- The sketch's counts, which nothing changes but reads and the making of the table.
-use Rattle.std.proofs.Common.{◌≡◌, refl, ap, sym, ◌∙◌, ℕ, Bool, true, false, true≢false, cond, ◌&&◌, List, [], ◌∷◌, Option, Some, None, is_some, ◌==◌}
+use Rattle.std.proofs.Common.{arith, ◌≡◌, refl, ap, sym, ◌∙◌, ℕ, Bool, true, false, true≢false, cond, ◌&&◌, List, [], ◌∷◌, Option, Some, None, is_some, ◌==◌}
 use Rattle.std.specs.Prelude.{nat_lt}
 use Rattle.std.proofs.lemmas.Bool.{eqb-true}
 use Rattle.policy_base.specs.Counts.{incremented}
@@ -21,6 +21,7 @@ use Rattle.std.specs.Prelude.{nat_le, ◌/◌}
 use Rattle.std.proofs.lemmas.Bool.{and_parts}
 use Rattle.policy_base.specs.Counts.{Sketch}
 use Rattle.engine_reference.specs.Records.{without, moved_to_back}
+use Rattle.std.proofs.lemmas.Bool.Decides.{nat_tests}
 
 module _ {K V P S R : Type 0} where
   with_left-sketch : (why : RemovalCause) (s : State K V P S R) (o : Option (Record K V)) → (with_left why s o).sketch ≡ s.sketch
@@ -52,11 +53,7 @@ module _ {K V P S R : Type 0} where
 
   after_removal-sketch : (o : Option (Record K V)) (s : State K V P S R) → (after_removal o s).sketch ≡ s.sketch
   after_removal-sketch None s = refl
-  after_removal-sketch (Some r) s = go r.is_held
-    where
-      go : (b : Bool) → (cond b s (record s { records = without_record r.number s.records; access = without r.number s.access; order = without r.number s.order })).sketch ≡ s.sketch
-      go true = refl
-      go false = refl
+  after_removal-sketch (Some r) s = grind (arith, nat_tests)
 
   after_write-sketch : (w : Write) (s : State K V P S R) → (after_write w s).sketch ≡ s.sketch
   after_write-sketch (Put u) s = after_put-sketch u (record_at s.records u.number) s
@@ -64,11 +61,7 @@ module _ {K V P S R : Type 0} where
 
   after_hit-sketch : (o : Option (Record K V)) (s : State K V P S R) → (after_hit o s).sketch ≡ s.sketch
   after_hit-sketch None s = refl
-  after_hit-sketch (Some r) s = go (is_some r.counts)
-    where
-      go : (b : Bool) → (cond b (record s { access = moved_to_back r.number s.access }) s).sketch ≡ s.sketch
-      go true = refl
-      go false = refl
+  after_hit-sketch (Some r) s = grind (arith, nat_tests)
 
   after_read-sketch : (r : Read) (s : State K V P S R) → (after_read r s).sketch ≡ incremented s.sketch (hash_of r)
   after_read-sketch (Hit number hash) s = after_hit-sketch (record_at s.records number) (record s { sketch = incremented s.sketch hash })

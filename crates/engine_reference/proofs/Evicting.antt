@@ -1,7 +1,7 @@
 -- Evictions one after another take the shortest front that reaches the excess.
 use Rattle.std.proofs.Common.{◌≡◌, refl, ap, sym, ◌∙◌, subst, ℕ, ◌+◌, ◌-◌, ◌<◌, ◌≤◌, arith, Bool, true, false, cond, not, List, [], ◌∷◌, Option, Some, None, inl, inr, ◌⊎◌, eqb, ◌==◌}
 use Rattle.std.specs.Prelude.{fold}
-use Rattle.std.proofs.lemmas.Bool.{eqb-true, eq-eqb, ne_eqb, ltb-true}
+use Rattle.std.proofs.lemmas.Bool.{cases_Bool, eqb-true, eq-eqb, ne_eqb, ltb-true}
 use Rattle.engine_reference.specs.declared.rules.causes.RemovalCause.TheVariants as cause
 use Rattle.engine_reference.specs.declared.data.Record.{Record}
 use Rattle.engine_reference.specs.Admission.{is_above, shortest_front, with_first}
@@ -13,14 +13,11 @@ use Rattle.engine_reference.specs.State.{State}
 use Rattle.engine_reference.proofs.HeldRecords.{record_at-number}
 use Rattle.engine_reference.proofs.SoundSteps.{left-is_sound}
 use Rattle.engine_reference.proofs.Unapplied.{record_at-without}
+use Rattle.std.proofs.lemmas.Bool.Decides.{nat_tests}
 
 pub without-none : (n : ℕ) (ns : List ℕ) → (IsIn n ns → ⊥) → without n ns ≡ ns
 without-none n [] h = refl
-without-none n (x ∷ ns) h = go (x == n) refl (without-none n ns (λ k. h (inr k)))
-  where
-    go : (b : Bool) → eqb x n ≡ b → without n ns ≡ ns → cond (not b) (x ∷ without n ns) (without n ns) ≡ x ∷ ns
-    go true t later = absurd (h (inl (eqb-true x n t)))
-    go false t later = ap (λ l. x ∷ l) later
+without-none n (x ∷ ns) h = let next = without-none n ns (λ k. h (inr k)) in grind (arith, nat_tests, next)
 
 module _ {K V : Type 0} where
   settled_in-without_none : (n : ℕ) (rs : List (Record K V)) (ns : List ℕ) → (IsIn n ns → ⊥) → settled_in (without_record n rs) ns ≡ settled_in rs ns
@@ -34,13 +31,13 @@ module _ {K V : Type 0} where
   first-listed rs [] r e = absurd (cc)
   first-listed rs (m ∷ ns) r e = go (record_at rs m) refl e (first-listed rs ns r)
     where
-      by_settled : (b : Bool) (x : Record K V) → record_at rs m ≡ Some x → first_of (cond b (x ∷ settled_in rs ns) (settled_in rs ns)) ≡ Some r → (first_of (settled_in rs ns) ≡ Some r → IsIn r.number ns) → (m ≡ r.number) ⊎ IsIn r.number ns
-      by_settled true x there e later = inl (let same : x ≡ r = cc in sym (record_at-number rs m x there) ∙ ap (λ y. y.number) same)
-      by_settled false x there e later = inr (later e)
-
       go : (o : Option (Record K V)) → record_at rs m ≡ o → first_of (with_settled o (settled_in rs ns)) ≡ Some r → (first_of (settled_in rs ns) ≡ Some r → IsIn r.number ns) → (m ≡ r.number) ⊎ IsIn r.number ns
       go None there e later = inr (later e)
-      go (Some x) there e later = by_settled (is_settled x) x there e later
+      go (Some x) there e later =
+          elim (cases_Bool (is_settled x)) [
+            | inl is ↦ let e = rw is at e in inl (let same : x ≡ r = cc in sym (record_at-number rs m x there) ∙ ap (λ y. y.number) same)
+            | inr is ↦ let e = rw is at e in inr (later e)
+          ]
 
   -- once it goes, the others are left in their order
   pub settled_in-left : (rs : List (Record K V)) (ns : List ℕ) (r : Record K V) → AreOnce ns → first_of (settled_in rs ns) ≡ Some r
@@ -61,25 +58,14 @@ module _ {K V : Type 0} where
           ∙ ap (λ o. with_settled o rest) (record_at-without r.number rs m (λ same. apart (sym same)))
           ∙ skips_too))
 
-      by_settled : (b : Bool) (x : Record K V) → is_settled x ≡ b → record_at rs m ≡ Some x → first_of (cond b (x ∷ settled_in rs ns) (settled_in rs ns)) ≡ Some r
-          → (first_of (settled_in rs ns) ≡ Some r → settled_in rs ns ≡ r ∷ rest) → settled_in rs (m ∷ ns) ≡ r ∷ settled_in (without_record r.number rs) (without r.number (m ∷ ns))
-      by_settled true x t there e later =
-          let same : x ≡ r = cc in
-          let number : r.number ≡ m = ap (λ y. y.number) (sym same) ∙ record_at-number rs m x there in
-          let absent : (IsIn r.number ns → ⊥) = λ k. once.0 (subst (λ i. IsIn i ns) number k) in
-          ap (λ o. with_settled o (settled_in rs ns)) there ∙ ap (λ b. cond b (x ∷ settled_in rs ns) (settled_in rs ns)) t ∙ ap (λ y. y ∷ settled_in rs ns) same
-          ∙ ap (λ l. r ∷ l) (sym (
-          ap (λ b. settled_in (without_record r.number rs) (cond (not b) (m ∷ without r.number ns) (without r.number ns))) (eq-eqb m r.number (sym number))
-          ∙ ap (λ l. settled_in (without_record r.number rs) l) (without-none r.number ns absent)
-          ∙ settled_in-without_none r.number rs ns absent))
-      by_settled false x t there e later =
-          past e (ap (λ o. with_settled o (settled_in rs ns)) there ∙ ap (λ b. cond b (x ∷ settled_in rs ns) (settled_in rs ns)) t)
-          (ap (λ o. with_settled o rest) there ∙ ap (λ b. cond b (x ∷ rest) rest) t) (later e)
-
       go : (o : Option (Record K V)) → record_at rs m ≡ o → first_of (with_settled o (settled_in rs ns)) ≡ Some r
           → (first_of (settled_in rs ns) ≡ Some r → settled_in rs ns ≡ r ∷ rest) → settled_in rs (m ∷ ns) ≡ r ∷ settled_in (without_record r.number rs) (without r.number (m ∷ ns))
       go None there e later = past e (ap (λ o. with_settled o (settled_in rs ns)) there) (ap (λ o. with_settled o rest) there) (later e)
-      go (Some x) there e later = by_settled (is_settled x) x refl there e later
+      go (Some x) there e later =
+          elim (cases_Bool (is_settled x)) [
+            | inl is ↦ let e = rw is at e in let same : x ≡ r = cc in let number : r.number ≡ m = ap (λ y. y.number) (sym same) ∙ record_at-number rs m x there in let absent : (IsIn r.number ns → ⊥) = λ k. once.0 (subst (λ i. IsIn i ns) number k) in ap (λ o. with_settled o (settled_in rs ns)) there ∙ ap (λ b. cond b (x ∷ settled_in rs ns) (settled_in rs ns)) is ∙ ap (λ y. y ∷ settled_in rs ns) same ∙ ap (λ l. r ∷ l) (sym (ap (λ b. settled_in (without_record r.number rs) (cond (not b) (m ∷ without r.number ns) (without r.number ns))) (eq-eqb m r.number (sym number)) ∙ ap (λ l. settled_in (without_record r.number rs) l) (without-none r.number ns absent) ∙ settled_in-without_none r.number rs ns absent))
+            | inr is ↦ let e = rw is at e in past e (ap (λ o. with_settled o (settled_in rs ns)) there ∙ ap (λ b. cond b (x ∷ settled_in rs ns) (settled_in rs ns)) is) (ap (λ o. with_settled o rest) there ∙ ap (λ b. cond b (x ∷ rest) rest) is) (later e)
+          ]
 
   -- the weight without it
   pub weight_from : (rs : List (Record K V)) (a b : ℕ) → fold (λ w r. w + weight_at r) (a + b) rs ≡ a + fold (λ w r. w + weight_at r) b rs
@@ -89,14 +75,11 @@ module _ {K V : Type 0} where
   pub weight-without_from : (rs : List (Record K V)) (n : ℕ) (r : Record K V) (a : ℕ) → record_at rs n ≡ Some r
       → fold (λ w r. w + weight_at r) a rs ≡ weight_at r + fold (λ w r. w + weight_at r) a (without_record n rs)
   weight-without_from [] n r a there = absurd (cc)
-  weight-without_from (x ∷ rs) n r a there = go (x.number == n) there (weight-without_from rs n r (a + weight_at x))
-    where
-      go : (b : Bool) → cond b (Some x) (record_at rs n) ≡ Some r → (record_at rs n ≡ Some r → fold (λ w r. w + weight_at r) (a + weight_at x) rs ≡ weight_at r + fold (λ w r. w + weight_at r) (a + weight_at x) (without_record n rs))
-          → fold (λ w r. w + weight_at r) (a + weight_at x) rs ≡ weight_at r + fold (λ w r. w + weight_at r) a (cond b rs (x ∷ without_record n rs))
-      go true e later =
-          let same : x ≡ r = cc in
-          ap (λ n. fold (λ w r. w + weight_at r) n rs) (let e : a + weight_at x ≡ weight_at x + a = omega arith in e) ∙ weight_from rs (weight_at x) a ∙ ap (λ y. weight_at y + fold (λ w r. w + weight_at r) a rs) same
-      go false e later = later e
+  weight-without_from (x ∷ rs) n r a there =
+      elim (cases_Bool (x.number == n)) [
+        | inl is ↦ let e = rw is at there in let later = weight-without_from rs n r (a + weight_at x) in rw is (let same : x ≡ r = cc in ap (λ n. fold (λ w r. w + weight_at r) n rs) (let e : a + weight_at x ≡ weight_at x + a = omega arith in e) ∙ weight_from rs (weight_at x) a ∙ ap (λ y. weight_at y + fold (λ w r. w + weight_at r) a rs) same)
+        | inr is ↦ let e = rw is at there in rw is ((weight-without_from rs n r (a + weight_at x)) e)
+      ]
 
   pub weight-without : (rs : List (Record K V)) (n : ℕ) (r : Record K V) → record_at rs n ≡ Some r → admitted_weight rs ≡ weight_at r + admitted_weight (without_record n rs)
   weight-without rs n r there = weight-without_from rs n r 0 there
@@ -106,13 +89,13 @@ module _ {K V : Type 0} where
   first-there rs [] r e = absurd (cc)
   first-there rs (m ∷ ns) r e = go (record_at rs m) refl e (first-there rs ns r)
     where
-      by_settled : (b : Bool) (x : Record K V) → record_at rs m ≡ Some x → first_of (cond b (x ∷ settled_in rs ns) (settled_in rs ns)) ≡ Some r → (first_of (settled_in rs ns) ≡ Some r → record_at rs r.number ≡ Some r) → record_at rs r.number ≡ Some r
-      by_settled true x there e later = let same : x ≡ r = cc in ap (λ y. record_at rs y.number) (sym same) ∙ ap (λ k. record_at rs k) (record_at-number rs m x there) ∙ there ∙ ap Some same
-      by_settled false x there e later = later e
-
       go : (o : Option (Record K V)) → record_at rs m ≡ o → first_of (with_settled o (settled_in rs ns)) ≡ Some r → (first_of (settled_in rs ns) ≡ Some r → record_at rs r.number ≡ Some r) → record_at rs r.number ≡ Some r
       go None there e later = later e
-      go (Some x) there e later = by_settled (is_settled x) x there e later
+      go (Some x) there e later =
+          elim (cases_Bool (is_settled x)) [
+            | inl is ↦ let e = rw is at e in let same : x ≡ r = cc in ap (λ y. record_at rs y.number) (sym same) ∙ ap (λ k. record_at rs k) (record_at-number rs m x there) ∙ there ∙ ap Some same
+            | inr is ↦ let e = rw is at e in later e
+          ]
 
   pub front-none : (xs : List (Record K V)) (w : ℕ) → w ≡ 0 → shortest_front w xs ≡ Some []
   front-none [] w e = ap (λ b. cond b (Some []) None) (eq-eqb w 0 e)

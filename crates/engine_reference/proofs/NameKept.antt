@@ -1,5 +1,5 @@
 -- The name, which nothing changes but giving one.
-use Rattle.std.proofs.Common.{MatchBool, ◌≡◌, refl, ap, ◌∙◌, ℕ, Bool, true, false, Option, Some, None}
+use Rattle.std.proofs.Common.{inr, inl, MatchBool, ◌≡◌, refl, ap, ◌∙◌, ℕ, Bool, true, false, Option, Some, None}
 use Rattle.engine_reference.specs.declared.data.Record.{Record}
 use Rattle.engine_reference.specs.declared.data.Write.{Write}
 use Rattle.engine_reference.specs.Calls.{with_sent, unsent_at, with_removed, with_written, MaintainsIfDue, with_read}
@@ -9,6 +9,7 @@ use Rattle.engine_reference.specs.Runs.{RunsToEnd, is_due}
 use Rattle.engine_reference.specs.State.{State, Answers}
 use Rattle.engine_reference.specs.Visible.{visible_record}
 use Rattle.engine_reference.proofs.RestKept.{run-rest}
+use Rattle.std.proofs.lemmas.Bool.{cases_Bool}
 
 module _ {K V P S R : Type 0} where
   with_sent-name : (ticket : ℕ) (o : Option Write) (s : State K V P S R) → (with_sent ticket o s).name ≡ s.name
@@ -28,11 +29,7 @@ module _ {K V P S R : Type 0} where
   with_read-name answers (Some r) hash now s = refl
 
   maintained-name : (answers : Answers K V P R) (now : ℕ) (old new : State K V P S R) → MaintainsIfDue answers now old new → new.name ≡ old.name
-  maintained-name answers now old new k = go (is_due old now) k
-    where
-      go : (b : Bool) → MatchBool b (RunsToEnd answers now old new) (new ≡ old) → new.name ≡ old.name
-      go true k = ap (λ r. r.name) (run-rest answers now old new k.runs)
-      go false e = ap (λ s. s.name) e
+  maintained-name answers now old new k = elim (cases_Bool (is_due old now)) [ inl is ↦ ap (λ r. r.name) (run-rest answers now old new (rw is at k).runs) | inr is ↦ ap (λ s. s.name) (rw is at k) ]
 
 module _ (K V P S R : Type 0) where
   pub name_is_kept : NameIsKept K V P S R

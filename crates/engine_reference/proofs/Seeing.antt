@@ -13,6 +13,7 @@ use Rattle.std.proofs.lemmas.Bool.{or_cases, ltb-true, lt-ltb}
 use Rattle.std.proofs.Math.Bool.{or-true}
 use Rattle.engine_reference.specs.Times.{has_come}
 use Rattle.engine_reference.specs.Visible.{is_covered_by}
+use Rattle.std.proofs.lemmas.Bool.Decides.{nat_tests}
 
 module _ (K V P S R : Type 0) where
   pub sending_keeps_visible : SendingKeepsVisible K V P S R
@@ -26,11 +27,7 @@ module _ {X : Type 0} where
   -- a value that passes a stronger test, or does not
   stronger : (f g : X → Bool) → ((x : X) → f x ≡ true → g x ≡ true) → (o : Option X) → (passing f o ≡ passing g o) ⊎ (passing f o ≡ None)
   stronger f g h None = inl refl
-  stronger f g h (Some x) = go (f x) refl
-    where
-      go : (b : Bool) → f x ≡ b → (cond (f x) (Some x) None ≡ cond (g x) (Some x) None) ⊎ (cond (f x) (Some x) None ≡ None)
-      go true e = inl (ap (λ b. cond b (Some x) None) (e ∙ sym (h x e)))
-      go false e = inr (ap (λ b. cond b (Some x) None) e)
+  stronger f g h (Some x) = grind (arith, nat_tests)
 
 through : {X Y : Type 0} (f : X → Y) (a b : Option X) → (a ≡ b) ⊎ (a ≡ None) → (option_map f a ≡ option_map f b) ⊎ (option_map f a ≡ None)
 through f a b (inl e) = inl (ap (λ o. option_map f o) e)

@@ -1,6 +1,6 @@
 -- Calls keep a sound state sound.
 use Rattle.std.proofs.Common.{MatchBool, ◌≡◌, refl, ap, sym, ◌∙◌, subst, ℕ, ◌+◌, ◌<◌, arith, Bool, true, false, true≢false, cond, ◌&&◌, List, [], ◌∷◌, ◌++◌, Option, Some, None, map, is_some, inl, inr, ◌⊎◌, eqb, ◌==◌}
-use Rattle.std.proofs.lemmas.Bool.{eqb-true, eq-eqb, ne_eqb, and_parts}
+use Rattle.std.proofs.lemmas.Bool.{cases_Bool, eqb-true, eq-eqb, ne_eqb, and_parts}
 use Rattle.engine_reference.specs.declared.data.Entry.{Entry}
 use Rattle.engine_reference.specs.declared.data.Record.{Record}
 use Rattle.engine_reference.specs.declared.data.Unsent.{Unsent}
@@ -15,6 +15,7 @@ use Rattle.engine_reference.specs.State.{State, Answers}
 use Rattle.engine_reference.specs.Visible.{visible_record}
 use Rattle.engine_reference.proofs.Accounts.{IsIn-append_left, IsIn-append_right, each-map, each-both, only_one, numbered-changed, each-changed}
 use Rattle.engine_reference.proofs.SoundSteps.{run-sound}
+use Rattle.std.proofs.lemmas.Bool.Decides.{nat_tests}
 
 -- ---- what is pending after one more write, or after a ticket was sent
 
@@ -43,32 +44,15 @@ before us ws u v (inr h) = inl (inr h)
 
 ticket_in : (ticket : ℕ) (us : List Unsent) (w : Write) → unsent_at us ticket ≡ Some w → IsIn w (map (λ x. x.write) us)
 ticket_in ticket [] w h = absurd (cc)
-ticket_in ticket (u ∷ us) w h = go (u.ticket == ticket) h (ticket_in ticket us w)
-  where
-    go : (b : Bool) → cond b (Some u.write) (unsent_at us ticket) ≡ Some w → (unsent_at us ticket ≡ Some w → IsIn w (map (λ x. x.write) us)) → (u.write ≡ w) ⊎ IsIn w (map (λ x. x.write) us)
-    go true e later = inl (let same : u.write ≡ w = cc in same)
-    go false e later = inr (later e)
+ticket_in ticket (u ∷ us) w h = let next = ticket_in ticket us w in grind (arith, nat_tests, h, next)
 
 ticket_other : (ticket : ℕ) (us : List Unsent) (w v : Write) → unsent_at us ticket ≡ Some w → IsIn v (map (λ x. x.write) us) → IsIn v (map (λ x. x.write) (without_ticket ticket us)) ⊎ (w ≡ v)
 ticket_other ticket [] w v h k = elim k [ ]
-ticket_other ticket (u ∷ us) w v h k = go (u.ticket == ticket) h k (λ e l. ticket_other ticket us w v e l)
-  where
-    go : (b : Bool) → cond b (Some u.write) (unsent_at us ticket) ≡ Some w → (u.write ≡ v) ⊎ IsIn v (map (λ x. x.write) us)
-        → (unsent_at us ticket ≡ Some w → IsIn v (map (λ x. x.write) us) → IsIn v (map (λ x. x.write) (without_ticket ticket us)) ⊎ (w ≡ v))
-        → IsIn v (map (λ x. x.write) (cond b us (u ∷ without_ticket ticket us))) ⊎ (w ≡ v)
-    go true e (inl same) later = inr (let this : u.write ≡ w = cc in sym this ∙ same)
-    go true e (inr l) later = inl l
-    go false e (inl same) later = inl (inl same)
-    go false e (inr l) later = elim (later e l) [ inl m ↦ inl (inr m) | inr same ↦ inr same ]
+ticket_other ticket (u ∷ us) w v h k = let next = ticket_other ticket us w v in grind (arith, nat_tests, h, k, next)
 
 ticket_back : (ticket : ℕ) (us : List Unsent) (v : Write) → IsIn v (map (λ x. x.write) (without_ticket ticket us)) → IsIn v (map (λ x. x.write) us)
 ticket_back ticket [] v h = h
-ticket_back ticket (u ∷ us) v h = go (u.ticket == ticket) h (ticket_back ticket us v)
-  where
-    go : (b : Bool) → IsIn v (map (λ x. x.write) (cond b us (u ∷ without_ticket ticket us))) → (IsIn v (map (λ x. x.write) (without_ticket ticket us)) → IsIn v (map (λ x. x.write) us)) → (u.write ≡ v) ⊎ IsIn v (map (λ x. x.write) us)
-    go true k later = inr k
-    go false (inl e) later = inl e
-    go false (inr k) later = inr (later k)
+ticket_back ticket (u ∷ us) v h = let next = ticket_back ticket us v in grind (arith, nat_tests, h, next)
 
 in_appended : (v w : Write) (ws : List Write) → IsIn v (ws ++ w ∷ []) → IsIn v ws ⊎ (w ≡ v)
 in_appended v w [] (inl e) = inr e
@@ -174,26 +158,18 @@ module _ {K V : Type 0} where
   -- the record of a key
   pub held_at-each : (Q : Record K V → Type 0) (eq : K → K → Bool) (rs : List (Record K V)) (key : K) (r : Record K V) → Each Q rs → held_at eq rs key ≡ Some r → Q r × (r.is_held ≡ true)
   held_at-each Q eq [] key r h e = absurd (cc)
-  held_at-each Q eq (x ∷ rs) key r h e = go (x.is_held && eq key x.entry.key) refl e (held_at-each Q eq rs key r h.1)
-    where
-      go : (b : Bool) → (x.is_held && eq key x.entry.key) ≡ b → cond b (Some x) (held_at eq rs key) ≡ Some r → (held_at eq rs key ≡ Some r → Q r × (r.is_held ≡ true)) → Q r × (r.is_held ≡ true)
-      go true t e later = let same : x ≡ r = cc in subst (λ y. Q y × (y.is_held ≡ true)) same (h.0, (and_parts x.is_held (eq key x.entry.key) t).0)
-      go false t e later = later e
+  held_at-each Q eq (x ∷ rs) key r h e = let next = held_at-each Q eq rs key r h.1 in grind (arith, nat_tests, e, next)
 
   -- every record of its number is that record
   pub held_at-only : (eq : K → K → Bool) (rs : List (Record K V)) (key : K) (r : Record K V) → AreNumbered rs → held_at eq rs key ≡ Some r → record_at rs r.number ≡ Some r
   held_at-only eq [] key r numbered e = absurd (cc)
   held_at-only eq (x ∷ rs) key r numbered e = go (x.is_held && eq key x.entry.key) e (held_at-only eq rs key r numbered.1)
     where
-      past : (b : Bool) → eqb x.number r.number ≡ b → record_at rs r.number ≡ Some r → cond b (Some x) (record_at rs r.number) ≡ Some r
-      past true t there = absurd (let none : record_at rs r.number ≡ None = ap (λ k. record_at rs k) (sym (eqb-true x.number r.number t)) ∙ numbered.0 in let both : Some r ≡ None = sym there ∙ none in cc)
-      past false t there = there
-
       go : (b : Bool) → cond b (Some x) (held_at eq rs key) ≡ Some r → (held_at eq rs key ≡ Some r → record_at rs r.number ≡ Some r) → cond (eqb x.number r.number) (Some x) (record_at rs r.number) ≡ Some r
       go true e later =
           let same : x ≡ r = cc in
           ap (λ b. cond b (Some x) (record_at rs r.number)) (eq-eqb x.number r.number (ap (λ y. y.number) same)) ∙ ap Some same
-      go false e later = past (eqb x.number r.number) refl (later e)
+      go false e later = let next = later e in grind (arith, nat_tests, next)
 
   pub each-push : (Q : Record K V → Type 0) (rs : List (Record K V)) (x : Record K V) → Each Q rs → Q x → Each Q (rs ++ x ∷ [])
   each-push Q [] x h k = (k, tt)
@@ -272,11 +248,7 @@ module _ {K V P S R : Type 0} where
       }
 
   maintained-sound : (answers : Answers K V P R) (now : ℕ) (old new : State K V P S R) → IsSound old → MaintainsIfDue answers now old new → IsSound new
-  maintained-sound answers now old new h k = go (is_due old now) k
-    where
-      go : (b : Bool) → MatchBool b (RunsToEnd answers now old new) (new ≡ old) → IsSound new
-      go true k = run-sound answers now old new h k.runs
-      go false e = subst (λ t. IsSound t) (sym e) h
+  maintained-sound answers now old new h k = elim (cases_Bool (is_due old now)) [ inl is ↦ run-sound answers now old new h (rw is at k).runs | inr is ↦ subst (λ t. IsSound t) (sym (rw is at k)) h ]
 
   written-sound : (eq : K → K → Bool) (answers : Answers K V P R) (s : State K V P S R) (key : K) (hash : ℕ) (value : V) (now step : ℕ) (o : Option (Record K V)) → held_at eq s.records key ≡ o
       → IsSound s → IsSound (with_written answers o s key hash value now step)

@@ -1,7 +1,7 @@
 -- Runs keep a sound state sound, and where nothing is pending its counts are exact.
 use Rattle.std.proofs.Common.{zero, suc, ◌≡◌, refl, ap, sym, ◌∙◌, subst, ℕ, ◌+◌, ◌<◌, ◌≤◌, arith, Bool, true, false, true≢false, cond, List, [], ◌∷◌, Option, Some, None, length, is_some, inl, inr}
 use Rattle.std.specs.Prelude.{fold, nat_lt, min, slice_get}
-use Rattle.std.proofs.lemmas.Bool.{ltb-true, ltb-false, cases_eq, cases_lt, eq-eqb}
+use Rattle.std.proofs.lemmas.Bool.{cases_Bool, ltb-true, ltb-false, cases_eq, cases_lt, eq-eqb}
 use Rattle.policy_base.specs.Counts.{incremented}
 use Rattle.engine_reference.specs.declared.rules.causes.RemovalCause.{RemovalCause}
 use Rattle.engine_reference.specs.declared.rules.causes.RemovalCause.TheVariants as cause
@@ -21,6 +21,7 @@ use Rattle.engine_reference.specs.State.{State, Answers}
 use Rattle.engine_reference.proofs.TellingSteps.{run_tells}
 use Rattle.engine_reference.proofs.HeldRecords.{record_at-number}
 use Rattle.engine_reference.proofs.Accounts.{once-without, once-moved, IsIn-without, IsIn-append_right, IsIn-moved, each-map, each-both, none_there, only_one, numbered-changed, numbered-without, each-changed, each-without, popped, popped_other, popped_counts, popped_put_off, was_pending}
+use Rattle.std.proofs.lemmas.Bool.Decides.{nat_tests}
 
 module _ {K V : Type 0} (unsent : List Unsent) (next : ℕ) where
   pub sound-without : (ws : List Write) (n : ℕ) (rs : List (Record K V)) (ns : List ℕ) → AreSound unsent ws next rs ns → AreSound unsent ws next (without_record n rs) (without n ns)
@@ -196,10 +197,6 @@ module _ {K V P S R : Type 0} where
         (each-map (λ r. r.number ≡ u.number → ⊥) (λ r. (r.applied ≡ r.writes → ⊥) → IsLastOf (Put u) r → ⊥) (λ r other unsettled last. other (sym last.0)) s.records (none_there u.number s.records here)) h
     after_put-sound (Some x) here = by_generation (nat_lt x.applied u.write) refl
       where
-        by_admission : x.applied < u.write → (b : Bool) → AreSound unsent rest next (cond b (counting u s) (judged u x s (verdict s u))).records (cond b (counting u s) (judged u x s (verdict s u))).access
-        by_admission newer true = judged-sound x here newer admit
-        by_admission newer false = judged-sound x here newer (verdict s u)
-
         late : u.write ≤ x.applied → AreSound unsent rest next s.records s.access
         late older =
             sound-popped unsent next (Put u) rest s.records s.access
@@ -213,7 +210,11 @@ module _ {K V P S R : Type 0} where
 
         by_generation : (b : Bool) → nat_lt x.applied u.write ≡ b
             → AreSound unsent rest next (cond b (cond (is_some x.counts) (counting u s) (judged u x s (verdict s u))) s).records (cond b (cond (is_some x.counts) (counting u s) (judged u x s (verdict s u))) s).access
-        by_generation true t = by_admission (ltb-true x.applied u.write t) (is_some x.counts)
+        by_generation true t =
+            elim (cases_Bool (is_some x.counts)) [
+              | inl e ↦ rw e (judged-sound x here (ltb-true x.applied u.write t) admit)
+              | inr e ↦ rw e (judged-sound x here (ltb-true x.applied u.write t) (verdict s u))
+            ]
         by_generation false t = late (ltb-false x.applied u.write t)
 
   after_removal-sound : (unsent : List Unsent) (rest : List Write) (next n : ℕ) (s : State K V P S R) → AreSound unsent (Removed n ∷ rest) next s.records s.access
@@ -221,17 +222,14 @@ module _ {K V P S R : Type 0} where
   after_removal-sound unsent rest next n s h None here =
       sound-popped unsent next (Removed n) rest s.records s.access
       (each-map (λ r. r.number ≡ n → ⊥) (λ r. (r.applied ≡ r.writes → ⊥) → IsLastOf (Removed n) r → ⊥) (λ r other unsettled last. other (sym last.0)) s.records (none_there n s.records here)) h
-  after_removal-sound unsent rest next n s h (Some x) here = go x.is_held refl
+  after_removal-sound unsent rest next n s h (Some x) here =
+      elim (cases_Bool x.is_held) [
+        | inl e ↦ rw e (sound-popped unsent next (Removed n) rest s.records s.access (each-map (λ r. r.number ≡ n → r ≡ x) (λ r. (r.applied ≡ r.writes → ⊥) → IsLastOf (Removed n) r → ⊥) (λ r one unsettled last. true≢false (sym e ∙ ap (λ y. y.is_held) (sym (one (sym last.0))) ∙ last.1)) s.records (only_one n x s.records h.numbered here)) h)
+        | inr e ↦ rw e (sound-gone unsent next (Removed n) rest x.number s.records s.access (sym (record_at-number s.records n x here)) h)
+      ]
     where
       gone : State K V P S R
       gone = record s { records = without_record x.number s.records; access = without x.number s.access; order = without x.number s.order }
-
-      go : (b : Bool) → x.is_held ≡ b → AreSound unsent rest next (cond b s gone).records (cond b s gone).access
-      go true held =
-          sound-popped unsent next (Removed n) rest s.records s.access
-          (each-map (λ r. r.number ≡ n → r ≡ x) (λ r. (r.applied ≡ r.writes → ⊥) → IsLastOf (Removed n) r → ⊥)
-          (λ r one unsettled last. true≢false (sym held ∙ ap (λ y. y.is_held) (sym (one (sym last.0))) ∙ last.1)) s.records (only_one n x s.records h.numbered here)) h
-      go false out = sound-gone unsent next (Removed n) rest x.number s.records s.access (sym (record_at-number s.records n x here)) h
 
   pub after_write-sound : (unsent : List Unsent) (rest : List Write) (next : ℕ) (w : Write) (s : State K V P S R) → AreSound unsent (w ∷ rest) next s.records s.access → AreSound unsent rest next (after_write w s).records (after_write w s).access
   after_write-sound unsent rest next (Put u) s h = after_put-sound unsent rest next u s h (record_at s.records u.number) refl
@@ -347,13 +345,9 @@ module _ {K V : Type 0} where
       absurd (cc)
   some_settled n r rs (m ∷ ns) there settled (inr h) e = some_settled n r rs ns there settled h (none_left (record_at rs m) e)
     where
-      by_settled : (b : Bool) (x : Record K V) → cond b (x ∷ settled_in rs ns) (settled_in rs ns) ≡ [] → settled_in rs ns ≡ []
-      by_settled true x e = absurd (cc)
-      by_settled false x e = e
-
       none_left : (o : Option (Record K V)) → with_settled o (settled_in rs ns) ≡ [] → settled_in rs ns ≡ []
       none_left None e = e
-      none_left (Some x) e = by_settled (is_settled x) x e
+      none_left (Some x) e = grind (arith, nat_tests, x, e)
 
   -- where none that is settled is left to go, nothing is held
   all_gone : (rs : List (Record K V)) (ns : List ℕ) → Each IsCounted rs → Each (λ r. is_some r.counts ≡ true → IsIn r.number ns) rs → settled_in rs ns ≡ [] → admitted_weight rs ≡ 0

@@ -1,5 +1,5 @@
 -- What look-ups see after a stretch of maintenance.
-use Rattle.std.proofs.Common.{◌≡◌, refl, ap, sym, ◌∙◌, ℕ, zero, suc, Bool, true, false, cond, not, ◌&&◌, List, [], ◌∷◌, Option, Some, None, inl, inr, ◌⊎◌}
+use Rattle.std.proofs.Common.{arith, ◌≡◌, refl, ap, sym, ◌∙◌, ℕ, zero, suc, Bool, true, false, cond, not, ◌&&◌, List, [], ◌∷◌, Option, Some, None, inl, inr, ◌⊎◌}
 use Rattle.std.specs.Prelude.{slice_get, remove, if◌then◌else◌}
 use Rattle.std.specs.Cmp.{IsEquivalence}
 use Rattle.std.specs.Option.{option_map}
@@ -12,6 +12,8 @@ use Rattle.engine_reference.specs.Telling.{Removal, KeepsCover, TakesAway, AreAp
 use Rattle.engine_reference.specs.Times.{has_come}
 use Rattle.engine_reference.specs.Visible.{visible, is_visible, is_covered, passing}
 use Rattle.engine_reference.proofs.TellingSteps.{run_tells}
+use Rattle.std.proofs.lemmas.Bool.Decides.{nat_tests}
+use Rattle.std.proofs.lemmas.Bool.{cases_Bool}
 
 -- what a choice gives that is none
 cond_none : {A : Type 0} (b : Bool) (x : A) (o : Option A) → cond b (Some x) o ≡ None → (b ≡ false) × (o ≡ None)
@@ -36,11 +38,7 @@ module _ {K V : Type 0} (eq : K → K → Bool) where
   -- where the entry of a key stands
   pub entry_of-there : (es : List (Entry K V)) (k : K) (e : Entry K V) → entry_of eq es k ≡ Some e → (i : ℕ) × (slice_get es i ≡ Some e)
   entry_of-there [] k e h = absurd (cc)
-  entry_of-there (x ∷ es) k e h = go (eq k x.key) h (entry_of-there es k e)
-    where
-      go : (b : Bool) → cond b (Some x) (entry_of eq es k) ≡ Some e → (entry_of eq es k ≡ Some e → (i : ℕ) × (slice_get es i ≡ Some e)) → (i : ℕ) × (slice_get (x ∷ es) i ≡ Some e)
-      go true h later = (0, h)
-      go false h later = let r = later h in (suc r.0, r.1)
+  entry_of-there (x ∷ es) k e h = elim (cases_Bool (eq k x.key)) [ inl is ↦ (0, (rw is at h)) | inr is ↦ let r = (entry_of-there es k e) (rw is at h) in (suc r.0, r.1) ]
 
   -- the entry of a key stays, or is among those that were taken
   abbrev pub StaysOrGoes : List (Removal K V) → List (Entry K V) → List (Entry K V) → K → Type 0
@@ -88,7 +86,10 @@ module _ {K V : Type 0} (eq : K → K → Bool) (laws : IsEquivalence eq) where
   pub taken_looks : (xs : List (Removal K V)) (old new : List (Entry K V)) → AreApart eq old → TakesAway (removed_entries xs) old new → (q : K) → StaysOrGoes eq xs old new q
   taken_looks [] old new apart h q = inl (ap (λ es. entry_of eq es q) h)
   taken_looks (x ∷ xs) old new apart h q =
-      go (eq q x.entry.key) refl (taken_looks xs (remove old h.0) new (AreApart-remove eq old h.0 apart) h.2 q)
+      elim (cases_Bool (eq q x.entry.key)) [
+        | inl e ↦ now e (taken_looks xs (remove old h.0) new (AreApart-remove eq old h.0 apart) h.2 q)
+        | inr e ↦ later e (taken_looks xs (remove old h.0) new (AreApart-remove eq old h.0 apart) h.2 q)
+      ]
     where
       later : (eq q x.entry.key ≡ false) → StaysOrGoes eq xs (remove old h.0) new q → StaysOrGoes eq (x ∷ xs) old new q
       later other (inl same) = inl (same ∙ remove_other old h.0 x.entry q h.1 other)
@@ -97,10 +98,6 @@ module _ {K V : Type 0} (eq : K → K → Bool) (laws : IsEquivalence eq) where
       now : (eq q x.entry.key ≡ true) → StaysOrGoes eq xs (remove old h.0) new q → StaysOrGoes eq (x ∷ xs) old new q
       now same (inl stays) = let r = remove_same old h.0 x.entry q apart h.1 same in inr (stays ∙ r.1, (x, inl refl, r.0))
       now same (inr gone) = let r = remove_same old h.0 x.entry q apart h.1 same in inr (gone.0, (x, inl refl, r.0))
-
-      go : (b : Bool) → eq q x.entry.key ≡ b → StaysOrGoes eq xs (remove old h.0) new q → StaysOrGoes eq (x ∷ xs) old new q
-      go true t r = now t r
-      go false t r = later t r
 
 -- ---- what is visible goes by the held entries
 
@@ -113,14 +110,9 @@ module _ {K V : Type 0} (eq : K → K → Bool) where
       here true = refl
       here false = refl
 
-      matching : (b : Bool) → option_map (λ r. r.entry) (passing (λ r. test r.entry) (held_at eq rs q)) ≡ passing test (entry_of eq (held_entries rs) q)
-          → option_map (λ r. r.entry) (passing (λ r. test r.entry) (cond b (Some r) (held_at eq rs q))) ≡ passing test (cond b (Some r.entry) (entry_of eq (held_entries rs) q))
-      matching true later = here (test r.entry)
-      matching false later = later
-
       go : (h : Bool) → option_map (λ r. r.entry) (passing (λ r. test r.entry) (held_at eq rs q)) ≡ passing test (entry_of eq (held_entries rs) q)
           → option_map (λ r. r.entry) (passing (λ r. test r.entry) (cond (h && eq q r.entry.key) (Some r) (held_at eq rs q))) ≡ passing test (entry_of eq (cond h (r.entry ∷ held_entries rs) (held_entries rs)) q)
-      go true later = matching (eq q r.entry.key) later
+      go true later = grind (arith, nat_tests, later)
       go false later = later
 
 module _ {K V : Type 0} where
@@ -145,7 +137,11 @@ module _ {K V P S R : Type 0} (eq : K → K → Bool) (answers : Answers K V P R
       (λ e found. let p = entry_of-there eq (held_entries new.records) q e found in same_test old new moment p.0 e keeps p.1)
       ∙ ap (λ o. passing (is_visible answers old moment) o) same
       ∙ sym (visible_by_entries old moment q))
-  stays_visible xs old new keeps moment q (inr taken) = go (is_visible answers old moment taken.1.0.entry) refl
+  stays_visible xs old new keeps moment q (inr taken) =
+      elim (cases_Bool (is_visible answers old moment taken.1.0.entry)) [
+        | inl is ↦ inr (nothing, (gone, taken.1.1, before ∙ ap (λ b. cond b (Some gone.entry) None) is))
+        | inr is ↦ inl (nothing ∙ sym (before ∙ ap (λ b. cond b (Some gone.entry) None) is))
+      ]
     where
       gone : Removal K V
       gone = taken.1.0
@@ -155,10 +151,6 @@ module _ {K V P S R : Type 0} (eq : K → K → Bool) (answers : Answers K V P R
 
       before : visible answers eq old moment q ≡ cond (is_visible answers old moment gone.entry) (Some gone.entry) None
       before = visible_by_entries old moment q ∙ ap (λ o. passing (is_visible answers old moment) o) taken.1.2
-
-      go : (b : Bool) → is_visible answers old moment gone.entry ≡ b → StaysVisible eq answers xs old new moment q
-      go true e = inr (nothing, (gone, taken.1.1, before ∙ ap (λ b. cond b (Some gone.entry) None) e))
-      go false e = inl (nothing ∙ sym (before ∙ ap (λ b. cond b (Some gone.entry) None) e))
 
 module _ (K V P S R : Type 0) where
   pub runs_keep_visible : RunsKeepVisible K V P S R

@@ -1,7 +1,7 @@
 -- Each step tells what it takes away.
 use Rattle.std.proofs.Common.{◌≡◌, refl, ap, sym, ◌∙◌, ℕ, zero, suc, ◌+◌, ◌&&◌, ◌||◌, Bool, true, false, true≢false, cond, not, List, [], ◌∷◌, ◌++◌, Option, Some, None, is_some, append_assoc, append-nil, inl, inr, ◌⊎◌}
 use Rattle.std.specs.List.{list_any}
-use Rattle.std.proofs.lemmas.Bool.{and_parts, not-true}
+use Rattle.std.proofs.lemmas.Bool.{cond_both, and_parts, not-true}
 use Rattle.engine_reference.specs.declared.data.Registered.{Registered}
 use Rattle.std.specs.Prelude.{slice_get, remove, nat_lt, if◌then◌else◌}
 use Rattle.policy_base.specs.Counts.{incremented}
@@ -170,12 +170,8 @@ module _ {K V P S R : Type 0} where
   judged-tells u r s (displace victims) =
       let t = all_left cause.Size victims s in
       Stretch-after cause.Size s t (counting u t) (all_left-tells cause.Size victims s) (Keeps-counting u t) refl (counting-held u t)
-  judged-tells u r s refuse = go (is_overtaken u r)
-    where
-      go : (b : Bool) → Stretch cause.Size s (cond b (put_off u s) (left cause.Size u.number s))
-      go true = Stretch-nothing cause.Size s (put_off u s) (record { settings = refl; cleared = refl; rules = refl; unsent = refl; predicates = refl }) refl
-          (held-changed u.number (λ r. record r { applied = u.write }) (λ r. refl) (λ r. refl) s.records)
-      go false = left-tells cause.Size u.number s
+  judged-tells u r s refuse =
+      cond_both (is_overtaken u r) _ _ (Stretch cause.Size s) (λ _. Stretch-nothing cause.Size s (put_off u s) (record { settings = refl; cleared = refl; rules = refl; unsent = refl; predicates = refl }) refl (held-changed u.number (λ r. record r { applied = u.write }) (λ r. refl) (λ r. refl) s.records)) (λ _. left-tells cause.Size u.number s)
 
   -- what an applied write tells, and why
   pub record WriteTells (weight : ℕ) (old new : State K V P S R) : Type 0 where
@@ -200,27 +196,21 @@ module _ {K V P S R : Type 0} where
           record { removals = h.removals; tells = h.tells; keeps = h.keeps; for_size = inr above }
       by_room false below = nothing_written u.weight s (counting u s) (Keeps-counting u s) refl (counting-held u s)
 
-      by_admission : (b : Bool) → WriteTells u.weight s (cond b (counting u s) (judged u r s (verdict s u)))
-      by_admission true = nothing_written u.weight s (counting u s) (Keeps-counting u s) refl (counting-held u s)
-      by_admission false = by_room (is_above s.settings.capacity (admitted_weight s.records + u.weight)) refl
-
       by_generation : (b : Bool) → WriteTells u.weight s (cond b (cond (is_some r.counts) (counting u s) (judged u r s (verdict s u))) s)
-      by_generation true = by_admission (is_some r.counts)
+      by_generation true =
+          cond_both (is_some r.counts) _ _ (WriteTells u.weight s) (λ _. nothing_written u.weight s (counting u s) (Keeps-counting u s) refl (counting-held u s)) (λ _. by_room (is_above s.settings.capacity (admitted_weight s.records + u.weight)) refl)
       by_generation false = nothing_written u.weight s s (Keeps-refl s) refl refl
 
   pub after_removal-tells : (s : State K V P S R) (number : ℕ) (o : Option (Record K V)) → record_at s.records number ≡ o → WriteTells 0 s (after_removal o s)
   after_removal-tells s number None there = nothing_written 0 s s (Keeps-refl s) refl refl
-  after_removal-tells s number (Some r) there = go r.is_held refl
+  after_removal-tells s number (Some r) there =
+      cond_both r.is_held _ _ (WriteTells 0 s) (λ _. nothing_written 0 s s (Keeps-refl s) refl refl) (λ e. nothing_written 0 s gone (record { settings = refl; cleared = refl; rules = refl; unsent = refl; predicates = refl }) refl (held-without_other s.records r.number r here e))
     where
       here : record_at s.records r.number ≡ Some r
       here = ap (λ n. record_at s.records n) (record_at-number s.records number r there) ∙ there
 
       gone : State K V P S R
       gone = record s { records = without_record r.number s.records; access = without r.number s.access; order = without r.number s.order }
-
-      go : (b : Bool) → r.is_held ≡ b → WriteTells 0 s (cond b s gone)
-      go true held = nothing_written 0 s s (Keeps-refl s) refl refl
-      go false out = nothing_written 0 s gone (record { settings = refl; cleared = refl; rules = refl; unsent = refl; predicates = refl }) refl (held-without_other s.records r.number r here out)
 
   -- ---- steps
 
@@ -279,14 +269,11 @@ module _ {K V P S R : Type 0} (answers : Answers K V P R) where
 
   hit-tells : (old s : State K V P S R) (o : Option (Record K V)) → Keeps old s → s.notices ≡ old.notices → held_entries s.records ≡ held_entries old.records → StepTells K V P S R answers old (after_hit o s)
   hit-tells old s None keeps notices held = step-nothing old s keeps notices held
-  hit-tells old s (Some r) keeps notices held = go (is_some r.counts)
+  hit-tells old s (Some r) keeps notices held =
+      cond_both (is_some r.counts) _ _ (StepTells K V P S R answers old) (λ _. step-nothing old moved (record { settings = keeps.settings; cleared = keeps.cleared; rules = keeps.rules; unsent = keeps.unsent; predicates = keeps.predicates }) notices held) (λ _. step-nothing old s keeps notices held)
     where
       moved : State K V P S R
       moved = record s { access = moved_to_back r.number s.access }
-
-      go : (b : Bool) → StepTells K V P S R answers old (cond b moved s)
-      go true = step-nothing old moved (record { settings = keeps.settings; cleared = keeps.cleared; rules = keeps.rules; unsent = keeps.unsent; predicates = keeps.predicates }) notices held
-      go false = step-nothing old s keeps notices held
 
   read-tells : (old new : State K V P S R) (r : Read) (rest : List Read) → new ≡ after_read r (record old { reads = rest }) → StepTells K V P S R answers old new
   read-tells old new (Hit number hash) rest after =

@@ -1,7 +1,7 @@
 -- Records with an unapplied write stay.
-use Rattle.std.proofs.Common.{◌≡◌, refl, ap, sym, ◌∙◌, ℕ, ◌+◌, Bool, true, false, true≢false, cond, List, [], ◌∷◌, Option, Some, None, is_some, inl, inr, ◌⊎◌, eqb, ◌==◌}
+use Rattle.std.proofs.Common.{arith, ◌≡◌, refl, ap, sym, ◌∙◌, ℕ, ◌+◌, Bool, true, false, true≢false, cond, List, [], ◌∷◌, Option, Some, None, is_some, inl, inr, ◌⊎◌, eqb, ◌==◌}
 use Rattle.std.specs.Prelude.{nat_lt}
-use Rattle.std.proofs.lemmas.Bool.{eqb-true, ne_eqb}
+use Rattle.std.proofs.lemmas.Bool.{cond_both, cases_Bool, eqb-true, ne_eqb}
 use Rattle.engine_reference.specs.declared.rules.causes.RemovalCause.{RemovalCause}
 use Rattle.engine_reference.specs.declared.rules.causes.RemovalCause.TheVariants as cause
 use Rattle.engine_reference.specs.declared.data.Record.{Record}
@@ -17,6 +17,7 @@ use Rattle.engine_reference.proofs.HeldRecords.{record_at-number}
 use Rattle.policy_base.specs.Counts.{frequency_of}
 use Rattle.engine_reference.specs.declared.rules.settings.EvictionPolicy.{EvictionPolicy}
 use Rattle.engine_reference.specs.declared.rules.settings.EvictionPolicy.TheVariants.{TinyLfu, Lru}
+use Rattle.std.proofs.lemmas.Bool.Decides.{nat_tests}
 
 module _ {K V : Type 0} where
   pub record_at-changed : (m : ℕ) (change : Record K V → Record K V) → ((x : Record K V) → (change x).number ≡ x.number) → (rs : List (Record K V)) (n : ℕ) (r : Record K V) → record_at rs n ≡ Some r
@@ -36,11 +37,7 @@ module _ {K V : Type 0} where
 
   pub record_at-without : (m : ℕ) (rs : List (Record K V)) (n : ℕ) → (m ≡ n → ⊥) → record_at (without_record m rs) n ≡ record_at rs n
   record_at-without m [] n apart = refl
-  record_at-without m (x ∷ rs) n apart = go (x.number == m) refl (record_at-without m rs n apart)
-    where
-      go : (b : Bool) → eqb x.number m ≡ b → record_at (without_record m rs) n ≡ record_at rs n → record_at (cond b rs (x ∷ without_record m rs)) n ≡ cond (eqb x.number n) (Some x) (record_at rs n)
-      go true t later = sym (ap (λ b. cond b (Some x) (record_at rs n)) (ne_eqb x.number n (λ e. apart (sym (eqb-true x.number m t) ∙ e))))
-      go false t later = ap (λ o. cond (eqb x.number n) (Some x) o) later
+  record_at-without m (x ∷ rs) n apart = let next = record_at-without m rs n apart in grind (arith, nat_tests, next)
 
   -- what stands in the list of settled records is settled, and found under its number
   abbrev pub AllSettled : List (Record K V) → List (Record K V) → Type 0
@@ -51,29 +48,21 @@ module _ {K V : Type 0} where
   settled_in-settled rs [] = tt
   settled_in-settled rs (n ∷ ns) = go (record_at rs n) refl (settled_in-settled rs ns)
     where
-      here : (x : Record K V) → record_at rs n ≡ Some x → (b : Bool) → is_settled x ≡ b → AllSettled rs (settled_in rs ns) → AllSettled rs (cond b (x ∷ settled_in rs ns) (settled_in rs ns))
-      here x e true t rest = (t, ap (λ k. record_at rs k) (record_at-number rs n x e) ∙ e, rest)
-      here x e false t rest = rest
-
       go : (o : Option (Record K V)) → record_at rs n ≡ o → AllSettled rs (settled_in rs ns) → AllSettled rs (with_settled o (settled_in rs ns))
       go None e rest = rest
-      go (Some x) e rest = here x e (is_settled x) refl rest
+      go (Some x) e rest = cond_both (is_settled x) _ _ (AllSettled rs) (λ is. (is, ap (λ k. record_at rs k) (record_at-number rs n x e) ∙ e, rest)) (λ _. rest)
 
   pub front-settled : (rs : List (Record K V)) (weight : ℕ) (xs vs : List (Record K V)) → AllSettled rs xs → shortest_front weight xs ≡ Some vs → AllSettled rs vs
-  front-settled rs weight [] vs h e = go (weight == 0) e
-    where
-      go : (b : Bool) → cond b (Some []) None ≡ Some vs → AllSettled rs vs
-      go true e = let none : vs ≡ [] = cc in rw none tt
-      go false e = absurd (cc)
-  front-settled rs weight (x ∷ xs) vs h e = go (λ ws t. front-settled rs (weight - weight_at x) xs ws h.2 t) (weight == 0) e
+  front-settled rs weight [] vs h e = elim (cases_Bool (weight == 0)) [ inl is ↦ let none : vs ≡ [] = cc in rw none tt | inr is ↦ absurd (cc) ]
+  front-settled rs weight (x ∷ xs) vs h e =
+      elim (cases_Bool (weight == 0)) [
+        | inl is ↦ let none : vs ≡ [] = cc in rw none tt
+        | inr is ↦ rest (λ ws t. front-settled rs (weight - weight_at x) xs ws h.2 t) (shortest_front (weight - weight_at x) xs) refl (rw is at e)
+      ]
     where
       rest : ((ws : List (Record K V)) → shortest_front (weight - weight_at x) xs ≡ Some ws → AllSettled rs ws) → (o : Option (List (Record K V))) → shortest_front (weight - weight_at x) xs ≡ o → with_first x o ≡ Some vs → AllSettled rs vs
       rest before None t e = absurd (cc)
       rest before (Some ws) t e = let same : vs ≡ x ∷ ws = cc in rw same (h.0, h.1, before ws t)
-
-      go : ((ws : List (Record K V)) → shortest_front (weight - weight_at x) xs ≡ Some ws → AllSettled rs ws) → (b : Bool) → cond b (Some []) (with_first x (shortest_front (weight - weight_at x) xs)) ≡ Some vs → AllSettled rs vs
-      go before true e = let none : vs ≡ [] = cc in rw none tt
-      go before false e = rest before (shortest_front (weight - weight_at x) xs) refl e
 
   -- a settled record is not one that is not settled
   pub other_number : (rs : List (Record K V)) (x r : Record K V) (n : ℕ) → is_settled x ≡ true → record_at rs x.number ≡ Some x → record_at rs n ≡ Some r → is_settled r ≡ false → x.number ≡ n → ⊥
@@ -125,24 +114,20 @@ module _ {K V P S R : Type 0} where
       settled : List (Record K V)
       settled = settled_in s.records s.access
 
-      won : (front : List (Record K V)) → shortest_front u.weight settled ≡ Some front → (b : Bool) → cond b (displace front) refuse ≡ displace vs → AllSettled s.records vs
-      won front t true e = let same : front ≡ vs = cc in front-settled s.records u.weight settled vs (settled_in-settled s.records s.access) (t ∙ ap Some same)
-      won front t false e = absurd (cc)
-
       by_front : (o : Option (List (Record K V))) → shortest_front u.weight settled ≡ o → contest s.sketch u.hash o ≡ displace vs → AllSettled s.records vs
       by_front None t e = absurd (cc)
-      by_front (Some front) t e = won front t (nat_lt (frequencies s.sketch front) (frequency_of s.sketch u.hash)) e
+      by_front (Some front) t e =
+          elim (cases_Bool (nat_lt (frequencies s.sketch front) (frequency_of s.sketch u.hash))) [
+            | inl is ↦ let same : front ≡ vs = cc in front-settled s.records u.weight settled vs (settled_in-settled s.records s.access) (t ∙ ap Some same)
+            | inr is ↦ absurd (cc)
+          ]
 
       by_policy : (policy : EvictionPolicy) → verdict_of_full policy s.sketch u settled ≡ displace vs → AllSettled s.records vs
       by_policy Lru e = absurd (cc)
       by_policy TinyLfu e = by_front (shortest_front u.weight settled) refl e
 
-      by_weight : (b : Bool) → cond b refuse (verdict_of_full s.settings.policy s.sketch u settled) ≡ displace vs → AllSettled s.records vs
-      by_weight true e = absurd (cc)
-      by_weight false e = by_policy s.settings.policy e
-
       by_room : (b : Bool) → cond b (cond (is_above s.settings.capacity u.weight) refuse (verdict_of_full s.settings.policy s.sketch u settled)) admit ≡ displace vs → AllSettled s.records vs
-      by_room true e = by_weight (is_above s.settings.capacity u.weight) e
+      by_room true e = elim (cases_Bool (is_above s.settings.capacity u.weight)) [ inl is ↦ absurd (cc) | inr is ↦ by_policy s.settings.policy (rw is at e) ]
       by_room false e = absurd (cc)
 
   module _ (s : State K V P S R) (u : Upsert) (number : ℕ) (r : Record K V) (there : record_at s.records number ≡ Some r) (f : is_settled r ≡ false) (later : u.number ≡ number → is_overtaken u r ≡ true) where
@@ -153,25 +138,15 @@ module _ {K V P S R : Type 0} where
     IsStill-judged x here admit e = IsStill-counting u s number r still
     IsStill-judged x here (displace vs) e =
         IsStill-counting u (all_left cause.Size vs s) number r (IsStill-all_left cause.Size s.records vs s number r there f (victims-settled s u vs e) still)
-    IsStill-judged x here refuse e = go (is_overtaken u x) refl
-      where
-        go : (b : Bool) → is_overtaken u x ≡ b → IsStill K V P S R number r (cond b (put_off u s) (left cause.Size u.number s))
-        go true t = IsStill-changed u.number (λ x. record x { applied = u.write }) (λ x. refl) (λ x. refl) (λ x. refl) s (put_off u s) number r refl still
-        go false t = IsStill-left cause.Size s number r u.number (λ same.
-            let both : Some x ≡ Some r = sym here ∙ ap (λ k. record_at s.records k) same ∙ there in
-            let one : x ≡ r = cc in
-            true≢false (sym (later same) ∙ ap (λ y. is_overtaken u y) (sym one) ∙ t)) still
+    IsStill-judged x here refuse e =
+        cond_both (is_overtaken u x) _ _ (IsStill K V P S R number r) (λ _. IsStill-changed u.number (λ x. record x { applied = u.write }) (λ x. refl) (λ x. refl) (λ x. refl) s (put_off u s) number r refl still) (λ is. IsStill-left cause.Size s number r u.number (λ same. let both : Some x ≡ Some r = sym here ∙ ap (λ k. record_at s.records k) same ∙ there in let one : x ≡ r = cc in true≢false (sym (later same) ∙ ap (λ y. is_overtaken u y) (sym one) ∙ is)) still)
 
     IsStill-after_put : (o : Option (Record K V)) → record_at s.records u.number ≡ o → IsStill K V P S R number r (after_put u o s)
     IsStill-after_put None here = still
     IsStill-after_put (Some x) here = by_generation (nat_lt x.applied u.write)
       where
-        by_admission : (b : Bool) → IsStill K V P S R number r (cond b (counting u s) (judged u x s (verdict s u)))
-        by_admission true = IsStill-counting u s number r still
-        by_admission false = IsStill-judged x here (verdict s u) refl
-
         by_generation : (b : Bool) → IsStill K V P S R number r (cond b (cond (is_some x.counts) (counting u s) (judged u x s (verdict s u))) s)
-        by_generation true = by_admission (is_some x.counts)
+        by_generation true = elim (cases_Bool (is_some x.counts)) [ inl e ↦ rw e (IsStill-counting u s number r still) | inr e ↦ rw e (IsStill-judged x here (verdict s u) refl) ]
         by_generation false = still
 
 module _ (K V P S R : Type 0) where

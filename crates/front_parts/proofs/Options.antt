@@ -1,12 +1,9 @@
 -- What holds by whether there is a value.
-use Rattle.std.proofs.Common.{◌≡◌, refl, ap, sym, ◌∙◌, subst, ℕ, ◌<◌, Bool, true, false, List, Option, Some, None, is_some, option_map, length, slice_set, get_or}
+use Rattle.std.proofs.Common.{◌≡◌, refl, subst, ℕ, Bool, true, false, Option, Some, None, is_some, option_map}
 use Rattle.std.specs.Prelude.{MatchOption}
-use Rattle.std.proofs.lemmas.List.{set-get_or}
 use Rattle.engine_reference.specs.declared.data.Record.{Record}
 use Rattle.engine_reference.specs.Calls.{MaintainsIfDue, taken_out}
 use Rattle.engine_reference.specs.State.{State, Answers}
-use Rattle.front_reference.specs.Fronts.{CallsAt}
-use Rattle.front_parts.proofs.places.Lists.{called_at}
 
 pub where-some : {V : Type 0} (A : Type 0) (B : V → Type 0) (o : Option V) (v : V) → o ≡ Some v → MatchOption o A B → B v
 where-some A B o v is h = subst (λ x. MatchOption x A B) is h
@@ -22,12 +19,6 @@ some-seen f (Some a) b e = refl
 pub none-seen : {A B : Type 0} (f : A → B) (o : Option A) → None ≡ option_map f o → is_some o ≡ false
 none-seen f None e = refl
 none-seen f (Some a) e = absurd (cc)
-
--- of one of a list, which is as it was where there is none
-pub used-at : {X V : Type 0} (Rel : X → X → Type 0) (xs : List X) (i : ℕ) (x t : X) (o : Option V) → i < length xs → x ≡ get_or xs i x → MatchOption o (t ≡ x) (λ v. Rel x t)
-    → MatchOption o (slice_set xs i t ≡ xs) (λ v. CallsAt i Rel xs (slice_set xs i t))
-used-at Rel xs i x t None low at h = ap (slice_set xs i) (h ∙ at) ∙ set-get_or xs i x
-used-at Rel xs i x t (Some v) low at h = called_at Rel xs i x t low at h
 
 -- ---- a removal, and then maintenance if it is due
 

@@ -4,6 +4,5 @@ pub mod Found
 pub mod HeldKey
 pub mod Turned
 pub mod Newness
-pub mod Shown
 pub mod Indexed
 pub mod Searching

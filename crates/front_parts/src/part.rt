@@ -1,17 +1,15 @@
-//! Inserting, looking up, running.
-ghost use Rattle.std.specs.Prelude.{◌≡◌, ℕ, ◌+◌, ◌<◌, ◌≤◌, ◌^◌, ◌⊎◌, true, false, [], length, IfOk, OnOk, OnErr, IfErr, is_some};
+//! Inserting and running.
+ghost use Rattle.std.specs.Prelude.{◌≡◌, ℕ, ◌+◌, ◌<◌, ◌≤◌, ◌^◌, ◌⊎◌, true, false, [], length, OnOk, OnErr, IfErr, is_some};
 ghost use Rattle.std.specs.Result.{IsErrOf};
-ghost use Rattle.engine_reference.specs.Calls.{LooksUp, sent, unsent_at, with_room};
-ghost use Rattle.engine_reference.specs.Visible.{visible_record, visible_value};
+ghost use Rattle.engine_reference.specs.Calls.{sent, unsent_at, with_room};
 ghost use Rattle.front_reference.specs.Parts.{IsCause, IsReady, Inserts, InsertsReserved, takes_nothing, with_put_room};
 ghost use Rattle.front_reference.specs.Wholes.{RunsPart};
 ghost use Rattle.moka_engine.specs.Named.{IsNamedAlone};
 
-use engine_reference::{Hashes, IntoKey, Names, Rules};
+use engine_reference::{Hashes, IntoKey, Rules};
 use front_reference::{At, CacheError};
 use moka_engine::{BaseCache, Refusal};
 use policy_base::Instant;
-use std::alloc::AllocError;
 use std::hash::{BuildHasher, Hash, Hasher};
 
 /// Sends a waiting ticket, for which the queue has room.
@@ -158,38 +156,6 @@ pub fn insert_or_back<K: Eq + Hash + Drop, V: Drop, S: BuildHasher, R: Rules<K, 
         }
         Err(refused) => Err((refused, value)),
     }
-}
-
-/// Returns a clone of the visible value of a key, or `None`, which counts as a use of it. Returns an error if there is no memory for the
-/// clone; then nothing has changed.
-pub fn get<K: Eq + Hash + Drop, V: Clone + Drop, S: BuildHasher, R: Rules<K, V>, Q: Names<K>>(
-    part: &mut BaseCache<K, V, S, R>,
-    key: &Q,
-    hash: u64,
-    now: Instant,
-) -> Result<Option<V>, AllocError>
-    requires hashed { hash ≡ ⟦<S as Hashes<K>>⟧.hash part.old.hasher (Q.named_key key.now) }
-    requires exact { (x y : V) → V.is_clone x y → y ≡ x }
-    ensures found { IfOk result
-        (λ found. found ≡ visible_value R.answers K.eq part.old now (Q.named_key key.now)) }
-    ensures used { OnOk result
-        (LooksUp R.answers K.eq (Q.named_key key.now) hash now part.old part.new) }
-    ensures err { OnErr result (part.new ≡ part.old) }
-{
-    part.get_with_hash(key, hash, now)
-}
-
-/// Returns whether a key has a visible value. The call does not count as a use of it.
-pub fn contains_key<K: Eq + Hash, V, S: BuildHasher, R: Rules<K, V>, Q: Names<K>>(
-    part: &BaseCache<K, V, S, R>,
-    key: &Q,
-    hash: u64,
-    now: Instant,
-) -> bool
-    requires hashed { hash ≡ ⟦<S as Hashes<K>>⟧.hash part.now.hasher (Q.named_key key.now) }
-    ensures { result ≡ is_some (visible_record R.answers K.eq part.now now (Q.named_key key.now)) }
-{
-    part.contains_key_with_hash(key, hash, now)
 }
 
 /// Runs maintenance to its end.

@@ -4,10 +4,10 @@ use Rattle.std.proofs.Math.Logic.{∥∥₁_elim, ∥∥₁_map}
 use Rattle.std.proofs.Props.{props}
 use Rattle.std.proofs.lemmas.Bool.{eq-eqb}
 use Rattle.std.proofs.lemmas.Option.{slice_get_within, slice_get-get_or}
-use Rattle.std.specs.Prelude.{slice_get, option_map, ◌==◌, Result, IfOk, Ok, Err, All, is_some}
+use Rattle.std.specs.Prelude.{slice_get, slice_set, option_map, ◌==◌, Result, IfOk, Ok, Err, All, is_some}
 use Rattle.std.specs.Cmp.{IsEquivalence}
 use Rattle.engine_reference.specs.Records.{held_entries}
-use Rattle.engine_reference.specs.Calls.{cleared_by}
+use Rattle.engine_reference.specs.Calls.{LooksUp, cleared_by}
 use Rattle.engine_reference.specs.Scanning.{NotesLookUp, past}
 use Rattle.engine_reference.specs.State.{State}
 use Rattle.engine_reference.specs.declared.data.Entry.{Entry}
@@ -15,7 +15,7 @@ use Rattle.engine_reference.specs.Telling.{AreApart, entry_of}
 use Rattle.front_reference.specs.Keeping.{Common, IsKept}
 use Rattle.front_reference.specs.Parts.{Inserts, TakesOut}
 use Rattle.front_reference.specs.Wholes.{RunsPart}
-use Rattle.front_reference.specs.Fronts.{Front, CallsAll, CallsAt, ComesAfter, passed, share_of, part_of, CallsEach, CallsPart, turn_at, turn_of, part_by_hash, without_turn}
+use Rattle.front_reference.specs.Fronts.{Front, CallsAll, ComesAfter, passed, share_of, part_of, CallsEach, CallsPart, turn_at, turn_of, part_by_hash, without_turn}
 use Rattle.front_reference.specs.declared.errors.CacheError.{CacheError}
 use Rattle.front_reference.specs.declared.errors.CacheError.TheVariants as errors
 use Rattle.front_reference.specs.Parts.{Coalesces, Computes}
@@ -25,6 +25,9 @@ use Rattle.front_reference.specs.declared.data.Made.{Made}
 use Rattle.front_reference.specs.declared.data.Op.{Op}
 use Rattle.front_reference.proofs.laws.Kept.{calls_keep, kept-coalesced, kept-computed}
 use Rattle.front_parts.proofs.places.Lists.{length-set_at, one_set}
+use Rattle.front_parts.proofs.wholes.Firsts.{set_same}
+use Rattle.front_parts.specs.Looking.{IsOpen}
+use Rattle.front_state.specs.Lending.{AreParts}
 use Rattle.front_reference.specs.Turns.{Begins, found_or, wait_or_lead, with_turn, abandoned, begun_compute}
 use Rattle.front_reference.specs.declared.data.TurnKind.{TurnKind}
 use Rattle.front_reference.specs.declared.data.OpenTurn.{OpenTurn}
@@ -34,7 +37,7 @@ use Rattle.front_parts.specs.Places.Turning.{IsFinishCause, Leads, WaitsOrLeads,
 use Rattle.front_parts.proofs.places.Turned.{numbers_low, stand_under, turns-append, turns-without, turn-hashed}
 use Rattle.front_reference.specs.declared.data.TurnKind.TheVariants as turns
 use Rattle.front_reference.specs.declared.data.Op.TheVariants as op
-use Rattle.front_parts.specs.Places.Calls.{Ways, IsCauseOf, IsOpenAt, IsSteadyBy, hash_in, CoalescesIn, ComputesIn, visible_of}
+use Rattle.front_parts.specs.Places.Calls.{Ways, IsCauseOf, IsSteadyBy, hash_in, CoalescesIn, ComputesIn, part_with, visible_of}
 
 -- what is there or not is known
 untruncated : {X : Type 0} (o : Option X) → ∥ o ≡ None ∥₁ → o ≡ None
@@ -61,33 +64,52 @@ module _ {K V P S R : Type 0} (ways : Ways K V P S R) where
   pub few_bits : (f : Front K V P S R) → Keeps f → f.bits ≤ 16
   few_bits f h = ∥∥₁_elim h (Prim.hlevel props) (λ k. k.few)
 
-  within-parts : (f : Front K V P S R) (place : ℕ) → Keeps f → place < 2 ^ f.bits → place < length f.parts
-  within-parts f place h low = ∥∥₁_elim h (Prim.hlevel props) (λ k. let e = k.count in omega arith)
+  pub all_parts : (f : Front K V P S R) → Keeps f → AreParts f.bits f.parts
+  all_parts f h = (few_bits f h, ∥∥₁_elim h (Prim.hlevel props) (λ k. k.count))
 
-  pub open_at : (f : Front K V P S R) (place h : ℕ) (key : K) → Keeps f → place < 2 ^ f.bits → h ≡ hash_in ways f key → IsOpenAt ways place key h f.parts
-  open_at f place h key k low is = record {
-    within = within-parts f place k low;
-    ready = λ s at. record {
-      sent = ∥∥₁_elim k (Prim.hlevel props) (λ x. (x.kept place s at).sent);
-      room = ∥∥₁_elim k (Prim.hlevel props) (λ x. let n = (x.kept place s at).few in omega arith);
+  -- ---- the part of a hash
+
+  -- the front whose part of a hash has become this one
+  abbrev pub with_part : (h : ℕ) → State K V P S R → Front K V P S R → Front K V P S R
+  with_part h t f = record f { parts = slice_set f.parts (part_of f.bits h) t }
+
+  pub same_part : (f g : Front K V P S R) (h : ℕ) (s : State K V P S R) → f ≡ g → part_by_hash f h ≡ Some s → part_by_hash g h ≡ Some s
+  same_part f g h s same there = ap (λ (x : Front K V P S R). part_by_hash x h) (sym same) ∙ there
+
+  pub part_of_key : (f g : Front K V P S R) (h : ℕ) (key : K) (s : State K V P S R) → f ≡ g → h ≡ hash_in ways f key → part_by_hash f h ≡ Some s → part_with ways g key ≡ Some s
+  part_of_key f g h key s same is there = ap (λ n. part_by_hash g n) (ap (λ (x : Front K V P S R). hash_in ways x key) (sym same) ∙ sym is) ∙ same_part f g h s same there
+
+  pub open_part : (f : Front K V P S R) (h : ℕ) (key : K) (s : State K V P S R) → Keeps f → h ≡ hash_in ways f key → part_by_hash f h ≡ Some s → IsOpen ways.eq ways.hash key h s
+  open_part f h key s k is there = record {
+    hashed = ∥∥₁_elim k (Prim.hlevel props) (λ x. is ∙ ap (λ (o : Common S R). ways.hash o.hasher key) (sym (x.kept (part_of f.bits h) s there).made));
+    ready = record {
+      sent = ∥∥₁_elim k (Prim.hlevel props) (λ x. (x.kept (part_of f.bits h) s there).sent);
+      room = ∥∥₁_elim k (Prim.hlevel props) (λ x. let n = (x.kept (part_of f.bits h) s there).few in omega arith);
     };
-    hashed = λ s at. ∥∥₁_elim k (Prim.hlevel props) (λ x. is ∙ ap (λ (o : Common S R). ways.hash o.hasher key) (sym (x.kept place s at).made));
-    apart = λ s at. apart-untruncated ways.eq (held_entries s.records) (∥∥₁_map k (λ x. (x.kept place s at).apart));
+    apart = apart-untruncated ways.eq (held_entries s.records) (∥∥₁_map k (λ x. (x.kept (part_of f.bits h) s there).apart));
   }
 
-  steady-called : (f : Front K V P S R) (now step place h : ℕ) (key : K) (Rel : State K V P S R → State K V P S R → Type 0) (parts : List (State K V P S R))
-      → ComesAfter now step f → h ≡ hash_in ways f key → place ≡ part_of f.bits h → KeepsPart key now step Rel → CallsAt place Rel f.parts parts → IsSteadyBy ways f → IsSteadyBy ways (passed now step (record f { parts = parts }))
-  steady-called f now step place h key Rel parts after is placed keeps call k =
+  -- a part that is as it was
+  pub untouched : (f : Front K V P S R) (h : ℕ) (s t : State K V P S R) → part_by_hash f h ≡ Some s → t ≡ s → with_part h t f ≡ f
+  untouched f h s t there same = ap (λ ss. record f { parts = ss }) (ap (λ x. slice_set f.parts (part_of f.bits h) x) same ∙ set_same f.parts (part_of f.bits h) s there)
+
+  pub untouched_keeps : (f : Front K V P S R) (h : ℕ) (s t : State K V P S R) → part_by_hash f h ≡ Some s → t ≡ s → Keeps f → Keeps (with_part h t f)
+  untouched_keeps f h s t there same k = subst Keeps (sym (untouched f h s t there same)) k
+
+  steady-called : (f : Front K V P S R) (now step h : ℕ) (key : K) (Rel : State K V P S R → State K V P S R → Type 0) (s t : State K V P S R)
+      → ComesAfter now step f → h ≡ hash_in ways f key → KeepsPart key now step Rel → part_by_hash f h ≡ Some s → Rel s t → IsSteadyBy ways f → IsSteadyBy ways (passed now step (with_part h t f))
+  steady-called f now step h key Rel s t after is keeps there does k =
       let less : f.step ≤ step = after.further in
+      let place : ℕ = part_of f.bits h in
       let belongs = λ (p : ℕ) (x : K). part_of f.bits (hash_in ways f x) == p in
-      let own : belongs place key ≡ true = ap (λ n. part_of f.bits n == place) (sym is) ∙ ap (λ n. n == place) (sym placed) ∙ eq-eqb place place refl in
-      let long : length parts ≡ length f.parts = ap length call.changed ∙ length-set_at f.parts place call.after in
-      let one : IsKept 63 ways.eq f.common (belongs place) now step call.after = keeps f.common (belongs place) f.moment f.step call.before call.after after.later less own call.does (k.kept place call.before call.there) in
+      let own : belongs place key ≡ true = ap (λ n. part_of f.bits n == place) (sym is) ∙ eq-eqb place place refl in
+      let long : length (slice_set f.parts place t) ≡ length f.parts = length-set_at f.parts place t in
+      let one : IsKept 63 ways.eq f.common (belongs place) now step t = keeps f.common (belongs place) f.moment f.step s t after.later less own does (k.kept place s there) in
       record {
-        kept = λ p s at.
-            elim (one_set f.parts place p call.after s (ap (λ xs. slice_get xs p) (sym call.changed) ∙ at)) [
-              | inl here ↦ subst (λ x. IsKept 63 ways.eq f.common (belongs p) now step x) (sym here.1) (subst (λ n. IsKept 63 ways.eq f.common (belongs n) now step call.after) (sym here.0) one)
-              | inr other ↦ (calls_keep K V P S R).later f.common 63 ways.eq (belongs p) f.moment f.step now step s after.later less (k.kept p s other)
+        kept = λ p u at.
+            elim (one_set f.parts place p t u at) [
+              | inl here ↦ subst (λ x. IsKept 63 ways.eq f.common (belongs p) now step x) (sym here.1) (subst (λ n. IsKept 63 ways.eq f.common (belongs n) now step t) (sym here.0) one)
+              | inr other ↦ (calls_keep K V P S R).later f.common 63 ways.eq (belongs p) f.moment f.step now step u after.later less (k.kept p u other)
             ];
         count = long ∙ k.count;
         few = k.few;
@@ -95,17 +117,20 @@ module _ {K V P S R : Type 0} (ways : Ways K V P S R) where
         turns = k.turns;
       }
 
-  -- where the code found the part
-  pub stays_steady : (f g : Front K V P S R) (now step place h : ℕ) (key : K) (Rel : State K V P S R → State K V P S R → Type 0) (parts : List (State K V P S R))
-      → f ≡ g → ComesAfter now step g → h ≡ hash_in ways f key → place ≡ part_of f.bits h → KeepsPart key now step Rel → CallsAt place Rel f.parts parts → Keeps f → Keeps (passed now step (record f { parts = parts }))
-  stays_steady f g now step place h key Rel parts same after is placed keeps call k =
+  pub stays_steady : (f g : Front K V P S R) (now step h : ℕ) (key : K) (Rel : State K V P S R → State K V P S R → Type 0) (s t : State K V P S R)
+      → f ≡ g → ComesAfter now step g → h ≡ hash_in ways f key → KeepsPart key now step Rel → part_by_hash f h ≡ Some s → Rel s t → Keeps f → Keeps (passed now step (with_part h t f))
+  stays_steady f g now step h key Rel s t same after is keeps there does k =
       let late : ComesAfter now step f = subst (λ x. ComesAfter now step x) (sym same) after in
-      ∥∥₁_map k (λ x. steady-called f now step place h key Rel parts late is placed keeps call x)
+      ∥∥₁_map k (λ x. steady-called f now step h key Rel s t late is keeps there does x)
 
   -- ---- the calls that keep a part
 
   pub looking_keeps : IsEquivalence ways.eq → (key : K) (h now step : ℕ) (ignored : Bool) → KeepsPart key now step (NotesLookUp ways.answers ways.eq key h now ignored)
   looking_keeps laws key h now step ignored common belongs moment last s t later less own look old = (calls_keep K V P S R).looked_up common ways.eq laws belongs ways.answers moment last now step s t key h ignored later less look old
+
+  -- a look-up is noted with what is visible, of which nothing is passed over
+  pub looks_noted : (key : K) (h now : ℕ) (s t : State K V P S R) → LooksUp ways.answers ways.eq key h now s t → NotesLookUp ways.answers ways.eq key h now false s t
+  looks_noted key h now s t u = record { mid = u.mid; maintains = u.maintains; reads = u.reads }
 
   pub inserting_keeps : IsEquivalence ways.eq → (key : K) (h : ℕ) (value : V) (now step : ℕ) → KeepsPart key now step (Inserts ways.answers ways.eq key h value now step)
   inserting_keeps laws key h value now step common belongs moment last s t later less own ins old = (calls_keep K V P S R).inserted common ways.eq laws belongs ways.answers moment last now step s t key h value later less own ins old
@@ -123,39 +148,43 @@ module _ {K V P S R : Type 0} (ways : Ways K V P S R) where
   computing_keeps laws key h now step Decides answer common belongs moment last s t later less own does old =
       kept-computed common ways.eq belongs laws ways.answers Decides moment last now step s t key h answer later less own does old
 
-  -- ---- what the calls say, where the code found the part
+  -- ---- what the calls say
 
-  pub called_key : (f g : Front K V P S R) (now step place h : ℕ) (key : K) (Rel : ℕ → State K V P S R → State K V P S R → Type 0) (parts : List (State K V P S R))
-      → f ≡ g → h ≡ hash_in ways f key → place ≡ part_of f.bits h → CallsAt place (Rel h) f.parts parts
-      → CallsPart (hash_in ways g key) now step (Rel (hash_in ways g key)) g (passed now step (record f { parts = parts }))
-  called_key f g now step place h key Rel parts same hashed placed call =
-      subst (λ (x : Front K V P S R). CallsPart (hash_in ways x key) now step (Rel (hash_in ways x key)) x (passed now step (record f { parts = parts }))) same
-      (subst (λ n. CallsPart {K = K} {V = V} {P = P} {S = S} {R = R} n now step (Rel n) f (passed now step (record f { parts = parts }))) hashed
-      (record { parts = parts; call = subst (λ p. CallsAt p (Rel h) f.parts parts) placed call; changed = refl }))
+  pub called_hash : (f g : Front K V P S R) (now step h : ℕ) (Rel : State K V P S R → State K V P S R → Type 0) (s t : State K V P S R)
+      → f ≡ g → part_by_hash f h ≡ Some s → Rel s t → CallsPart h now step Rel g (passed now step (with_part h t f))
+  called_hash f g now step h Rel s t same there does =
+      subst (λ (x : Front K V P S R). CallsPart h now step Rel x (passed now step (with_part h t f))) same
+      (record { parts = slice_set f.parts (part_of f.bits h) t; call = record { before = s; after = t; there = there; does = does; changed = refl }; changed = refl })
 
-  pub coalesced_key : {F : Type 0} (f g : Front K V P S R) (at : At) (place h : ℕ) (key : K) (Ignores : V → Bool → Type 0) (Makes : Made V F → Type 0) (answer : Made V F) (is_fresh : Bool) (parts : List (State K V P S R))
-      → f ≡ g → h ≡ hash_in ways f key → place ≡ part_of f.bits h → CallsAt place (λ s t. Coalesces ways.answers ways.eq key h at.now at.step Ignores Makes s t answer is_fresh) f.parts parts
-      → CoalescesIn ways key at Ignores Makes g (passed at.now at.step (record f { parts = parts })) answer is_fresh
-  coalesced_key f g at place h key Ignores Makes answer is_fresh parts same hashed placed call =
-      called_key f g at.now at.step place h key (λ n s t. Coalesces ways.answers ways.eq key n at.now at.step Ignores Makes s t answer is_fresh) parts same hashed placed call
+  pub called_key : (f g : Front K V P S R) (now step h : ℕ) (key : K) (Rel : ℕ → State K V P S R → State K V P S R → Type 0) (s t : State K V P S R)
+      → f ≡ g → h ≡ hash_in ways f key → part_by_hash f h ≡ Some s → Rel h s t → CallsPart (hash_in ways g key) now step (Rel (hash_in ways g key)) g (passed now step (with_part h t f))
+  called_key f g now step h key Rel s t same hashed there does =
+      subst (λ n. CallsPart {K = K} {V = V} {P = P} {S = S} {R = R} n now step (Rel n) g (passed now step (with_part h t f))) (hashed ∙ ap (λ (x : Front K V P S R). hash_in ways x key) same)
+      (called_hash f g now step h (Rel h) s t same there does)
 
-  pub computed_key : {E : Type 0} (f g : Front K V P S R) (at : At) (place h : ℕ) (key : K) (Decides : Option V → Result (Op V) E → Type 0) (answer : Result (Computed V) E) (parts : List (State K V P S R))
-      → f ≡ g → h ≡ hash_in ways f key → place ≡ part_of f.bits h → CallsAt place (λ s t. Computes ways.answers ways.eq key h at.now at.step Decides s t answer) f.parts parts
-      → ComputesIn ways key at Decides g (passed at.now at.step (record f { parts = parts })) answer
-  computed_key f g at place h key Decides answer parts same hashed placed call =
-      called_key f g at.now at.step place h key (λ n s t. Computes ways.answers ways.eq key n at.now at.step Decides s t answer) parts same hashed placed call
+  pub coalesced_key : {F : Type 0} (f g : Front K V P S R) (at : At) (h : ℕ) (key : K) (Ignores : V → Bool → Type 0) (Makes : Made V F → Type 0) (answer : Made V F) (is_fresh : Bool) (s t : State K V P S R)
+      → f ≡ g → h ≡ hash_in ways f key → part_by_hash f h ≡ Some s → Coalesces ways.answers ways.eq key h at.now at.step Ignores Makes s t answer is_fresh
+      → CoalescesIn ways key at Ignores Makes g (passed at.now at.step (with_part h t f)) answer is_fresh
+  coalesced_key f g at h key Ignores Makes answer is_fresh s t same hashed there does =
+      called_key f g at.now at.step h key (λ n s t. Coalesces ways.answers ways.eq key n at.now at.step Ignores Makes s t answer is_fresh) s t same hashed there does
+
+  pub computed_key : {E : Type 0} (f g : Front K V P S R) (at : At) (h : ℕ) (key : K) (Decides : Option V → Result (Op V) E → Type 0) (answer : Result (Computed V) E) (s t : State K V P S R)
+      → f ≡ g → h ≡ hash_in ways f key → part_by_hash f h ≡ Some s → Computes ways.answers ways.eq key h at.now at.step Decides s t answer
+      → ComputesIn ways key at Decides g (passed at.now at.step (with_part h t f)) answer
+  computed_key f g at h key Decides answer s t same hashed there does =
+      called_key f g at.now at.step h key (λ n s t. Computes ways.answers ways.eq key n at.now at.step Decides s t answer) s t same hashed there does
 
   -- the step may stay as it was
   pub comes_still : (f g : Front K V P S R) (now : ℕ) → f ≡ g → g.moment ≤ now → ComesAfter now f.step g
   comes_still f g now same later = let stays : g.step ≡ f.step = ap (λ (x : Front K V P S R). x.step) (sym same) in record { later = later; further = omega arith }
 
-  pub touched : (f g : Front K V P S R) (now place h : ℕ) (key : K) (parts : List (State K V P S R))
-      → f ≡ g → h ≡ hash_in ways f key → place ≡ part_of f.bits h → CallsAt place (NotesLookUp ways.answers ways.eq key h now false) f.parts parts
-      → CallsPart (hash_in ways g key) now g.step (NotesLookUp ways.answers ways.eq key (hash_in ways g key) now false) g (passed now f.step (record f { parts = parts }))
-  touched f g now place h key parts same hashed placed call =
-      subst (λ n. CallsPart {K = K} {V = V} {P = P} {S = S} {R = R} (hash_in ways g key) now n (NotesLookUp ways.answers ways.eq key (hash_in ways g key) now false) g (passed now f.step (record f { parts = parts })))
+  pub touched : (f g : Front K V P S R) (now h : ℕ) (key : K) (s t : State K V P S R)
+      → f ≡ g → h ≡ hash_in ways f key → part_by_hash f h ≡ Some s → NotesLookUp ways.answers ways.eq key h now false s t
+      → CallsPart (hash_in ways g key) now g.step (NotesLookUp ways.answers ways.eq key (hash_in ways g key) now false) g (passed now f.step (with_part h t f))
+  touched f g now h key s t same hashed there does =
+      subst (λ n. CallsPart {K = K} {V = V} {P = P} {S = S} {R = R} (hash_in ways g key) now n (NotesLookUp ways.answers ways.eq key (hash_in ways g key) now false) g (passed now f.step (with_part h t f)))
       (ap (λ (x : Front K V P S R). x.step) same)
-      (called_key f g now f.step place h key (λ n. NotesLookUp ways.answers ways.eq key n now false) parts same hashed placed call)
+      (called_key f g now f.step h key (λ n. NotesLookUp ways.answers ways.eq key n now false) s t same hashed there does)
 
   -- ---- calls on all parts
 
@@ -235,39 +264,27 @@ module _ {K V P S R : Type 0} (ways : Ways K V P S R) where
       subst (λ n. All (λ (t : OpenTurn K). ways.eq key t.key ≡ true → t.hash ≡ n) f.turns) (sym is)
       (∥∥₁_elim k (Prim.hlevel props) (λ x. stand_under ways.eq laws (ways.hash f.common.hasher) respects f.next_turn key f.turns x.turns))
 
-  pub noted_key : (place h now : ℕ) (ignored : Bool) (k key : K) (parts new : List (State K V P S R)) → k ≡ key → CallsAt place (NotesLookUp ways.answers ways.eq k h now ignored) parts new → CallsAt place (NotesLookUp ways.answers ways.eq key h now ignored) parts new
-  noted_key place h now ignored k key parts new is call = subst (λ x. CallsAt place (NotesLookUp ways.answers ways.eq x h now ignored) parts new) is call
+  pub noted_key : (h now : ℕ) (ignored : Bool) (k key : K) (s t : State K V P S R) → k ≡ key → NotesLookUp ways.answers ways.eq k h now ignored s t → NotesLookUp ways.answers ways.eq key h now ignored s t
+  noted_key h now ignored k key s t is does = subst (λ x. NotesLookUp ways.answers ways.eq x h now ignored s t) is does
 
-  pub leads_steadily : IsEquivalence ways.eq → (f g : Front K V P S R) (now step place h : ℕ) (kind : TurnKind) (key : K) (ignored : Bool) (parts : List (State K V P S R)) (ts : List (OpenTurn K))
-      → f ≡ g → ComesAfter now step g → h ≡ hash_in ways f key → place ≡ part_of f.bits h → turn_of ways.eq g.turns kind key ≡ None → CallsAt place (NotesLookUp ways.answers ways.eq key h now ignored) f.parts parts → BeginsTurn kind key h f ts → Keeps f
-      → Keeps (record (passed now step (record f { parts = parts })) { turns = ts; next_turn = f.next_turn + 1 })
-  leads_steadily laws f g now step place h kind key ignored parts ts same after is placed free call begun k =
+  pub leads_steadily : IsEquivalence ways.eq → (f g : Front K V P S R) (now step h : ℕ) (kind : TurnKind) (key : K) (ignored : Bool) (s t : State K V P S R) (ts : List (OpenTurn K))
+      → f ≡ g → ComesAfter now step g → h ≡ hash_in ways f key → turn_of ways.eq g.turns kind key ≡ None → part_by_hash f h ≡ Some s → NotesLookUp ways.answers ways.eq key h now ignored s t → BeginsTurn kind key h f ts → Keeps f
+      → Keeps (record (passed now step (with_part h t f)) { turns = ts; next_turn = f.next_turn + 1 })
+  leads_steadily laws f g now step h kind key ignored s t ts same after is free there does begun k =
       let none : turn_of ways.eq f.turns kind key ≡ None = ap (λ (x : Front K V P S R). turn_of ways.eq x.turns kind key) same ∙ free in
-      subst (λ us. Keeps (record (passed now step (record f { parts = parts })) { turns = us; next_turn = f.next_turn + 1 })) (sym begun)
-      (∥∥₁_map (stays_steady f g now step place h key (NotesLookUp ways.answers ways.eq key h now ignored) parts same after is placed (looking_keeps laws key h now step ignored) call k)
-      (λ x. steady-with_turn laws (passed now step (record f { parts = parts })) kind key h is none x))
+      subst (λ us. Keeps (record (passed now step (with_part h t f)) { turns = us; next_turn = f.next_turn + 1 })) (sym begun)
+      (∥∥₁_map (stays_steady f g now step h key (NotesLookUp ways.answers ways.eq key h now ignored) s t same after is (looking_keeps laws key h now step ignored) there does k)
+      (λ x. steady-with_turn laws (passed now step (with_part h t f)) kind key h is none x))
 
-  -- the part of a hash that is known
-  pub called_hash : (f g : Front K V P S R) (now step place h : ℕ) (Rel : State K V P S R → State K V P S R → Type 0) (parts : List (State K V P S R))
-      → f ≡ g → place ≡ part_of f.bits h → CallsAt place Rel f.parts parts → CallsPart h now step Rel g (passed now step (record f { parts = parts }))
-  called_hash f g now step place h Rel parts same placed call =
-      subst (λ (x : Front K V P S R). CallsPart h now step Rel x (passed now step (record f { parts = parts }))) same
-      (record { parts = parts; call = subst (λ p. CallsAt p Rel f.parts parts) placed call; changed = refl })
-
-  pub led : (f g : Front K V P S R) (at : At) (place h : ℕ) (kind : TurnKind) (key : K) (ignored : Bool) (parts : List (State K V P S R)) (ts : List (OpenTurn K))
-      → f ≡ g → place ≡ part_of f.bits h → CallsAt place (NotesLookUp ways.answers ways.eq key h at.now ignored) f.parts parts → BeginsTurn kind key h f ts
-      → Leads ways kind key h at ignored g (record (passed at.now at.step (record f { parts = parts })) { turns = ts; next_turn = f.next_turn + 1 }) f.next_turn
-  led f g at place h kind key ignored parts ts same placed call begun = record {
-    mid = passed at.now at.step (record f { parts = parts });
-    looks = called_hash f g at.now at.step place h (NotesLookUp ways.answers ways.eq key h at.now ignored) parts same placed call;
+  pub led : (f g : Front K V P S R) (at : At) (h : ℕ) (kind : TurnKind) (key : K) (ignored : Bool) (s t : State K V P S R) (ts : List (OpenTurn K))
+      → f ≡ g → part_by_hash f h ≡ Some s → NotesLookUp ways.answers ways.eq key h at.now ignored s t → BeginsTurn kind key h f ts
+      → Leads ways kind key h at ignored g (record (passed at.now at.step (with_part h t f)) { turns = ts; next_turn = f.next_turn + 1 }) f.next_turn
+  led f g at h kind key ignored s t ts same there does begun = record {
+    mid = passed at.now at.step (with_part h t f);
+    looks = called_hash f g at.now at.step h (NotesLookUp ways.answers ways.eq key h at.now ignored) s t same there does;
     first = ap (λ (x : Front K V P S R). x.next_turn) same;
-    opens = ap (λ (us : List (OpenTurn K)). record (passed at.now at.step (record f { parts = parts })) { turns = us; next_turn = f.next_turn + 1 }) begun;
+    opens = ap (λ (us : List (OpenTurn K)). record (passed at.now at.step (with_part h t f)) { turns = us; next_turn = f.next_turn + 1 }) begun;
   }
-
-  -- ---- the part of a hash
-
-  pub same_part : (f g : Front K V P S R) (place h : ℕ) → f ≡ g → place ≡ part_of f.bits h → slice_get f.parts place ≡ part_by_hash g h
-  same_part f g place h same placed = ap (λ n. slice_get f.parts n) placed ∙ ap (λ (x : Front K V P S R). part_by_hash x h) same
 
   abbrev pub waiting : ℕ → TurnStart V
   waiting n = Wait n
@@ -389,12 +406,12 @@ module _ {K V P S R : Type 0} (ways : Ways K V P S R) where
   turn_hashed laws f n t k at = ∥∥₁_elim k (Prim.hlevel props) (λ x. turn-hashed ways.eq laws (ways.hash f.common.hasher) f.next_turn f.turns n t x.turns at)
 
   -- a value is inserted for a turn, which ends
-  pub finishes_steadily : IsEquivalence ways.eq → (f g : Front K V P S R) (now step place n : ℕ) (t : OpenTurn K) (value : V) (parts : List (State K V P S R)) (ts : List (OpenTurn K))
-      → f ≡ g → ComesAfter now step g → t.hash ≡ hash_in ways f t.key → place ≡ part_of f.bits t.hash → CallsAt place (Inserts ways.answers ways.eq t.key t.hash value now step) f.parts parts → ts ≡ without_turn n f.turns → Keeps f
-      → Keeps (record (passed now step (record f { parts = parts })) { turns = ts })
-  finishes_steadily laws f g now step place n t value parts ts same after is placed call gone k =
-      subst (λ us. Keeps (record (passed now step (record f { parts = parts })) { turns = us })) (sym gone)
-      (∥∥₁_map (stays_steady f g now step place t.hash t.key (Inserts ways.answers ways.eq t.key t.hash value now step) parts same after is placed (inserting_keeps laws t.key t.hash value now step) call k) (λ x. record {
+  pub finishes_steadily : IsEquivalence ways.eq → (f g : Front K V P S R) (now step n : ℕ) (t : OpenTurn K) (value : V) (a b : State K V P S R) (ts : List (OpenTurn K))
+      → f ≡ g → ComesAfter now step g → t.hash ≡ hash_in ways f t.key → part_by_hash f t.hash ≡ Some a → Inserts ways.answers ways.eq t.key t.hash value now step a b → ts ≡ without_turn n f.turns → Keeps f
+      → Keeps (record (passed now step (with_part t.hash b f)) { turns = ts })
+  finishes_steadily laws f g now step n t value a b ts same after is there does gone k =
+      subst (λ us. Keeps (record (passed now step (with_part t.hash b f)) { turns = us })) (sym gone)
+      (∥∥₁_map (stays_steady f g now step t.hash t.key (Inserts ways.answers ways.eq t.key t.hash value now step) a b same after is (inserting_keeps laws t.key t.hash value now step) there does k) (λ x. record {
         kept = x.kept;
         count = x.count;
         few = x.few;
@@ -402,26 +419,26 @@ module _ {K V P S R : Type 0} (ways : Ways K V P S R) where
         turns = turns-without ways.eq laws (ways.hash f.common.hasher) n f.next_turn f.turns x.turns;
       }))
 
-  pub finished : (f g : Front K V P S R) (at : At) (place n : ℕ) (t : OpenTurn K) (value : V) (parts : List (State K V P S R)) (ts : List (OpenTurn K))
-      → f ≡ g → place ≡ part_of f.bits t.hash → CallsAt place (Inserts ways.answers ways.eq t.key t.hash value at.now at.step) f.parts parts → ts ≡ without_turn n f.turns
-      → EndsTurn ways n t (op.Put value) at g (record (passed at.now at.step (record f { parts = parts })) { turns = ts })
-  finished f g at place n t value parts ts same placed call gone = record {
-    mid = passed at.now at.step (record f { parts = parts });
-    writes = called_hash f g at.now at.step place t.hash (Inserts ways.answers ways.eq t.key t.hash value at.now at.step) parts same placed call;
-    ends = ap (λ (us : List (OpenTurn K)). record (passed at.now at.step (record f { parts = parts })) { turns = us }) gone;
+  finished : (f g : Front K V P S R) (at : At) (n : ℕ) (t : OpenTurn K) (value : V) (a b : State K V P S R) (ts : List (OpenTurn K))
+      → f ≡ g → part_by_hash f t.hash ≡ Some a → Inserts ways.answers ways.eq t.key t.hash value at.now at.step a b → ts ≡ without_turn n f.turns
+      → EndsTurn ways n t (op.Put value) at g (record (passed at.now at.step (with_part t.hash b f)) { turns = ts })
+  finished f g at n t value a b ts same there does gone = record {
+    mid = passed at.now at.step (with_part t.hash b f);
+    writes = called_hash f g at.now at.step t.hash (Inserts ways.answers ways.eq t.key t.hash value at.now at.step) a b same there does;
+    ends = ap (λ (us : List (OpenTurn K)). record (passed at.now at.step (with_part t.hash b f)) { turns = us }) gone;
   }
 
-  pub finished_for : (f g : Front K V P S R) (at : At) (place n : ℕ) (t : OpenTurn K) (value : V) (parts : List (State K V P S R)) (ts : List (OpenTurn K))
-      → f ≡ g → place ≡ part_of f.bits t.hash → CallsAt place (Inserts ways.answers ways.eq t.key t.hash value at.now at.step) f.parts parts → ts ≡ without_turn n f.turns → turn_at f.turns n ≡ Some t
-      → EndsTurnOf ways n (op.Put value) at g (record (passed at.now at.step (record f { parts = parts })) { turns = ts })
-  finished_for f g at place n t value parts ts same placed call gone here u there =
-      let both : Some t ≡ Some u = sym here ∙ ap (λ (x : Front K V P S R). turn_at x.turns n) same ∙ there in
+  pub finished_for : (f g : Front K V P S R) (at : At) (n : ℕ) (t : OpenTurn K) (value : V) (a b : State K V P S R) (ts : List (OpenTurn K))
+      → f ≡ g → part_by_hash f t.hash ≡ Some a → Inserts ways.answers ways.eq t.key t.hash value at.now at.step a b → ts ≡ without_turn n f.turns → turn_at f.turns n ≡ Some t
+      → EndsTurnOf ways n (op.Put value) at g (record (passed at.now at.step (with_part t.hash b f)) { turns = ts })
+  finished_for f g at n t value a b ts same there does gone here u known =
+      let both : Some t ≡ Some u = sym here ∙ ap (λ (x : Front K V P S R). turn_at x.turns n) same ∙ known in
       let one : t ≡ u = cc in
-      subst (λ x. EndsTurn ways n x (op.Put value) at g (record (passed at.now at.step (record f { parts = parts })) { turns = ts })) one (finished f g at place n t value parts ts same placed call gone)
+      subst (λ x. EndsTurn ways n x (op.Put value) at g (record (passed at.now at.step (with_part t.hash b f)) { turns = ts })) one (finished f g at n t value a b ts same there does gone)
 
-  pub finish_caused : (f g : Front K V P S R) (place n : ℕ) (t : OpenTurn K) (e : CacheError) → f ≡ g → place ≡ part_of f.bits t.hash → turn_at f.turns n ≡ Some t → IsCauseOf ways (λ settings. 1) (slice_get f.parts place) e → IsFinishCause ways n g e
-  finish_caused f g place n t e same placed here cause =
-      by_kind e (ap (λ (x : Front K V P S R). turn_at x.turns n) (sym same) ∙ here) (subst (λ o. IsCauseOf ways (λ settings. 1) o e) (same_part f g place t.hash same placed) cause)
+  pub finish_caused : (f g : Front K V P S R) (n : ℕ) (t : OpenTurn K) (e : CacheError) → f ≡ g → turn_at f.turns n ≡ Some t → IsCauseOf ways (λ settings. 1) (part_by_hash f t.hash) e → IsFinishCause ways n g e
+  finish_caused f g n t e same here cause =
+      by_kind e (ap (λ (x : Front K V P S R). turn_at x.turns n) (sym same) ∙ here) (subst (λ (x : Front K V P S R). IsCauseOf ways (λ settings. 1) (part_by_hash x t.hash) e) same cause)
     where
       by_kind : (e : CacheError) → turn_at g.turns n ≡ Some t → IsCauseOf ways (λ settings. 1) (part_by_hash g t.hash) e → IsFinishCause ways n g e
       by_kind errors.OutOfMemory there cause = (t, there, cause)

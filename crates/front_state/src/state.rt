@@ -11,8 +11,8 @@ ghost use Rattle.front_parts.specs.Places.Calls.{CoalescesBy, ComputesIn, Insert
 
 use engine_reference::{Hashes, Names, Rules, Settings};
 use front_parts::{
-    BaseCache, HasWays, Turns, clear_all, coalesce_at, compute_at, insert_at, insert_by_name_at,
-    is_table_refused, place_of, run_all,
+    BaseCache, HasWays, Turns, clear_all, coalesce, compute, insert, insert_by_name,
+    is_table_refused, run_all,
 };
 use front_reference::{At, CacheError, Computed, IntoKey, LentKey, Made, Op, OwnedKey, Shared};
 use policy_base::Instant;
@@ -26,12 +26,14 @@ mod covering;
 mod looking;
 mod making;
 mod naming;
+mod parts;
 mod reading;
 mod sharding;
 mod showing;
 mod turning;
 
 pub use naming::{BytesName, HashedName, TextName};
+use parts::part_mut;
 
 /// The form of a cache of one segment.
 #[derive(Clone, Copy, Debug, PartialEq, Eq, Drop)]
@@ -207,12 +209,16 @@ impl<K: Eq + Hash, V, S: BuildHasher, R: Rules<K, V>, C> LentState<K, V, S, R, C
             (IsCauseIn ⟦<R as HasWays<K, V, S>>⟧.ways (λ _. 1) self.old (Q.named_key name)) }
     {
         let At { now, step } = at;
-        let place = place_of(self.bits, hash);
         let key = name.into_key()?;
-        insert_at(&mut self.parts, place, key, hash, value, At { now, step })?;
-        self.moment = now;
-        self.step = step;
-        Ok(())
+        let part = part_mut(&mut self.parts, self.bits, hash);
+        match insert(part, key, hash, value, At { now, step }) {
+            Ok(()) => {
+                self.moment = now;
+                self.step = step;
+                Ok(())
+            }
+            Err(refused) => Err(refused),
+        }
     }
 
     /// Inserts like `insert_with_hash`, with its errors, under a key that is named and equals no other. A key that is held and equal stays,
@@ -242,11 +248,15 @@ impl<K: Eq + Hash, V, S: BuildHasher, R: Rules<K, V>, C> LentState<K, V, S, R, C
             (IsCauseIn ⟦<R as HasWays<K, V, S>>⟧.ways (λ _. 1) self.old (Q.named_key name)) }
     {
         let At { now, step } = at;
-        let place = place_of(self.bits, hash);
-        insert_by_name_at(&mut self.parts, place, name, hash, value, At { now, step })?;
-        self.moment = now;
-        self.step = step;
-        Ok(())
+        let part = part_mut(&mut self.parts, self.bits, hash);
+        match insert_by_name(part, name, hash, value, At { now, step }) {
+            Ok(()) => {
+                self.moment = now;
+                self.step = step;
+                Ok(())
+            }
+            Err(refused) => Err(refused),
+        }
     }
 
     /// Removes a key, whether its deadline has come or not, and returns its value, or `None` if nothing is held under it. The removal is
@@ -352,19 +362,15 @@ impl<K: Eq + Hash, V, S: BuildHasher, R: Rules<K, V>, C> LentState<K, V, S, R, C
             (IsCauseIn ⟦<R as HasWays<K, V, S>>⟧.ways (λ _. 1) self.old (Q.named_key name)) }
     {
         let At { now, step } = at;
-        let place = place_of(self.bits, hash);
-        let answer = coalesce_at(
-            &mut self.parts,
-            place,
-            name,
-            hash,
-            At { now, step },
-            replace_if,
-            make,
-        )?;
-        self.moment = now;
-        self.step = step;
-        Ok(answer)
+        let part = part_mut(&mut self.parts, self.bits, hash);
+        match coalesce(part, name, hash, At { now, step }, replace_if, make) {
+            Ok(answer) => {
+                self.moment = now;
+                self.step = step;
+                Ok(answer)
+            }
+            Err(refused) => Err(refused),
+        }
     }
 
     /// Calls a closure with the visible value of a key, and does what it decides, after the look-up's read is noted. If the closure fails,
@@ -402,11 +408,15 @@ impl<K: Eq + Hash, V, S: BuildHasher, R: Rules<K, V>, C> LentState<K, V, S, R, C
             (IsCauseIn ⟦<R as HasWays<K, V, S>>⟧.ways removal_rooms self.old (Q.named_key name)) }
     {
         let At { now, step } = at;
-        let place = place_of(self.bits, hash);
-        let answer = compute_at(&mut self.parts, place, name, hash, At { now, step }, decide)?;
-        self.moment = now;
-        self.step = step;
-        Ok(answer)
+        let part = part_mut(&mut self.parts, self.bits, hash);
+        match compute(part, name, hash, At { now, step }, decide) {
+            Ok(answer) => {
+                self.moment = now;
+                self.step = step;
+                Ok(answer)
+            }
+            Err(refused) => Err(refused),
+        }
     }
 
     /// Runs the maintenance of each part to its end, after which the counts are exact. The runs remove what has expired or was invalidated,

@@ -1,20 +1,15 @@
 -- What steps of one connection leave to the others.
-use Rattle.std.proofs.Common.{◌≡◌, ◌≢◌, ℕ, max, Bool, true, false, ◌&&◌, ◌||◌, ◌==◌, List, [], ◌∷◌, ◌++◌, map, Option, Some, None, if◌then◌else◌, refl, sym, ap, ◌∙◌}
-use Rattle.std.specs.Prelude.{is_none}
+use Rattle.std.proofs.Common.{inr, inl, arith, ◌≡◌, ◌≢◌, ℕ, max, Bool, true, false, ◌||◌, ◌==◌, List, [], ◌∷◌, ◌++◌, map, Option, Some, None, if◌then◌else◌, refl, sym, ap, ◌∙◌}
 use Rattle.std.specs.List.{find}
 use Rattle.std.specs.Option.{option_map_or}
-use Rattle.std.proofs.lemmas.Bool.{ne_eqb}
-use Rattle.std.proofs.lemmas.Option.{same_Some}
-use Rattle.audit_model.specs.Belongs.{refusal_of}
-use Rattle.audit_model.specs.Bytewise.{is_empty}
+use Rattle.std.proofs.lemmas.Bool.{cases_Bool, ne_eqb}
 use Rattle.audit_model.specs.Changes.{after_step, connection_after, join_by, join_load}
 use Rattle.audit_model.specs.Commands.{quits}
-use Rattle.audit_model.specs.Follows.{Follows, after_event, after_steps, known_in, placed_step_in, tasks_in, without_load}
+use Rattle.audit_model.specs.Follows.{Follows, after_event, after_steps, placed_step_in, tasks_in, without_load}
 use Rattle.audit_model.specs.History.{Effect}
 use Rattle.audit_model.specs.Loads.{key_loaded}
-use Rattle.audit_model.specs.Obeys.{has_right_own_value, is_numbered}
 use Rattle.audit_model.specs.Places.{due, first_due, left_after, steps_of, tasks_to_feed, tasks_to_give_up}
-use Rattle.audit_model.specs.Situation.{Situation, Connection, connection_in, is_holding_in, is_overlong, key_in, may_run_in, waiting_in, with_connection, without_number}
+use Rattle.audit_model.specs.Situation.{Situation, Connection, connection_in, is_holding_in, is_overlong, key_in, may_run_in, waiting_in, with_connection}
 use Rattle.audit_model.specs.Steps.{Task, Store, Deliver, RunAgain, RunHeld, RunLines, is_right}
 use Rattle.audit_model.specs.Stream.{is_waiting}
 use Rattle.audit_model.specs.declared.config.Config.{Config}
@@ -28,6 +23,8 @@ use Rattle.audit_laws.proofs.waiting.Turns.{found-number}
 use Rattle.audit_laws.specs.Waiting.Alone.{IsTurnOf, WaitsAlone}
 use Rattle.audit_laws.proofs.waiting.Steps.{IsOf, TasksOf, due-of, left-of, step-of}
 use Rattle.audit_laws.proofs.waiting.Events.{again-of, delivers-of, feed-of, found-alone, lines-of}
+use Rattle.std.proofs.lemmas.Bool.Decides.{nat_tests}
+use Rattle.audit_laws.proofs.Following.{passed}
 
 -- ---- a step
 
@@ -39,11 +36,7 @@ joins-none n false (Some key) None s = refl
 
 -- a connection of another number is put in its place, or closes
 put-apart : (other : ℕ) (quits : Bool) (k : Connection) (u : Situation) → (k.number == other) ≡ false → connection_in other (with_connection quits k u) ≡ connection_in other u
-put-apart other quits k u ne = go (quits || is_overlong k)
-  where
-    go : (b : Bool) → find (λ (x : Connection). x.number == other) (if b then without_number k.number u.connections else map (λ x. if x.number == k.number then k else x) u.connections) ≡ find (λ x. x.number == other) u.connections
-    go true = found-left other k.number u.connections ne
-    go false = found-apart other k u.connections ne
+put-apart other quits k u ne = elim (cases_Bool (quits || is_overlong k)) [ inl e ↦ rw e (found-left other k.number u.connections ne) | inr e ↦ rw e (found-apart other k u.connections ne) ]
 
 own-apart : (conn other : ℕ) (task : Option Task) (step : Step) (effect : Effect) (s : Situation) → (conn == other) ≡ false → step.conn ≡ conn → (o : Option Connection) → connection_in step.conn s ≡ o
     → connection_in other (option_map_or (λ c. with_connection (quits effect) (connection_after task step effect c) (join_load step.conn effect s)) o s) ≡ connection_in other s
@@ -68,27 +61,17 @@ after_one config s now_due step more =
     if is_right config placed then after_steps config (after_step config s placed.task step placed.effect) (left_after now_due) more else None
 
 steps-apart : (config : Config) (conn other : ℕ) (s t : Situation) (tasks : List Task) (more : List Step) → (conn == other) ≡ false → TasksOf conn tasks → after_steps config s tasks more ≡ Some t → connection_in other t ≡ connection_in other s
-steps-apart config conn other s t tasks [] ne all e = go (is_empty (due (may_run_in s) tasks)) e
-  where
-    go : (b : Bool) → (if b then Some s else None) ≡ Some t → connection_in other t ≡ connection_in other s
-    go false h = let no : None ≡ Some t = h in cc
-    go true h = ap (connection_in other) (sym (same_Some s t h))
+steps-apart config conn other s t tasks [] ne all e = grind (arith, nat_tests, e)
 steps-apart config conn other s t tasks (step ∷ more) ne all e =
     by-due (λ u left of h. steps-apart config conn other u t left more ne of h) (due (may_run_in s) tasks) (due-of conn (may_run_in s) tasks all) e
   where
     Next : Type 0
     Next = (u : Situation) (left : List Task) → TasksOf conn left → after_steps config u left more ≡ Some t → connection_in other t ≡ connection_in other u
 
-    by-right : Next → (task : Task) (rest : List Task) → TasksOf conn (task ∷ rest) → (b : Bool) → is_right config (placed_step_in config s (Some task) step) ≡ b
-        → (if b then after_steps config (after_step config s (Some task) step (placed_step_in config s (Some task) step).effect) (left_after (task ∷ rest)) more else None) ≡ Some t → connection_in other t ≡ connection_in other s
-    by-right next task rest of false is h = let no : None ≡ Some t = h in cc
-    by-right next task rest of true is h =
-        next (after_step config s (Some task) step (placed_step_in config s (Some task) step).effect) (left_after (task ∷ rest)) (left-of conn task rest of) h
-        ∙ step-apart config conn other s task step (placed_step_in config s (Some task) step).effect ne of.0 (step-of config conn s task step of.0 is)
-
     by-due : Next → (ts : List Task) → TasksOf conn ts → after_one config s ts step more ≡ Some t → connection_in other t ≡ connection_in other s
     by-due next [] of h = let no : None ≡ Some t = h in cc
-    by-due next (task ∷ rest) of h = by-right next task rest of (is_right config (placed_step_in config s (Some task) step)) refl h
+    by-due next (task ∷ rest) of h =
+        next (after_step config s (Some task) step (placed_step_in config s (Some task) step).effect) (left_after (task ∷ rest)) (left-of conn task rest of) (passed _ _ _ h).rest ∙ step-apart config conn other s task step (placed_step_in config s (Some task) step).effect ne of.0 (step-of config conn s task step of.0 (passed _ _ _ h).test)
 
 -- ---- events
 
@@ -100,11 +83,8 @@ fed-apart c other piece s u same ne (Some k) at =
 
 stored : (config : Config) (conn other : ℕ) (s t : Situation) (key : Option (List ℕ)) (outcome : Outcome) (tasks : List Task) (own : Step) (more : List Step) → (conn == other) ≡ false → TasksOf conn tasks
     → after_steps config s (Store key outcome ∷ tasks) (own ∷ more) ≡ Some t → connection_in other t ≡ connection_in other s
-stored config conn other s t key outcome tasks own more ne of e = go (is_right config (placed_step_in config s (Some (Store key outcome)) own)) e
-  where
-    go : (b : Bool) → (if b then after_steps config (after_step config s (Some (Store key outcome)) own (placed_step_in config s (Some (Store key outcome)) own).effect) tasks more else None) ≡ Some t → connection_in other t ≡ connection_in other s
-    go false h = let no : None ≡ Some t = h in cc
-    go true h = steps-apart config conn other (after_step config s (Some (Store key outcome)) own (placed_step_in config s (Some (Store key outcome)) own).effect) t tasks more ne of h
+stored config conn other s t key outcome tasks own more ne of e =
+    steps-apart config conn other (after_step config s (Some (Store key outcome)) own (placed_step_in config s (Some (Store key outcome)) own).effect) t tasks more ne of (passed _ _ _ e).rest
 
 by-event : (config : Config) (s t : Situation) (entry : Record) (conn other : ℕ) (happened : Event) → (conn == other) ≡ false → IsTurnOf conn happened → WaitsAlone conn s.pending
     → after_steps config (after_event happened s) (tasks_in s happened) (steps_of (record entry { event = happened })) ≡ Some t → connection_in other t ≡ connection_in other s
@@ -124,8 +104,4 @@ by-event config s t entry conn other (event.GiveUp load moment) ne turn alone e 
     steps-apart config conn other (without_load load moment.nanos s) t (tasks_to_give_up (waiting_in load s)) entry.steps ne (again-of conn (waiting_in load s) waiting) e
 
 pub records : (config : Config) (s t : Situation) (entry : Record) (conn other : ℕ) → Follows config s entry t → IsTurnOf conn entry.event → WaitsAlone conn s.pending → other ≢ conn → connection_in other t ≡ connection_in other s
-records config s t entry conn other e turn alone differs = go (is_none (refusal_of config (known_in s) entry.event) && is_numbered s.opened entry.event && has_right_own_value entry) e
-  where
-    go : (b : Bool) → (if b then after_steps config (after_event entry.event s) (tasks_in s entry.event) (steps_of entry) else None) ≡ Some t → connection_in other t ≡ connection_in other s
-    go false h = let no : None ≡ Some t = h in cc
-    go true h = by-event config s t entry conn other entry.event (ne_eqb conn other (λ same. differs (sym same))) turn alone h
+records config s t entry conn other e turn alone differs = by-event config s t entry conn other entry.event (ne_eqb conn other (λ same. differs (sym same))) turn alone (passed _ _ _ e).rest

@@ -1,13 +1,10 @@
 -- Loads for which nobody waits.
-use Rattle.std.proofs.Common.{◌≡◌, ℕ, Bool, true, false, not, ◌&&◌, ◌==◌, cond, List, [], ◌∷◌, Some, None, if◌then◌else◌, refl, sym, ap, subst, arith}
-use Rattle.std.specs.Prelude.{is_none}
+use Rattle.std.proofs.Common.{◌≡◌, ℕ, Bool, not, ◌==◌, List, [], ◌∷◌, Some, None, refl, sym, ap, subst, arith}
 use Rattle.std.specs.List.{filter, find}
 use Rattle.std.specs.Option.{option_map_or}
 use Rattle.std.proofs.lemmas.Bool.{eq-eqb}
 use Rattle.std.proofs.lemmas.Option.{same_Some}
-use Rattle.audit_model.specs.Belongs.{refusal_of}
-use Rattle.audit_model.specs.Follows.{Follows, after_event, after_steps, known_in, tasks_in, without_load}
-use Rattle.audit_model.specs.Obeys.{has_right_own_value, is_numbered}
+use Rattle.audit_model.specs.Follows.{Follows, after_event, after_steps, tasks_in, without_load}
 use Rattle.audit_model.specs.Places.{steps_of, tasks_to_give_up}
 use Rattle.audit_model.specs.Situation.{Situation, PendingLoad, connection_in, waiting_in}
 use Rattle.audit_model.specs.declared.config.Config.{Config}
@@ -21,6 +18,8 @@ use Rattle.audit_laws.proofs.waiting.Standing.{wait_of}
 use Rattle.audit_laws.specs.Waiting.Tidy.{Tidy, times_in, times_waiting}
 use Rattle.audit_laws.specs.Waiting.Alone.{AreAll, WaitsAlone}
 use Rattle.audit_laws.specs.Waiting.Closed.{NobodyWaits}
+use Rattle.std.proofs.lemmas.Bool.Decides.{nat_tests}
+use Rattle.audit_laws.proofs.Following.{passed}
 
 none-in : (conn : ℕ) (cs : List ℕ) → AreAll conn cs → times_in conn cs ≡ 0 → cs ≡ []
 none-in conn [] all none = refl
@@ -40,19 +39,11 @@ closed s conn tidy alone none =
 
 unwaited : (number : ℕ) (loads : List PendingLoad) → NobodyWaits loads → option_map_or (λ (load : PendingLoad). load.waiting) (find (λ load. load.number == number) loads) [] ≡ []
 unwaited number [] none = refl
-unwaited number (load ∷ loads) none = go (unwaited number loads none.1) (load.number == number)
-  where
-    go : option_map_or (λ (l : PendingLoad). l.waiting) (find (λ (l : PendingLoad). l.number == number) loads) [] ≡ [] → (b : Bool) → option_map_or (λ (l : PendingLoad). l.waiting) (cond b (Some load) (find (λ (l : PendingLoad). l.number == number) loads)) [] ≡ []
-    go next true = none.0
-    go next false = next
+unwaited number (load ∷ loads) none = let next = unwaited number loads none.1 in grind (arith, nat_tests, next)
 
 nobody-left : (p : PendingLoad → Bool) (loads : List PendingLoad) → NobodyWaits loads → NobodyWaits (filter p loads)
 nobody-left p [] none = tt
-nobody-left p (load ∷ loads) none = go (nobody-left p loads none.1) (p load)
-  where
-    go : NobodyWaits (filter p loads) → (b : Bool) → NobodyWaits (cond b (load ∷ filter p loads) (filter p loads))
-    go next true = (none.0, next)
-    go next false = next
+nobody-left p (load ∷ loads) none = let next = nobody-left p loads none.1 in grind (arith, nat_tests, next)
 
 no-steps : (config : Config) (u t : Situation) (steps : List Step) → after_steps config u [] steps ≡ Some t → (steps ≡ []) × (t ≡ u)
 no-steps config u t [] e = (refl, sym (same_Some u t e))
@@ -71,8 +62,4 @@ at-event config s t entry load moment happened is none e =
 
 pub given-up : (config : Config) (s t : Situation) (entry : Record) (load : ℕ) (moment : Instant) → entry.event ≡ event.GiveUp load moment → Follows config s entry t → NobodyWaits s.pending
     → (entry.steps ≡ []) × (t ≡ without_load load moment.nanos s) × NobodyWaits t.pending
-given-up config s t entry load moment is e none = go (is_none (refusal_of config (known_in s) entry.event) && is_numbered s.opened entry.event && has_right_own_value entry) e
-  where
-    go : (b : Bool) → (if b then after_steps config (after_event entry.event s) (tasks_in s entry.event) (steps_of entry) else None) ≡ Some t → (entry.steps ≡ []) × (t ≡ without_load load moment.nanos s) × NobodyWaits t.pending
-    go false h = let no : None ≡ Some t = h in cc
-    go true h = at-event config s t entry load moment entry.event is none h
+given-up config s t entry load moment is e none = at-event config s t entry load moment entry.event is none (passed _ _ _ e).rest

@@ -1,15 +1,12 @@
 -- Records of one connection that alone waits.
-use Rattle.std.proofs.Common.{◌≡◌, ℕ, max, Bool, true, false, not, ◌&&◌, ◌==◌, cond, List, [], ◌∷◌, ◌++◌, map, Option, Some, None, if◌then◌else◌, refl}
-use Rattle.std.specs.Prelude.{is_none}
+use Rattle.std.proofs.Common.{arith, ◌≡◌, ℕ, max, Bool, true, false, not, ◌==◌, List, [], ◌∷◌, ◌++◌, map, Option, Some, None, refl}
 use Rattle.std.specs.List.{find}
 use Rattle.std.specs.Option.{option_map_or}
-use Rattle.audit_model.specs.Belongs.{refusal_of}
 use Rattle.audit_model.specs.Changes.{after_step}
-use Rattle.audit_model.specs.Follows.{Follows, after_event, after_steps, known_in, placed_step_in, tasks_in, without_load}
-use Rattle.audit_model.specs.Obeys.{has_right_own_value, is_numbered}
+use Rattle.audit_model.specs.Follows.{Follows, after_event, after_steps, placed_step_in, tasks_in, without_load}
 use Rattle.audit_model.specs.Places.{steps_of, tasks_to_feed, tasks_to_give_up}
 use Rattle.audit_model.specs.Situation.{Situation, Connection, PendingLoad, connection_in, is_holding_in, key_in, waiting_in, with_connection}
-use Rattle.audit_model.specs.Steps.{Task, Store, Deliver, RunLines, is_right}
+use Rattle.audit_model.specs.Steps.{Task, Store, Deliver, RunLines}
 use Rattle.audit_model.specs.declared.config.Config.{Config}
 use Rattle.audit_model.specs.declared.event.Event.{Event}
 use Rattle.audit_model.specs.declared.event.Event.TheVariants as event
@@ -18,16 +15,14 @@ use Rattle.audit_model.specs.declared.transcript.Record.{Record}
 use Rattle.audit_model.specs.declared.transcript.Step.{Step}
 use Rattle.audit_laws.specs.Waiting.Alone.{AreAll, IsTurnOf, StepsOf, WaitsAlone}
 use Rattle.audit_laws.proofs.waiting.Steps.{TasksOf, alone-filter, alone-put, alone-steps, alone-without}
+use Rattle.std.proofs.lemmas.Bool.Decides.{nat_tests}
+use Rattle.audit_laws.proofs.Following.{passed}
 
 -- ---- what is due
 
 pub found-alone : (conn number : ℕ) (loads : List PendingLoad) → WaitsAlone conn loads → AreAll conn (option_map_or (λ (load : PendingLoad). load.waiting) (find (λ load. load.number == number) loads) [])
 found-alone conn number [] alone = tt
-found-alone conn number (load ∷ loads) alone = go (found-alone conn number loads alone.1) (load.number == number)
-  where
-    go : AreAll conn (option_map_or (λ (l : PendingLoad). l.waiting) (find (λ (l : PendingLoad). l.number == number) loads) []) → (b : Bool) → AreAll conn (option_map_or (λ (l : PendingLoad). l.waiting) (cond b (Some load) (find (λ (l : PendingLoad). l.number == number) loads)) [])
-    go next true = alone.0
-    go next false = next
+found-alone conn number (load ∷ loads) alone = let next = found-alone conn number loads alone.1 in grind (arith, nat_tests, next)
 
 pub delivers-of : (conn : ℕ) (outcome : Outcome) (conns : List ℕ) (tasks : List Task) → AreAll conn conns → TasksOf conn tasks → TasksOf conn (map (λ c. Deliver c outcome) conns ++ tasks)
 delivers-of conn outcome [] tasks all of = of
@@ -54,11 +49,8 @@ fed-alone conn piece u alone (Some c) = alone-put conn false (record c { unread 
 -- an answer's own step is no connection's, and changes no load
 stored : (config : Config) (conn : ℕ) (s t : Situation) (key : Option (List ℕ)) (outcome : Outcome) (tasks : List Task) (own : Step) (more : List Step) → TasksOf conn tasks → WaitsAlone conn s.pending
     → after_steps config s (Store key outcome ∷ tasks) (own ∷ more) ≡ Some t → StepsOf conn more × WaitsAlone conn t.pending
-stored config conn s t key outcome tasks own more of alone e = go (is_right config (placed_step_in config s (Some (Store key outcome)) own)) e
-  where
-    go : (b : Bool) → (if b then after_steps config (after_step config s (Some (Store key outcome)) own (placed_step_in config s (Some (Store key outcome)) own).effect) tasks more else None) ≡ Some t → StepsOf conn more × WaitsAlone conn t.pending
-    go false h = let no : None ≡ Some t = h in cc
-    go true h = alone-steps config conn (after_step config s (Some (Store key outcome)) own (placed_step_in config s (Some (Store key outcome)) own).effect) t tasks more of alone h
+stored config conn s t key outcome tasks own more of alone e =
+    alone-steps config conn (after_step config s (Some (Store key outcome)) own (placed_step_in config s (Some (Store key outcome)) own).effect) t tasks more of alone (passed _ _ _ e).rest
 
 by-event : (config : Config) (s t : Situation) (entry : Record) (conn : ℕ) (happened : Event) → entry.event ≡ happened → IsTurnOf conn happened → WaitsAlone conn s.pending
     → after_steps config (after_event happened s) (tasks_in s happened) (steps_of (record entry { event = happened })) ≡ Some t → StepsOf conn entry.steps × WaitsAlone conn t.pending
@@ -78,11 +70,7 @@ by-event config s t entry conn (event.GiveUp load moment) is turn alone e =
     alone-steps config conn (without_load load moment.nanos s) t (tasks_to_give_up (waiting_in load s)) entry.steps (again-of conn (waiting_in load s) waiting) (alone-filter conn (λ l. not (l.number == load)) s.pending alone) e
 
 pub records : (config : Config) (s t : Situation) (entry : Record) (conn : ℕ) → Follows config s entry t → IsTurnOf conn entry.event → WaitsAlone conn s.pending → StepsOf conn entry.steps × WaitsAlone conn t.pending
-records config s t entry conn e turn alone = go (is_none (refusal_of config (known_in s) entry.event) && is_numbered s.opened entry.event && has_right_own_value entry) e
-  where
-    go : (b : Bool) → (if b then after_steps config (after_event entry.event s) (tasks_in s entry.event) (steps_of entry) else None) ≡ Some t → StepsOf conn entry.steps × WaitsAlone conn t.pending
-    go false h = let no : None ≡ Some t = h in cc
-    go true h = by-event config s t entry conn entry.event refl turn alone h
+records config s t entry conn e turn alone = by-event config s t entry conn entry.event refl turn alone (passed _ _ _ e).rest
 
 -- an opening or a closing leaves it so
 abbrev pub IsQuiet : Event → Type 0
@@ -101,8 +89,4 @@ quiet-event config s t entry conn (event.Answer load outcome moment) still alone
 quiet-event config s t entry conn (event.GiveUp load moment) still alone e = absurd still
 
 pub quiet : (config : Config) (s t : Situation) (entry : Record) (conn : ℕ) → Follows config s entry t → IsQuiet entry.event → WaitsAlone conn s.pending → WaitsAlone conn t.pending
-quiet config s t entry conn e still alone = go (is_none (refusal_of config (known_in s) entry.event) && is_numbered s.opened entry.event && has_right_own_value entry) e
-  where
-    go : (b : Bool) → (if b then after_steps config (after_event entry.event s) (tasks_in s entry.event) (steps_of entry) else None) ≡ Some t → WaitsAlone conn t.pending
-    go false h = let no : None ≡ Some t = h in cc
-    go true h = quiet-event config s t entry conn entry.event still alone h
+quiet config s t entry conn e still alone = quiet-event config s t entry conn entry.event still alone (passed _ _ _ e).rest

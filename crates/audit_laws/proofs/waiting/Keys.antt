@@ -1,18 +1,16 @@
 -- The keys of loads under way.
-use Rattle.std.proofs.Common.{◌≡◌, ℕ, suc, Bool, true, false, not, ◌&&◌, ◌||◌, ◌==◌, cond, List, [], ◌∷◌, ◌++◌, map, Option, Some, None, if◌then◌else◌, is_some, refl, ap, ◌∙◌, subst, arith}
+use Rattle.std.proofs.Common.{◌≡◌, ℕ, suc, Bool, true, false, not, ◌||◌, ◌==◌, List, [], ◌∷◌, ◌++◌, map, Option, Some, None, if◌then◌else◌, is_some, refl, subst, arith}
 use Rattle.std.specs.Prelude.{is_none, nat_eq}
 use Rattle.std.specs.List.{filter, find}
 use Rattle.std.specs.Option.{option_eq, option_map, option_map_or, option_or}
-use Rattle.std.proofs.lemmas.Bool.{and_parts, eqb-true}
-use Rattle.std.proofs.lemmas.Option.{same_Some}
+use Rattle.std.proofs.lemmas.Bool.{cond_both, and_parts}
 use Rattle.audit_model.specs.Belongs.{refusal_of, refusal_where}
-use Rattle.audit_model.specs.Bytewise.{same, is_empty}
+use Rattle.audit_model.specs.Bytewise.{same}
 use Rattle.audit_model.specs.Changes.{after_step, connection_after, join_by, join_load}
 use Rattle.audit_model.specs.Commands.{quits}
 use Rattle.audit_model.specs.Follows.{Follows, after_event, after_steps, known_in, placed_step_in, tasks_in}
 use Rattle.audit_model.specs.History.{Action, Effect, Running}
 use Rattle.audit_model.specs.Loads.{key_loaded}
-use Rattle.audit_model.specs.Obeys.{has_right_own_value, is_numbered}
 use Rattle.audit_model.specs.Places.{due, first_due, left_after, steps_of}
 use Rattle.audit_model.specs.Replies.{load_sent_by}
 use Rattle.audit_model.specs.Situation.{Situation, Connection, PendingLoad, connection_in, is_overlong, key_in, may_run_in, view_in, with_connection, with_waiting, without_waiting}
@@ -30,16 +28,14 @@ use Rattle.audit_model.specs.declared.input.ServiceError.TheVariants as error
 use Rattle.audit_model.specs.declared.transcript.Record.{Record}
 use Rattle.audit_model.specs.declared.transcript.Step.{Step}
 use Rattle.audit_laws.specs.Waiting.Keys.{HasKey, IsKnown}
+use Rattle.std.proofs.lemmas.Bool.Decides.{nat_tests}
+use Rattle.audit_laws.proofs.Following.{passed}
 
 -- ---- loads
 
 keys-filter : (n : ℕ) (key : List ℕ) (p : PendingLoad → Bool) (loads : List PendingLoad) → HasKey n key loads → HasKey n key (filter p loads)
 keys-filter n key p [] has = tt
-keys-filter n key p (load ∷ loads) has = go (keys-filter n key p loads has.1) (p load)
-  where
-    go : HasKey n key (filter p loads) → (b : Bool) → HasKey n key (cond b (load ∷ filter p loads) (filter p loads))
-    go next true = (has.0, next)
-    go next false = next
+keys-filter n key p (load ∷ loads) has = let next = keys-filter n key p loads has.1 in grind (arith, nat_tests, next)
 
 keys-without : (n : ℕ) (key : List ℕ) (conn : ℕ) (loads : List PendingLoad) → HasKey n key loads → HasKey n key (map (without_waiting conn) loads)
 keys-without n key conn [] has = tt
@@ -61,11 +57,7 @@ Sends (Some key) (Some number) sent = number ≡ suc sent
 Sends key load sent = Unit {0}
 
 sends-by : (seen : View) (sent : ℕ) (action : Action) (load : Option ℕ) → seen.next_load ≡ suc sent → option_eq nat_eq load (load_sent_by seen action) ≡ true → Sends (key_loaded action) load sent
-sends-by seen sent (Running (says.Load key)) (Some m) next e = go (is_some (seen.live key) || is_some (seen.load_of_key key)) e
-  where
-    go : (b : Bool) → option_eq nat_eq (Some m) (if b then None else Some seen.next_load) ≡ true → m ≡ suc sent
-    go true h = let no : false ≡ true = h in cc
-    go false h = eqb-true m seen.next_load h ∙ next
+sends-by seen sent (Running (says.Load key)) (Some m) next e = grind (arith, nat_tests, e)
 sends-by seen sent (Running (says.Load key)) None next e = tt
 sends-by seen sent (Running command) load next e = tt
 sends-by seen sent action load next e = tt
@@ -82,11 +74,7 @@ known-join n key conn true (Some of) None s sends known = (known.0, keys-joined 
 known-join n key conn false (Some of) None s sends known = known
 
 known-put : (n : ℕ) (key : List ℕ) (quits : Bool) (k : Connection) (s : Situation) → IsKnown n key s → IsKnown n key (with_connection quits k s)
-known-put n key quits k s known = (known.0, go (quits || is_overlong k))
-  where
-    go : (b : Bool) → HasKey n key (if b then map (without_waiting k.number) s.pending else s.pending)
-    go true = keys-without n key k.number s.pending known.1
-    go false = known.1
+known-put n key quits k s known = (known.0, (cond_both (quits || is_overlong k) _ _ (HasKey n key) (λ _. keys-without n key k.number s.pending known.1) (λ _. known.1)))
 
 known-own : (n : ℕ) (key : List ℕ) (task : Option Task) (step : Step) (effect : Effect) (s : Situation) → Sends (key_loaded effect.action) effect.load s.sent → IsKnown n key s → (o : Option Connection)
     → IsKnown n key (option_map_or (λ c. with_connection (quits effect) (connection_after task step effect c) (join_load step.conn effect s)) o s)
@@ -101,23 +89,11 @@ known-step config n key s task step effect sends known = known-own n key task st
 -- ---- the steps of a record
 
 known-steps : (config : Config) (n : ℕ) (key : List ℕ) (s t : Situation) (tasks : List Task) (more : List Step) → IsKnown n key s → after_steps config s tasks more ≡ Some t → IsKnown n key t
-known-steps config n key s t tasks [] known e = go (is_empty (due (may_run_in s) tasks)) e
-  where
-    go : (b : Bool) → (if b then Some s else None) ≡ Some t → IsKnown n key t
-    go false h = let no : None ≡ Some t = h in cc
-    go true h = subst (λ (u : Situation). IsKnown n key u) (same_Some s t h) known
+known-steps config n key s t tasks [] known e = grind (arith, nat_tests, e)
 known-steps config n key s t tasks (step ∷ more) known e =
-    by-right (λ u left knows h. known-steps config n key u t left more knows h) (due (may_run_in s) tasks) (is_right config (placed_step_in config s (first_due (due (may_run_in s) tasks)) step)) refl e
-  where
-    Next : Type 0
-    Next = (u : Situation) (left : List Task) → IsKnown n key u → after_steps config u left more ≡ Some t → IsKnown n key t
-
-    by-right : Next → (now_due : List Task) → (b : Bool) → is_right config (placed_step_in config s (first_due now_due) step) ≡ b
-        → (if b then after_steps config (after_step config s (first_due now_due) step (placed_step_in config s (first_due now_due) step).effect) (left_after now_due) more else None) ≡ Some t → IsKnown n key t
-    by-right next now_due false is h = let no : None ≡ Some t = h in cc
-    by-right next now_due true is h =
-        next (after_step config s (first_due now_due) step (placed_step_in config s (first_due now_due) step).effect) (left_after now_due)
-        (known-step config n key s (first_due now_due) step (placed_step_in config s (first_due now_due) step).effect (sends-right config s (first_due now_due) step is) known) h
+    let task = first_due (due (may_run_in s) tasks) in
+    let p = passed (is_right config (placed_step_in config s task step)) _ t e in
+    known-steps config n key (after_step config s task step (placed_step_in config s task step).effect) t (left_after (due (may_run_in s) tasks)) more (known-step config n key s task step _ (sends-right config s task step p.test) known) p.rest
 
 -- ---- a record
 
@@ -133,21 +109,12 @@ known-event n key s (event.Answer load outcome moment) known = (known.0, keys-fi
 known-event n key s (event.GiveUp load moment) known = (known.0, keys-filter n key (λ l. not (l.number == load)) s.pending known.1)
 
 pub keeps : (config : Config) (s t : Situation) (entry : Record) (n : ℕ) (key : List ℕ) → Follows config s entry t → IsKnown n key s → IsKnown n key t
-keeps config s t entry n key e known = go (is_none (refusal_of config (known_in s) entry.event) && is_numbered s.opened entry.event && has_right_own_value entry) e
-  where
-    go : (b : Bool) → (if b then after_steps config (after_event entry.event s) (tasks_in s entry.event) (steps_of entry) else None) ≡ Some t → IsKnown n key t
-    go false h = let no : None ≡ Some t = h in cc
-    go true h = known-steps config n key (after_event entry.event s) t (tasks_in s entry.event) (steps_of entry) (known-event n key s entry.event known) h
+keeps config s t entry n key e known = known-steps config n key (after_event entry.event s) t (tasks_in s entry.event) (steps_of entry) (known-event n key s entry.event known) (passed _ _ _ e).rest
 
 -- ---- a load that is settled
 
 unrefused : (config : Config) (s t : Situation) (entry : Record) → Follows config s entry t → is_none (refusal_of config (known_in s) entry.event) ≡ true
-unrefused config s t entry e = go (is_none (refusal_of config (known_in s) entry.event) && is_numbered s.opened entry.event && has_right_own_value entry) refl e
-  where
-    go : (b : Bool) → (is_none (refusal_of config (known_in s) entry.event) && is_numbered s.opened entry.event && has_right_own_value entry) ≡ b
-        → (if b then after_steps config (after_event entry.event s) (tasks_in s entry.event) (steps_of entry) else None) ≡ Some t → is_none (refusal_of config (known_in s) entry.event) ≡ true
-    go false is h = let no : None ≡ Some t = h in cc
-    go true is h = (and_parts _ _ (and_parts _ _ is).0).0
+unrefused config s t entry e = grind (arith, nat_tests, e)
 
 under-way : (b : Bool) (rest : Option ServiceError) → is_none (option_or (refusal_where (not b) error.NoLoad) rest) ≡ true → b ≡ true
 under-way true rest e = refl
@@ -156,13 +123,7 @@ under-way false rest e = let no : false ≡ true = e in cc
 own-key : (n : ℕ) (key : List ℕ) (loads : List PendingLoad) → HasKey n key loads → is_some (option_map (λ (load : PendingLoad). load.key) (find (λ load. load.number == n) loads)) ≡ true
     → option_map (λ (load : PendingLoad). load.key) (find (λ load. load.number == n) loads) ≡ Some key
 own-key n key [] has e = let no : false ≡ true = e in cc
-own-key n key (load ∷ loads) has e = go (own-key n key loads has.1) (load.number == n) refl e
-  where
-    go : (is_some (option_map (λ (l : PendingLoad). l.key) (find (λ l. l.number == n) loads)) ≡ true → option_map (λ (l : PendingLoad). l.key) (find (λ l. l.number == n) loads) ≡ Some key)
-        → (b : Bool) → (load.number == n) ≡ b → is_some (option_map (λ (l : PendingLoad). l.key) (cond b (Some load) (find (λ l. l.number == n) loads))) ≡ true
-        → option_map (λ (l : PendingLoad). l.key) (cond b (Some load) (find (λ l. l.number == n) loads)) ≡ Some key
-    go next true is h = ap (λ k. Some k) (has.0 (eqb-true load.number n is))
-    go next false is h = next h
+own-key n key (load ∷ loads) has e = let next = own-key n key loads has.1 in grind (arith, nat_tests, next, e)
 
 pub answered-key : (config : Config) (s t : Situation) (entry : Record) (load : ℕ) (outcome : Outcome) (moment : Instant) (key : List ℕ) → Follows config s entry t → entry.event ≡ event.Answer load outcome moment → HasKey load key s.pending → key_in load s ≡ Some key
 answered-key config s t entry load outcome moment key e is has =

@@ -1,15 +1,12 @@
 -- Records that follow, and who waits after them.
-use Rattle.std.proofs.Common.{◌≡◌, ℕ, ◌+◌, ◌≤◌, max, Bool, true, false, not, ◌&&◌, ◌==◌, cond, List, [], ◌∷◌, ◌++◌, map, Option, Some, None, if◌then◌else◌, refl, sym, ap, ◌∙◌, subst, arith}
-use Rattle.std.specs.Prelude.{is_none, length, nat_lt, ◌||◌}
+use Rattle.std.proofs.Common.{◌≡◌, ℕ, ◌+◌, ◌≤◌, max, Bool, true, false, not, ◌&&◌, ◌==◌, List, [], ◌∷◌, ◌++◌, map, Option, Some, None, if◌then◌else◌, refl, sym, ap, ◌∙◌, subst, arith}
+use Rattle.std.specs.Prelude.{length, nat_lt, ◌||◌}
 use Rattle.std.specs.List.{find, flat_map}
 use Rattle.std.specs.Option.{option_map_or}
 use Rattle.std.proofs.lemmas.Bool.{eqb-true}
-use Rattle.std.proofs.lemmas.Option.{same_Some}
-use Rattle.audit_model.specs.Belongs.{refusal_of}
 use Rattle.audit_model.specs.Bytewise.{cut_at, is_empty}
 use Rattle.audit_model.specs.Changes.{after_step}
-use Rattle.audit_model.specs.Follows.{Follows, after_event, after_steps, known_in, placed_step_in, tasks_in, without_load}
-use Rattle.audit_model.specs.Obeys.{has_right_own_value, is_numbered}
+use Rattle.audit_model.specs.Follows.{Follows, after_event, after_steps, placed_step_in, tasks_in, without_load}
 use Rattle.audit_model.specs.Places.{due, first_due, left_after, steps_of, tasks_to_answer, tasks_to_feed, tasks_to_give_up}
 use Rattle.audit_model.specs.Situation.{Situation, Connection, Standing, Ready, Held, Waiting, is_ready, connection_in, is_holding, is_holding_in, is_waiting_now, key_in, may_run_in, waiting_in, with_connection, without_connection, without_number, without_waiting}
 use Rattle.audit_model.specs.Steps.{Task, Store, Deliver, RunAgain, RunHeld, RunLines, is_right}
@@ -23,6 +20,8 @@ use Rattle.audit_laws.specs.Waiting.Tidy.{SuitsTask, Tidy, times_loaded, times_w
 use Rattle.audit_laws.proofs.waiting.Counts.{fewer-loaded, loaded-out, one_if, settled-out, waiting-others, waiting-out}
 use Rattle.audit_laws.proofs.waiting.Standing.{found-left, found-own, put-tidy, wait_of}
 use Rattle.audit_laws.proofs.waiting.Turns.{found-number, steps}
+use Rattle.std.proofs.lemmas.Bool.Decides.{nat_tests}
+use Rattle.audit_laws.proofs.Following.{passed}
 
 -- those that the tasks tell of their load
 abbrev pub told_in : List Task → List ℕ
@@ -42,11 +41,7 @@ told-due may (Store key outcome ∷ tasks) = refl
 told-due may (Deliver conn outcome ∷ tasks) = refl
 told-due may (RunAgain conn ∷ tasks) = refl
 told-due may (RunHeld conn ∷ tasks) = refl
-told-due may (RunLines conn ∷ tasks) = go (told-due may tasks) (may conn)
-  where
-    go : told_in (due may tasks) ≡ told_in tasks → (b : Bool) → told_in (if b then RunLines conn ∷ tasks else due may tasks) ≡ told_in tasks
-    go next true = refl
-    go next false = next
+told-due may (RunLines conn ∷ tasks) = let next = told-due may tasks in grind (arith, nat_tests, next)
 
 pub no-held-due : (may : ℕ → Bool) (tasks : List Task) → has_no_held tasks ≡ true → has_no_held (due may tasks) ≡ true
 no-held-due may [] e = refl
@@ -54,11 +49,7 @@ no-held-due may (Store key outcome ∷ tasks) e = e
 no-held-due may (Deliver conn outcome ∷ tasks) e = e
 no-held-due may (RunAgain conn ∷ tasks) e = e
 no-held-due may (RunHeld conn ∷ tasks) e = e
-no-held-due may (RunLines conn ∷ tasks) e = go (no-held-due may tasks e) (may conn)
-  where
-    go : has_no_held (due may tasks) ≡ true → (b : Bool) → has_no_held (if b then RunLines conn ∷ tasks else due may tasks) ≡ true
-    go next true = e
-    go next false = next
+no-held-due may (RunLines conn ∷ tasks) e = let next = no-held-due may tasks e in grind (arith, nat_tests, next)
 
 -- lines that are due may run
 may-due : (may : ℕ → Bool) (tasks : List Task) (conn : ℕ) (rest : List Task) → due may tasks ≡ RunLines conn ∷ rest → may conn ≡ true
@@ -67,15 +58,11 @@ may-due may (Store key outcome ∷ tasks) conn rest e = let no : Store key outco
 may-due may (Deliver c outcome ∷ tasks) conn rest e = let no : Deliver c outcome ∷ tasks ≡ RunLines conn ∷ rest = e in cc
 may-due may (RunAgain c ∷ tasks) conn rest e = let no : RunAgain c ∷ tasks ≡ RunLines conn ∷ rest = e in cc
 may-due may (RunHeld c ∷ tasks) conn rest e = let no : RunHeld c ∷ tasks ≡ RunLines conn ∷ rest = e in cc
-may-due may (RunLines c ∷ tasks) conn rest e = go (λ h. may-due may tasks conn rest h) (may c) refl e
+may-due may (RunLines c ∷ tasks) conn rest e = let next = may-due may tasks conn rest in grind (arith, nat_tests, next, e)
   where
     number_of : List Task → ℕ
     number_of (RunLines k ∷ ts) = k
     number_of ts = 0
-
-    go : (due may tasks ≡ RunLines conn ∷ rest → may conn ≡ true) → (b : Bool) → may c ≡ b → (if b then RunLines c ∷ tasks else due may tasks) ≡ RunLines conn ∷ rest → may conn ≡ true
-    go next true is h = ap may (sym (ap number_of h)) ∙ is
-    go next false is h = next h
 
 empty-told : (tasks : List Task) → is_empty tasks ≡ true → told_in tasks ≡ []
 empty-told [] e = refl
@@ -113,19 +100,11 @@ after_one config s now_due step more =
 steps-first : (config : Config) (s t : Situation) (task : Task) (rest : List Task) (step : Step) (more : List Step) → SuitsTask task s → Tidy (told_in (task ∷ rest)) s
     → ((u : Situation) → Tidy (told_in (left_after (task ∷ rest))) u → after_steps config u (left_after (task ∷ rest)) more ≡ Some t → Tidy [] t)
     → after_one config s (task ∷ rest) step more ≡ Some t → Tidy [] t
-steps-first config s t task rest step more fit tidy next e = go (is_right config (placed_step_in config s (Some task) step)) refl e
-  where
-    go : (b : Bool) → is_right config (placed_step_in config s (Some task) step) ≡ b
-        → (if b then after_steps config (after_step config s (Some task) step (placed_step_in config s (Some task) step).effect) (left_after (task ∷ rest)) more else None) ≡ Some t → Tidy [] t
-    go false is h = let no : None ≡ Some t = h in cc
-    go true is h = next _ (subst (λ told. Tidy told (after_step config s (Some task) step (placed_step_in config s (Some task) step).effect)) (sym (told-left task rest)) (steps config s task step (told_in rest) fit is tidy)) h
+steps-first config s t task rest step more fit tidy next e =
+    next _ (subst (λ told. Tidy told (after_step config s (Some task) step (placed_step_in config s (Some task) step).effect)) (sym (told-left task rest)) (steps config s task step (told_in rest) fit (passed _ _ _ e).test tidy)) (passed _ _ _ e).rest
 
 pub steps-tidy : (config : Config) (s t : Situation) (tasks : List Task) (more : List Step) → has_no_held tasks ≡ true → Tidy (told_in tasks) s → after_steps config s tasks more ≡ Some t → Tidy [] t
-steps-tidy config s t tasks [] none tidy e = go (is_empty (due (may_run_in s) tasks)) refl e
-  where
-    go : (b : Bool) → is_empty (due (may_run_in s) tasks) ≡ b → (if b then Some s else None) ≡ Some t → Tidy [] t
-    go false is h = let no : None ≡ Some t = h in cc
-    go true is h = subst (λ u. Tidy [] u) (same_Some s t h) (subst (λ told. Tidy told s) (sym (told-due (may_run_in s) tasks) ∙ empty-told (due (may_run_in s) tasks) is) tidy)
+steps-tidy config s t tasks [] none tidy e = grind (arith, nat_tests, e)
 steps-tidy config s t tasks (step ∷ more) none tidy e = go (λ u left h k. steps-tidy config u t left more h k) (due (may_run_in s) tasks) refl (no-held-due (may_run_in s) tasks none) (subst (λ told. Tidy told s) (sym (told-due (may_run_in s) tasks)) tidy) e
   where
     go : ((u : Situation) (left : List Task) → has_no_held left ≡ true → Tidy (told_in left) u → after_steps config u left more ≡ Some t → Tidy [] t)
@@ -178,17 +157,8 @@ settled-tidy number moment s t = record {
 
 -- a connection opens
 found-opened : (d : ℕ) (k : Connection) (ks : List Connection) → is_waiting_now k.standing ≡ false → wait_of (find (λ x. x.number == d) (ks ++ k ∷ [])) ≡ wait_of (find (λ x. x.number == d) ks)
-found-opened d k [] e = go (k.number == d)
-  where
-    go : (b : Bool) → wait_of (cond b (Some k) None) ≡ 0
-    go true = ap one_if e
-    go false = refl
-found-opened d k (x ∷ xs) e = go (found-opened d k xs e) (x.number == d)
-  where
-    go : wait_of (find (λ (y : Connection). y.number == d) (xs ++ k ∷ [])) ≡ wait_of (find (λ y. y.number == d) xs)
-        → (b : Bool) → wait_of (cond b (Some x) (find (λ y. y.number == d) (xs ++ k ∷ []))) ≡ wait_of (cond b (Some x) (find (λ y. y.number == d) xs))
-    go next true = refl
-    go next false = next
+found-opened d k [] e = grind (arith, nat_tests)
+found-opened d k (x ∷ xs) e = let next = found-opened d k xs e in grind (arith, nat_tests, next)
 
 closed-tidy : (conn : ℕ) (s : Situation) → Tidy [] s → Tidy [] (without_connection conn s)
 closed-tidy conn s t = record {
@@ -256,8 +226,4 @@ by-event config s t (event.GiveUp load moment) more tidy e =
 
 pub records : (config : Config) (s t : Situation) (entry : Record) → Follows config s entry t → Tidy [] s → Tidy [] t
 records config s t entry e tidy =
-    go (is_none (refusal_of config (known_in s) entry.event) && is_numbered s.opened entry.event && has_right_own_value entry) e
-  where
-    go : (b : Bool) → (if b then after_steps config (after_event entry.event s) (tasks_in s entry.event) (steps_of entry) else None) ≡ Some t → Tidy [] t
-    go false h = let no : None ≡ Some t = h in cc
-    go true h = by-event config s t entry.event (steps_of entry) tidy h
+    by-event config s t entry.event (steps_of entry) tidy (passed _ _ _ e).rest

@@ -1,18 +1,15 @@
 -- The loads that records send and settle.
-use Rattle.std.proofs.Common.{◌≡◌, ℕ, ◌<◌, ◌≤◌, suc, Bool, true, false, not, ◌&&◌, ◌||◌, ◌==◌, cond, List, [], ◌∷◌, ◌++◌, map, Option, Some, None, if◌then◌else◌, refl, ap, subst, arith, ⊎_elim, sym}
-use Rattle.std.specs.Prelude.{is_none, nat_lt, IsTrue}
+use Rattle.std.proofs.Common.{inr, inl, ◌≡◌, ℕ, ◌<◌, ◌≤◌, Bool, true, false, not, ◌||◌, ◌==◌, List, [], ◌∷◌, ◌++◌, map, Option, Some, None, refl, ap, subst, arith, ⊎_elim, sym}
+use Rattle.std.specs.Prelude.{nat_lt, IsTrue}
 use Rattle.std.specs.List.{filter}
 use Rattle.std.specs.Option.{option_map_or}
-use Rattle.std.proofs.lemmas.Bool.{and_from, and_parts, eq-eqb, eqb-true, lt-ltb, ne_eqb, or_cases, or_left, or_right}
-use Rattle.std.proofs.lemmas.Option.{same_Some}
-use Rattle.audit_model.specs.Belongs.{refusal_of}
-use Rattle.audit_model.specs.Bytewise.{same, is_empty}
+use Rattle.std.proofs.lemmas.Bool.{cases_Bool, and_from, and_parts, eq-eqb, eqb-true, lt-ltb, ne_eqb, or_cases, or_left, or_right}
+use Rattle.audit_model.specs.Bytewise.{same}
 use Rattle.audit_model.specs.Changes.{after_step, connection_after, join_by, join_load}
 use Rattle.audit_model.specs.Commands.{quits}
-use Rattle.audit_model.specs.Follows.{Follows, after_event, after_steps, known_in, placed_step_in, tasks_in}
+use Rattle.audit_model.specs.Follows.{Follows, after_event, after_steps, placed_step_in, tasks_in}
 use Rattle.audit_model.specs.History.{Effect}
 use Rattle.audit_model.specs.Loads.{key_loaded}
-use Rattle.audit_model.specs.Obeys.{has_right_own_value, is_numbered}
 use Rattle.audit_model.specs.Places.{due, first_due, left_after, steps_of}
 use Rattle.audit_model.specs.Situation.{Situation, Connection, PendingLoad, connection_in, is_overlong, may_run_in, with_connection, with_waiting, without_waiting}
 use Rattle.audit_model.specs.Steps.{Task, Store, is_right}
@@ -24,16 +21,14 @@ use Rattle.audit_model.specs.declared.transcript.Record.{Record}
 use Rattle.audit_model.specs.declared.transcript.Step.{Step}
 use Rattle.audit_laws.specs.Waiting.Sending.{IsSettlingOf, are_all, are_others, are_old_or_later, is_under_way}
 use Rattle.audit_laws.proofs.waiting.Keys.{Sends, sends-right}
+use Rattle.std.proofs.lemmas.Bool.Decides.{nat_tests}
+use Rattle.audit_laws.proofs.Following.{passed}
 
 -- ---- lists of loads
 
 pub all-filter : (p : ℕ → Bool) (q : PendingLoad → Bool) (loads : List PendingLoad) → are_all p loads ≡ true → are_all p (filter q loads) ≡ true
 all-filter p q [] all = refl
-all-filter p q (load ∷ loads) all = let parts = and_parts (p load.number) (are_all p loads) all in go parts.0 (all-filter p q loads parts.1) (q load)
-  where
-    go : p load.number ≡ true → are_all p (filter q loads) ≡ true → (b : Bool) → are_all p (cond b (load ∷ filter q loads) (filter q loads)) ≡ true
-    go here next true = and_from (p load.number) (are_all p (filter q loads)) here next
-    go here next false = next
+all-filter p q (load ∷ loads) all = let parts = and_parts (p load.number) (are_all p loads) all in let next = all-filter p q loads parts.1 in grind (arith, nat_tests, parts.0, next)
 
 pub all-without : (p : ℕ → Bool) (conn : ℕ) (loads : List PendingLoad) → are_all p loads ≡ true → are_all p (map (without_waiting conn) loads) ≡ true
 all-without p conn [] all = refl
@@ -44,11 +39,7 @@ all-joined : (p : ℕ → Bool) (conn : ℕ) (of : List ℕ) (loads : List Pendi
 all-joined p conn of [] all = refl
 all-joined p conn of (load ∷ loads) all =
     let parts = and_parts (p load.number) (are_all p loads) all in
-    and_from (p (with_waiting conn of load).number) (are_all p (map (with_waiting conn of) loads)) (go parts.0 (same load.key of)) (all-joined p conn of loads parts.1)
-  where
-    go : p load.number ≡ true → (b : Bool) → p (if b then record load { waiting = load.waiting ++ conn ∷ [] } else load).number ≡ true
-    go here true = here
-    go here false = here
+    and_from (p (with_waiting conn of load).number) (are_all p (map (with_waiting conn of) loads)) ((elim (cases_Bool (same load.key of)) [ inl e ↦ rw e parts.0 | inr e ↦ rw e parts.0 ])) (all-joined p conn of loads parts.1)
 
 -- each of these loads is one of them
 pub all-own : (p : ℕ → Bool) (loads : List PendingLoad) → ((n : ℕ) → is_under_way n loads ≡ true → p n ≡ true) → are_all p loads ≡ true
@@ -76,12 +67,7 @@ all-from p q r (load ∷ loads) h a b =
 pub all-but : (p : ℕ → Bool) (number : ℕ) (loads : List PendingLoad) → are_all (λ n. n == number || p n) loads ≡ true → are_all p (filter (λ l. not (l.number == number)) loads) ≡ true
 all-but p number [] all = refl
 all-but p number (load ∷ loads) all =
-    let parts = and_parts (load.number == number || p load.number) (are_all (λ n. n == number || p n) loads) all in go (load.number == number) parts.0 (all-but p number loads parts.1)
-  where
-    go : (b : Bool) → (b || p load.number) ≡ true → are_all p (filter (λ l. not (l.number == number)) loads) ≡ true
-        → are_all p (cond (not b) (load ∷ filter (λ l. not (l.number == number)) loads) (filter (λ l. not (l.number == number)) loads)) ≡ true
-    go true here next = next
-    go false here next = and_from (p load.number) (are_all p (filter (λ l. not (l.number == number)) loads)) here next
+    let parts = and_parts (load.number == number || p load.number) (are_all (λ n. n == number || p n) loads) all in let next = all-but p number loads parts.1 in grind (arith, nat_tests, parts.0, next)
 
 -- ---- what passes of the loads under way, and of each that is yet to be sent
 
@@ -96,11 +82,7 @@ passes-join p conn true (Some of) None s sends passes = (passes.0, all-joined p 
 passes-join p conn false (Some of) None s sends passes = passes
 
 passes-put : (p : ℕ → Bool) (quits : Bool) (k : Connection) (s : Situation) → Passes p s → Passes p (with_connection quits k s)
-passes-put p quits k s passes = (passes.0, go (quits || is_overlong k))
-  where
-    go : (b : Bool) → are_all p (if b then map (without_waiting k.number) s.pending else s.pending) ≡ true
-    go true = all-without p k.number s.pending passes.1
-    go false = passes.1
+passes-put p quits k s passes = (passes.0, (elim (cases_Bool (quits || is_overlong k)) [ inl e ↦ rw e (all-without p k.number s.pending passes.1) | inr e ↦ rw e passes.1 ]))
 
 passes-own : (p : ℕ → Bool) (task : Option Task) (step : Step) (effect : Effect) (s : Situation) → Sends (key_loaded effect.action) effect.load s.sent → Passes p s → (o : Option Connection)
     → Passes p (option_map_or (λ c. with_connection (quits effect) (connection_after task step effect c) (join_load step.conn effect s)) o s)
@@ -115,33 +97,17 @@ passes-step config p s task step effect sends passes = passes-own p task step ef
 -- ---- the steps of a record
 
 passes-steps : (config : Config) (p : ℕ → Bool) (s t : Situation) (tasks : List Task) (more : List Step) → Passes p s → after_steps config s tasks more ≡ Some t → Passes p t
-passes-steps config p s t tasks [] passes e = go (is_empty (due (may_run_in s) tasks)) e
-  where
-    go : (b : Bool) → (if b then Some s else None) ≡ Some t → Passes p t
-    go false h = let no : None ≡ Some t = h in cc
-    go true h = subst (λ (u : Situation). Passes p u) (same_Some s t h) passes
+passes-steps config p s t tasks [] passes e = grind (arith, nat_tests, e)
 passes-steps config p s t tasks (step ∷ more) passes e =
-    by-right (λ u left passed h. passes-steps config p u t left more passed h) (due (may_run_in s) tasks) (is_right config (placed_step_in config s (first_due (due (may_run_in s) tasks)) step)) refl e
-  where
-    Next : Type 0
-    Next = (u : Situation) (left : List Task) → Passes p u → after_steps config u left more ≡ Some t → Passes p t
-
-    by-right : Next → (now_due : List Task) → (b : Bool) → is_right config (placed_step_in config s (first_due now_due) step) ≡ b
-        → (if b then after_steps config (after_step config s (first_due now_due) step (placed_step_in config s (first_due now_due) step).effect) (left_after now_due) more else None) ≡ Some t → Passes p t
-    by-right next now_due false is h = let no : None ≡ Some t = h in cc
-    by-right next now_due true is h =
-        next (after_step config s (first_due now_due) step (placed_step_in config s (first_due now_due) step).effect) (left_after now_due)
-        (passes-step config p s (first_due now_due) step (placed_step_in config s (first_due now_due) step).effect (sends-right config s (first_due now_due) step is) passes) h
+    let task = first_due (due (may_run_in s) tasks) in
+    let right = passed (is_right config (placed_step_in config s task step)) _ t e in
+    passes-steps config p (after_step config s task step (placed_step_in config s task step).effect) t (left_after (due (may_run_in s) tasks)) more (passes-step config p s task step _ (sends-right config s task step right.test) passes) right.rest
 
 -- ---- a record
 
 -- by what passes where its steps begin
 passes-from : (config : Config) (p : ℕ → Bool) (s t : Situation) (entry : Record) → Follows config s entry t → Passes p (after_event entry.event s) → Passes p t
-passes-from config p s t entry e passes = go (is_none (refusal_of config (known_in s) entry.event) && is_numbered s.opened entry.event && has_right_own_value entry) e
-  where
-    go : (b : Bool) → (if b then after_steps config (after_event entry.event s) (tasks_in s entry.event) (steps_of entry) else None) ≡ Some t → Passes p t
-    go false h = let no : None ≡ Some t = h in cc
-    go true h = passes-steps config p (after_event entry.event s) t (tasks_in s entry.event) (steps_of entry) passes h
+passes-from config p s t entry e passes = passes-steps config p (after_event entry.event s) t (tasks_in s entry.event) (steps_of entry) passes (passed _ _ _ e).rest
 
 fed-passes : (p : ℕ → Bool) (piece : List ℕ) (u : Situation) → Passes p u → (o : Option Connection) → Passes p (option_map_or (λ c. with_connection false (record c { unread = c.unread ++ piece }) u) o u)
 fed-passes p piece u passes None = passes
@@ -173,13 +139,9 @@ send-later config s t entry e =
     ((λ n above. or_right (is_under_way n s.pending) (nat_lt s.sent n) (lt-ltb s.sent n above)), all-own p s.pending (λ n is. or_left (is_under_way n s.pending) (nat_lt s.sent n) is))).1
 
 -- it is that number, or another
-other-or : (b : Bool) → (b || not b) ≡ true
-other-or true = refl
-other-or false = refl
-
 pub settle : (config : Config) (s t : Situation) (entry : Record) (number : ℕ) → Follows config s entry t → IsSettlingOf number entry.event → number ≤ s.sent → IsTrue (are_others number t.pending)
 settle config s t entry number e is sent =
     let p : ℕ → Bool = λ n. not (n == number) in
     let above : (n : ℕ) → s.sent < n → p n ≡ true = λ n lt. ap not (ne_eqb n number (λ same. absurd (omega (arith, lt, same, sent)))) in
-    let any : (n : ℕ) → (n == number || p n) ≡ true = λ n. other-or (n == number) in
+    let any : (n : ℕ) → (n == number || p n) ≡ true = λ n. grind arith in
     (passes-from config p s t entry e (settled-event p number s entry.event is ((λ n lt. any n), all-own (λ n. n == number || p n) s.pending (λ n under. any n)) above)).1

@@ -1,11 +1,12 @@
 -- Where connections stand after one of them changed.
-use Rattle.std.proofs.Common.{◌≡◌, ℕ, ◌+◌, ◌≤◌, Bool, true, false, not, ◌||◌, ◌==◌, cond, List, [], ◌∷◌, map, Option, Some, None, if◌then◌else◌, refl, sym, ap, ◌∙◌, subst, arith}
+use Rattle.std.proofs.Common.{◌≡◌, ℕ, ◌+◌, ◌≤◌, Bool, true, false, ◌||◌, ◌==◌, List, [], ◌∷◌, map, Option, Some, None, if◌then◌else◌, refl, sym, ap, ◌∙◌, subst, arith}
 use Rattle.std.specs.List.{find}
 use Rattle.std.specs.Option.{option_map_or}
-use Rattle.std.proofs.lemmas.Bool.{eq-eqb, eqb-true}
+use Rattle.std.proofs.lemmas.Bool.{eqb-true}
 use Rattle.audit_model.specs.Situation.{Situation, Connection, connection_in, is_overlong, is_waiting_now, with_connection, without_number, without_waiting}
 use Rattle.audit_laws.specs.Waiting.Tidy.{Tidy, times_in, times_loaded, times_waiting, waits_now}
 use Rattle.audit_laws.proofs.waiting.Counts.{loaded-out, one_if, waiting-others, waiting-out}
+use Rattle.std.proofs.lemmas.Bool.Decides.{nat_tests}
 
 -- whether the connection's `LOAD` waits
 abbrev pub wait_of : Option Connection → ℕ
@@ -13,43 +14,21 @@ wait_of o = option_map_or (λ (k : Connection). one_if (is_waiting_now k.standin
 
 pub few-waits : (o : Option Connection) → wait_of o ≤ 1
 few-waits None = omega arith
-few-waits (Some k) = go (is_waiting_now k.standing)
-  where
-    go : (b : Bool) → one_if b ≤ 1
-    go true = omega arith
-    go false = omega arith
+few-waits (Some k) = grind (arith, nat_tests)
 
 -- the other connections stay
 pub found-apart : (c : ℕ) (k : Connection) (ks : List Connection) → (k.number == c) ≡ false → find (λ x. x.number == c) (map (λ x. if x.number == k.number then k else x) ks) ≡ find (λ x. x.number == c) ks
 found-apart c k [] ne = refl
-found-apart c k (x ∷ xs) ne = go (found-apart c k xs ne) (x.number == k.number) refl
-  where
-    go : find (λ (y : Connection). y.number == c) (map (λ y. if y.number == k.number then k else y) xs) ≡ find (λ y. y.number == c) xs → (b : Bool) → (x.number == k.number) ≡ b
-        → cond ((if b then k else x).number == c) (Some (if b then k else x)) (find (λ y. y.number == c) (map (λ y. if y.number == k.number then k else y) xs)) ≡ cond (x.number == c) (Some x) (find (λ y. y.number == c) xs)
-    go next true e =
-        ap (λ b. cond b (Some k) (find (λ y. y.number == c) (map (λ y. if y.number == k.number then k else y) xs))) ne ∙ next
-        ∙ sym (ap (λ b. cond b (Some x) (find (λ y. y.number == c) xs)) (ap (λ n. n == c) (eqb-true x.number k.number e) ∙ ne))
-    go next false e = ap (λ o. cond (x.number == c) (Some x) o) next
+found-apart c k (x ∷ xs) ne = let next = found-apart c k xs ne in grind (arith, nat_tests, next)
 
 pub found-left : (c n : ℕ) (ks : List Connection) → (n == c) ≡ false → find (λ x. x.number == c) (without_number n ks) ≡ find (λ x. x.number == c) ks
 found-left c n [] ne = refl
-found-left c n (x ∷ xs) ne = go (found-left c n xs ne) (x.number == n) refl
-  where
-    go : find (λ (y : Connection). y.number == c) (without_number n xs) ≡ find (λ y. y.number == c) xs → (b : Bool) → (x.number == n) ≡ b
-        → find (λ y. y.number == c) (cond (not b) (x ∷ without_number n xs) (without_number n xs)) ≡ cond (x.number == c) (Some x) (find (λ y. y.number == c) xs)
-    go next true e = next ∙ sym (ap (λ b. cond b (Some x) (find (λ y. y.number == c) xs)) (ap (λ k. k == c) (eqb-true x.number n e) ∙ ne))
-    go next false e = ap (λ o. cond (x.number == c) (Some x) o) next
+found-left c n (x ∷ xs) ne = let next = found-left c n xs ne in grind (arith, nat_tests, next)
 
 -- the connection itself is the new one
 pub found-own : (k c : Connection) (ks : List Connection) → find (λ x. x.number == k.number) ks ≡ Some c → find (λ x. x.number == k.number) (map (λ x. if x.number == k.number then k else x) ks) ≡ Some k
 found-own k c [] e = let no : None ≡ Some c = e in cc
-found-own k c (x ∷ xs) e = go (λ h. found-own k c xs h) (x.number == k.number) refl e
-  where
-    go : (find (λ (y : Connection). y.number == k.number) xs ≡ Some c → find (λ y. y.number == k.number) (map (λ y. if y.number == k.number then k else y) xs) ≡ Some k)
-        → (b : Bool) → (x.number == k.number) ≡ b → cond b (Some x) (find (λ y. y.number == k.number) xs) ≡ Some c
-        → cond ((if b then k else x).number == k.number) (Some (if b then k else x)) (find (λ y. y.number == k.number) (map (λ y. if y.number == k.number then k else y) xs)) ≡ Some k
-    go next true is h = ap (λ b. cond b (Some k) (find (λ y. y.number == k.number) (map (λ y. if y.number == k.number then k else y) xs))) (eq-eqb k.number k.number refl)
-    go next false is h = ap (λ b. cond b (Some x) (find (λ y. y.number == k.number) (map (λ y. if y.number == k.number then k else y) xs))) is ∙ next h
+found-own k c (x ∷ xs) e = let next = found-own k c xs in grind (arith, nat_tests, next, e)
 
 -- a connection that is not named, and is put in its place again: the loads may be joined by it, once where its `LOAD` waits
 pub put-tidy : (told : List ℕ) (s t : Situation) (n : ℕ) (c k : Connection) (quits : Bool) → connection_in n s ≡ Some c → k.number ≡ n → Tidy told s

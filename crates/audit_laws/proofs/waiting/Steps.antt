@@ -1,10 +1,9 @@
 -- Steps of one connection that alone waits.
-use Rattle.std.proofs.Common.{◌≡◌, ℕ, Bool, true, false, not, ◌||◌, ◌==◌, cond, List, [], ◌∷◌, ◌++◌, map, Option, Some, None, if◌then◌else◌, refl, sym, ◌∙◌, subst}
+use Rattle.std.proofs.Common.{inr, inl, arith, ◌≡◌, ℕ, Bool, true, false, not, ◌||◌, ◌==◌, List, [], ◌∷◌, ◌++◌, map, Option, Some, None, if◌then◌else◌, refl, sym, ◌∙◌, subst}
 use Rattle.std.specs.List.{filter}
 use Rattle.std.specs.Option.{option_map_or}
-use Rattle.std.proofs.lemmas.Bool.{and_parts, eqb-true}
-use Rattle.std.proofs.lemmas.Option.{same_Some}
-use Rattle.audit_model.specs.Bytewise.{same, is_empty}
+use Rattle.std.proofs.lemmas.Bool.{cond_both, cases_Bool, and_parts, eqb-true}
+use Rattle.audit_model.specs.Bytewise.{same}
 use Rattle.audit_model.specs.Changes.{after_step, connection_after, join_by, join_load}
 use Rattle.audit_model.specs.Commands.{quits}
 use Rattle.audit_model.specs.Follows.{after_steps, placed_step_in}
@@ -17,16 +16,14 @@ use Rattle.audit_model.specs.Loads.{key_loaded}
 use Rattle.audit_model.specs.declared.config.Config.{Config}
 use Rattle.audit_model.specs.declared.transcript.Step.{Step}
 use Rattle.audit_laws.specs.Waiting.Alone.{AreAll, StepsOf, WaitsAlone}
+use Rattle.std.proofs.lemmas.Bool.Decides.{nat_tests}
+use Rattle.audit_laws.proofs.Following.{passed}
 
 -- ---- lists
 
 pub all-filter : (conn : ℕ) (p : ℕ → Bool) (cs : List ℕ) → AreAll conn cs → AreAll conn (filter p cs)
 all-filter conn p [] all = tt
-all-filter conn p (c ∷ cs) all = go (all-filter conn p cs all.1) (p c)
-  where
-    go : AreAll conn (filter p cs) → (b : Bool) → AreAll conn (cond b (c ∷ filter p cs) (filter p cs))
-    go next true = (all.0, next)
-    go next false = next
+all-filter conn p (c ∷ cs) all = let next = all-filter conn p cs all.1 in grind (arith, nat_tests, next)
 
 pub all-more : (conn : ℕ) (cs : List ℕ) → AreAll conn cs → AreAll conn (cs ++ conn ∷ [])
 all-more conn [] all = (refl, tt)
@@ -34,11 +31,7 @@ all-more conn (c ∷ cs) all = (all.0, all-more conn cs all.1)
 
 pub alone-filter : (conn : ℕ) (p : PendingLoad → Bool) (loads : List PendingLoad) → WaitsAlone conn loads → WaitsAlone conn (filter p loads)
 alone-filter conn p [] alone = tt
-alone-filter conn p (load ∷ loads) alone = go (alone-filter conn p loads alone.1) (p load)
-  where
-    go : WaitsAlone conn (filter p loads) → (b : Bool) → WaitsAlone conn (cond b (load ∷ filter p loads) (filter p loads))
-    go next true = (alone.0, next)
-    go next false = next
+alone-filter conn p (load ∷ loads) alone = let next = alone-filter conn p loads alone.1 in grind (arith, nat_tests, next)
 
 pub alone-without : (conn n : ℕ) (loads : List PendingLoad) → WaitsAlone conn loads → WaitsAlone conn (map (without_waiting n) loads)
 alone-without conn n [] alone = tt
@@ -46,11 +39,7 @@ alone-without conn n (load ∷ loads) alone = (all-filter conn (λ c. not (c == 
 
 alone-joined : (conn : ℕ) (key : List ℕ) (loads : List PendingLoad) → WaitsAlone conn loads → WaitsAlone conn (map (with_waiting conn key) loads)
 alone-joined conn key [] alone = tt
-alone-joined conn key (load ∷ loads) alone = (go (same load.key key), alone-joined conn key loads alone.1)
-  where
-    go : (b : Bool) → AreAll conn (if b then record load { waiting = load.waiting ++ conn ∷ [] } else load).waiting
-    go true = all-more conn load.waiting alone.0
-    go false = alone.0
+alone-joined conn key (load ∷ loads) alone = ((elim (cases_Bool (same load.key key)) [ inl e ↦ rw e (all-more conn load.waiting alone.0) | inr e ↦ rw e alone.0 ]), alone-joined conn key loads alone.1)
 
 -- ---- a step
 
@@ -61,11 +50,7 @@ alone-join conn true (Some key) None s alone = alone-joined conn key s.pending a
 alone-join conn false (Some key) None s alone = alone
 
 pub alone-put : (conn : ℕ) (quits : Bool) (k : Connection) (s : Situation) → WaitsAlone conn s.pending → WaitsAlone conn (with_connection quits k s).pending
-alone-put conn quits k s alone = go (quits || is_overlong k)
-  where
-    go : (b : Bool) → WaitsAlone conn (if b then map (without_waiting k.number) s.pending else s.pending)
-    go true = alone-without conn k.number s.pending alone
-    go false = alone
+alone-put conn quits k s alone = cond_both (quits || is_overlong k) _ _ (WaitsAlone conn) (λ _. alone-without conn k.number s.pending alone) (λ _. alone)
 
 alone-own : (conn : ℕ) (task : Option Task) (step : Step) (effect : Effect) (s : Situation) → step.conn ≡ conn → WaitsAlone conn s.pending → (o : Option Connection)
     → WaitsAlone conn (option_map_or (λ c. with_connection (quits effect) (connection_after task step effect c) (join_load step.conn effect s)) o s).pending
@@ -113,11 +98,7 @@ due-of conn may (Store key outcome ∷ tasks) all = all
 due-of conn may (Deliver c outcome ∷ tasks) all = all
 due-of conn may (RunAgain c ∷ tasks) all = all
 due-of conn may (RunHeld c ∷ tasks) all = all
-due-of conn may (RunLines c ∷ tasks) all = go (due-of conn may tasks all.1) (may c)
-  where
-    go : TasksOf conn (due may tasks) → (b : Bool) → TasksOf conn (if b then RunLines c ∷ tasks else due may tasks)
-    go next true = all
-    go next false = next
+due-of conn may (RunLines c ∷ tasks) all = let next = due-of conn may tasks all.1 in grind (arith, nat_tests, next)
 
 pub left-of : (conn : ℕ) (task : Task) (rest : List Task) → TasksOf conn (task ∷ rest) → TasksOf conn (left_after (task ∷ rest))
 left-of conn (Store key outcome) rest all = absurd all.0
@@ -135,26 +116,14 @@ after_one config s now_due step more =
     if is_right config placed then after_steps config (after_step config s placed.task step placed.effect) (left_after now_due) more else None
 
 pub alone-steps : (config : Config) (conn : ℕ) (s t : Situation) (tasks : List Task) (more : List Step) → TasksOf conn tasks → WaitsAlone conn s.pending → after_steps config s tasks more ≡ Some t → StepsOf conn more × WaitsAlone conn t.pending
-alone-steps config conn s t tasks [] all alone e = go (is_empty (due (may_run_in s) tasks)) e
-  where
-    go : (b : Bool) → (if b then Some s else None) ≡ Some t → Unit {0} × WaitsAlone conn t.pending
-    go false h = let no : None ≡ Some t = h in cc
-    go true h = (tt, subst (λ (u : Situation). WaitsAlone conn u.pending) (same_Some s t h) alone)
+alone-steps config conn s t tasks [] all alone e = grind (arith, nat_tests, e)
 alone-steps config conn s t tasks (step ∷ more) all alone e =
     by-due (λ u left of waits h. alone-steps config conn u t left more of waits h) (due (may_run_in s) tasks) (due-of conn (may_run_in s) tasks all) e
   where
     Next : Type 0
     Next = (u : Situation) (left : List Task) → TasksOf conn left → WaitsAlone conn u.pending → after_steps config u left more ≡ Some t → StepsOf conn more × WaitsAlone conn t.pending
 
-    by-right : Next → (task : Task) (rest : List Task) → TasksOf conn (task ∷ rest) → (b : Bool) → is_right config (placed_step_in config s (Some task) step) ≡ b
-        → (if b then after_steps config (after_step config s (Some task) step (placed_step_in config s (Some task) step).effect) (left_after (task ∷ rest)) more else None) ≡ Some t → StepsOf conn (step ∷ more) × WaitsAlone conn t.pending
-    by-right next task rest of false is h = let no : None ≡ Some t = h in cc
-    by-right next task rest of true is h =
-        let own = step-of config conn s task step of.0 is in
-        let behind = next (after_step config s (Some task) step (placed_step_in config s (Some task) step).effect) (left_after (task ∷ rest)) (left-of conn task rest of)
-        (alone-step config conn s task step (placed_step_in config s (Some task) step).effect of.0 own alone) h in
-        ((own, behind.0), behind.1)
-
     by-due : Next → (ts : List Task) → TasksOf conn ts → after_one config s ts step more ≡ Some t → StepsOf conn (step ∷ more) × WaitsAlone conn t.pending
     by-due next [] of h = let no : None ≡ Some t = h in cc
-    by-due next (task ∷ rest) of h = by-right next task rest of (is_right config (placed_step_in config s (Some task) step)) refl h
+    by-due next (task ∷ rest) of h =
+        let own = step-of config conn s task step of.0 (passed _ _ _ h).test in let behind = next (after_step config s (Some task) step (placed_step_in config s (Some task) step).effect) (left_after (task ∷ rest)) (left-of conn task rest of) (alone-step config conn s task step (placed_step_in config s (Some task) step).effect of.0 own alone) (passed _ _ _ h).rest in ((own, behind.0), behind.1)

@@ -1,5 +1,5 @@
 -- A step that is right, and who waits after it.
-use Rattle.std.proofs.Common.{◌≡◌, ℕ, suc, ◌≤◌, Bool, true, false, not, ◌&&◌, ◌||◌, ◌==◌, cond, List, [], ◌∷◌, ◌++◌, Option, Some, None, if◌then◌else◌, refl, sym, ap, ◌∙◌, subst, arith}
+use Rattle.std.proofs.Common.{◌≡◌, ℕ, suc, ◌≤◌, Bool, true, false, not, ◌&&◌, ◌||◌, ◌==◌, List, [], ◌∷◌, ◌++◌, Option, Some, None, if◌then◌else◌, refl, sym, ap, ◌∙◌, subst, arith}
 use Rattle.std.specs.Prelude.{codes, is_none, is_some, nat_eq}
 use Rattle.std.specs.List.{find}
 use Rattle.std.specs.Option.{option_eq, option_map, option_map_or}
@@ -21,6 +21,7 @@ use Rattle.audit_model.specs.declared.transcript.Step.{Step}
 use Rattle.audit_laws.specs.Waiting.Tidy.{SuitsTask, Tidy, times_in, times_loaded, times_waiting, told_of_load, waits_now}
 use Rattle.audit_laws.proofs.waiting.Counts.{joined-others, joined-own, loaded-joined, loaded-more, none-loaded, one_if}
 use Rattle.audit_laws.proofs.waiting.Standing.{few-waits, put-tidy, wait_of}
+use Rattle.std.proofs.lemmas.Bool.Decides.{nat_tests}
 
 -- ---- what a step does to the loads
 
@@ -118,11 +119,7 @@ sent-fact config s held effect number replies loads sent = go effect.action repl
 
 pub found-number : (n : ℕ) (ks : List Connection) (c : Connection) → find (λ k. k.number == n) ks ≡ Some c → c.number ≡ n
 found-number n [] c e = let no : None ≡ Some c = e in cc
-found-number n (k ∷ ks) c e = go (λ h. found-number n ks c h) (k.number == n) refl e
-  where
-    go : (find (λ (x : Connection). x.number == n) ks ≡ Some c → c.number ≡ n) → (b : Bool) → (k.number == n) ≡ b → cond b (Some k) (find (λ (x : Connection). x.number == n) ks) ≡ Some c → c.number ≡ n
-    go next true is h = sym (ap (λ (x : Connection). x.number) (same_Some k c h)) ∙ eqb-true k.number n is
-    go next false is h = next h
+found-number n (k ∷ ks) c e = let next = found-number n ks c in grind (arith, nat_tests, next, e)
 
 -- what is left to be told stays tidy, where its own connection was not to be told
 own-step : (task : Task) (step : Step) (effect : Effect) (told rest : List ℕ) (s t : Situation) → t.connections ≡ s.connections → t.pending ≡ s.pending → Tidy told s → ((d : ℕ) → times_in d rest ≤ times_in d told)

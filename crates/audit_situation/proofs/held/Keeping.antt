@@ -1,7 +1,7 @@
 -- What a change of the values held does to their representation.
-use Rattle.std.proofs.Common.{◌≡◌, refl, ap, ◌∙◌, sym, subst, ℕ, zero, suc, ◌+◌, ◌-◌, ◌<◌, ◌≤◌, ◌==◌, Bool, true, false, cond, not, ◌&&◌, ◌||◌, nat_lt, nat_le, nat_eq, List, [], ◌∷◌, ◌++◌, map, length, get_or, set, replicate, Option, option_map, Some, None, Result, Ok, Err, OnOk, OnErr, if◌then◌else◌, arith}
+use Rattle.std.proofs.Common.{inr, inl, ◌≡◌, refl, ap, ◌∙◌, sym, subst, ℕ, zero, suc, ◌+◌, ◌-◌, ◌<◌, ◌≤◌, ◌==◌, Bool, true, false, cond, not, ◌&&◌, ◌||◌, nat_lt, nat_le, nat_eq, List, [], ◌∷◌, ◌++◌, map, length, get_or, set, replicate, Option, option_map, Some, None, Result, Ok, Err, OnOk, OnErr, if◌then◌else◌, arith}
 use Rattle.std.specs.List.{find, list_all, starts_with, sum_by}
-use Rattle.std.proofs.lemmas.Bool.{and_parts, and_from, eqb-true, eq-eqb}
+use Rattle.std.proofs.lemmas.Bool.{cond_both, cases_Bool, and_parts, and_from, eqb-true, eq-eqb}
 use Rattle.std.proofs.lemmas.Bool.Decides.{nat_tests}
 use Rattle.std.proofs.lemmas.List.{map-append, length-set, get_or-set_same, get_or-set_other}
 use Rattle.std.proofs.lemmas.List.Folds.{list_all-append}
@@ -22,28 +22,16 @@ use Rattle.audit_situation.proofs.held.Weighing.{weight-push, weight-without, su
 
 pub find-map : {X Y : Type 0} (f : X → Y) (p : Y → Bool) (xs : List X) → find p (map f xs) ≡ option_map f (find (λ x. p (f x)) xs)
 find-map f p [] = refl
-find-map f p (x ∷ xs) = go (p (f x)) (find-map f p xs)
-  where
-    go : (b : Bool) → find p (map f xs) ≡ option_map f (find (λ x. p (f x)) xs) → cond b (Some (f x)) (find p (map f xs)) ≡ option_map f (cond b (Some x) (find (λ x. p (f x)) xs))
-    go true e = refl
-    go false e = e
+find-map f p (x ∷ xs) = let next = find-map f p xs in grind (arith, next)
 
 pub without-map : {X Y : Type 0} (f : X → Y) (key_of : Y → List ℕ) (key : List ℕ) (xs : List X) → without_key key_of key (map f xs) ≡ map f (without_key (λ x. key_of (f x)) key xs)
 without-map f key_of key [] = refl
-without-map f key_of key (x ∷ xs) = go (same key (key_of (f x))) (without-map f key_of key xs)
-  where
-    go : (b : Bool) → without_key key_of key (map f xs) ≡ map f (without_key (λ x. key_of (f x)) key xs)
-        → cond b (map f xs) (f x ∷ without_key key_of key (map f xs)) ≡ map f (cond b xs (x ∷ without_key (λ x. key_of (f x)) key xs))
-    go true e = refl
-    go false e = ap (λ ys. f x ∷ ys) e
+without-map f key_of key (x ∷ xs) = let next = without-map f key_of key xs in grind (arith, next)
 
 all-without : {X : Type 0} (p : X → Bool) (key_of : X → List ℕ) (key : List ℕ) (xs : List X) → list_all p xs ≡ true → list_all p (without_key key_of key xs) ≡ true
 all-without p key_of key [] h = refl
-all-without p key_of key (x ∷ xs) h = go (same key (key_of x)) (and_parts (p x) (list_all p xs) h).0 (and_parts (p x) (list_all p xs) h).1 (all-without p key_of key xs (and_parts (p x) (list_all p xs) h).1)
-  where
-    go : (b : Bool) → p x ≡ true → list_all p xs ≡ true → list_all p (without_key key_of key xs) ≡ true → list_all p (cond b xs (x ∷ without_key key_of key xs)) ≡ true
-    go true a b c = b
-    go false a b c = and_from _ _ a c
+all-without p key_of key (x ∷ xs) h =
+    cond_both (same key (key_of x)) _ _ (λ z. list_all p z ≡ true) (λ _. (and_parts (p x) (list_all p xs) h).1) (λ _. and_from _ _ (and_parts (p x) (list_all p xs) h).0 (all-without p key_of key xs (and_parts (p x) (list_all p xs) h).1))
 
 -- two changes that agree on all that pass
 map-all : {X Y : Type 0} (p : X → Bool) (f g : X → Y) (xs : List X) → list_all p xs ≡ true → ((x : X) → p x ≡ true → f x ≡ g x) → map f xs ≡ map g xs
@@ -56,11 +44,11 @@ map-through f g (x ∷ xs) = ap (λ ys. g (f x) ∷ ys) (map-through f g xs)
 
 found-all : {X : Type 0} (p q : X → Bool) (xs : List X) (x : X) → list_all p xs ≡ true → find q xs ≡ Some x → p x ≡ true
 found-all p q [] x h e = absurd (none-some x e)
-found-all p q (y ∷ xs) x h e = go (q y) e (and_parts (p y) (list_all p xs) h).0 (found-all p q xs x (and_parts (p y) (list_all p xs) h).1)
-  where
-    go : (b : Bool) → cond b (Some y) (find q xs) ≡ Some x → p y ≡ true → (find q xs ≡ Some x → p x ≡ true) → p x ≡ true
-    go true e a ih = let is : y ≡ x = cc in subst (λ z. p z ≡ true) is a
-    go false e a ih = ih e
+found-all p q (y ∷ xs) x h e =
+    elim (cases_Bool (q y)) [
+      | inl t ↦ let is : y ≡ x = cc in subst (λ z. p z ≡ true) is (and_parts (p y) (list_all p xs) h).0
+      | inr t ↦ (found-all p q xs x (and_parts (p y) (list_all p xs) h).1) (rw t at e)
+    ]
 
 all-more : {X : Type 0} (p q : X → Bool) (xs : List X) → ((x : X) → p x ≡ true → q x ≡ true) → list_all p xs ≡ true → list_all q xs ≡ true
 all-more p q [] k h = refl
@@ -384,12 +372,7 @@ keeps-more next opens marks weights total slots k s held after more sums sum is 
 pub view-beside : (after before : Open) (marks : List ℕ) (key : List ℕ) (slots : List HeldSlot) → ((q : List ℕ) → same key q ≡ false → is_open_key q after ≡ is_open_key q before) → slot_at key slots ≡ None
     → map (held_by after marks) slots ≡ map (held_by before marks) slots
 view-beside after before marks key [] others e = refl
-view-beside after before marks key (s ∷ slots) others e = go (same key s.value.key) refl e (view-beside after before marks key slots others)
-  where
-    go : (b : Bool) → same key s.value.key ≡ b → cond b (Some s) (slot_at key slots) ≡ None → (slot_at key slots ≡ None → map (held_by after marks) slots ≡ map (held_by before marks) slots)
-        → map (held_by after marks) (s ∷ slots) ≡ map (held_by before marks) (s ∷ slots)
-    go true is e ih = absurd (none-some s (sym e))
-    go false is e ih = ap (λ b. record (held_by before marks s) { covered = not b } ∷ map (held_by after marks) slots) (others s.value.key is) ∙ ap (λ hs. held_by before marks s ∷ hs) (ih e)
+view-beside after before marks key (s ∷ slots) others e = let next = view-beside after before marks key slots others in grind (arith, e, next)
 
 -- where the keys that begin so were closed, their values are covered
 pub view-covered : (after before : Open) (marks : List ℕ) (prefix : List ℕ) (slots : List HeldSlot) → ((q : List ℕ) → is_open_key q after ≡ (not (starts_with nat_eq q prefix) && is_open_key q before))
@@ -422,8 +405,4 @@ found-key key slots s e = (bytes_eq-Decides key s.value.key).0 (go slots e)
   where
     go : (xs : List HeldSlot) → slot_at key xs ≡ Some s → same key s.value.key ≡ true
     go [] e = absurd (none-some s e)
-    go (x ∷ xs) e = step (same key x.value.key) refl e (go xs)
-      where
-        step : (b : Bool) → same key x.value.key ≡ b → cond b (Some x) (slot_at key xs) ≡ Some s → (slot_at key xs ≡ Some s → same key s.value.key ≡ true) → same key s.value.key ≡ true
-        step true is e ih = let own : x ≡ s = cc in subst (λ (y : HeldSlot). same key y.value.key ≡ true) own is
-        step false is e ih = ih e
+    go (x ∷ xs) e = let next = go xs in grind (arith, e, next)

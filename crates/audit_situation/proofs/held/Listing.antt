@@ -1,12 +1,12 @@
 -- A table's entries as slots.
-use Rattle.std.proofs.Common.{◌≡◌, ℕ, suc, ◌==◌, Bool, cond, true, false, not, nat_lt, List, [], ◌∷◌, ◌++◌, map, length, Option, option_map, Some, None, Result, Ok, Err, OnOk, OnErr, Bor, refl, sym, ap, ◌∙◌, arith, if◌then◌else◌}
+use Rattle.std.proofs.Common.{inr, inl, ◌≡◌, ℕ, suc, ◌==◌, Bool, cond, true, false, not, nat_lt, List, [], ◌∷◌, ◌++◌, map, length, Option, option_map, Some, None, Result, Ok, Err, OnOk, OnErr, Bor, refl, sym, ap, ◌∙◌, arith, if◌then◌else◌}
 use Rattle.std.specs.Option.{option_copied}
 use Rattle.std.specs.Map.{keys_of, lookup, lookup_key, set_value}
 use Rattle.std.specs.List.{find, list_all}
 use Rattle.std.specs.declared.vec.Vec.{Vec}
 use Rattle.std.specs.declared.alloc.Global.{Global}
 use Rattle.std.proofs.lemmas.Option.{none-some}
-use Rattle.std.proofs.lemmas.Bool.{not-true, and_parts, and_from, false_from_ne_true, both_ways, ltb-true, le-ltb, ne_eqb}
+use Rattle.std.proofs.lemmas.Bool.{cases_Bool, not-true, and_parts, and_from, false_from_ne_true, both_ways, ltb-true, le-ltb, ne_eqb}
 use Rattle.std.proofs.lemmas.List.{map-append}
 use Rattle.std.proofs.lemmas.Slice.Eq.{bytes_eq-Decides}
 use Rattle.indexmap.specs.IndexMap.{insert_entry, swap_remove_entry}
@@ -16,6 +16,7 @@ use Rattle.audit_situation.specs.Held.Slots.{HeldSlot, Entry, slot_of, slots_of,
 use Rattle.audit_situation.specs.declared.held.kept.StoredValue.{StoredValue}
 use Rattle.audit_situation.proofs.Ranked.{flip, swap_out, swapped_is, swap_out-map, none-found, found-none, none-out, apart-snoc, apart-out, apart-map, gone-out, rising, ranked-find, ranked-all, all-ranked, ranked-length, ranked-map, ranked-newest_last, swapped-out, found-passes}
 use Rattle.audit_situation.proofs.held.Pushing.{without-none}
+use Rattle.std.proofs.lemmas.Bool.Decides.{nat_tests}
 
 abbrev pub is_at : List ℕ → Vec ℕ Global → Bool
 is_at key v = same key v.items
@@ -56,12 +57,7 @@ stamps-apart es a = apart-map item_of (λ s t. s.stamp == t.stamp) es ∙ a
 
 lookup_is : (key : List ℕ) (es : List Entry) → option_map (slot_of key) (lookup (is_at key) es) ≡ slot_at key (slots_of es)
 lookup_is key [] = refl
-lookup_is key (e ∷ es) = go (same key e.0.items) refl (lookup_is key es)
-  where
-    go : (b : Bool) → same key e.0.items ≡ b → option_map (slot_of key) (lookup (is_at key) es) ≡ slot_at key (slots_of es)
-        → option_map (slot_of key) (cond b (Some e.1) (lookup (is_at key) es)) ≡ cond b (Some (item_of e)) (slot_at key (slots_of es))
-    go true h ih = ap (λ k. Some (slot_of k e.1)) (equal key e.0.items h)
-    go false h ih = ih
+lookup_is key (e ∷ es) = elim (cases_Bool (same key e.0.items)) [ inl is ↦ rw is (ap (λ k. Some (slot_of k e.1)) (equal key e.0.items is)) | inr is ↦ rw is (lookup_is key es) ]
 
 pub found_is : (key : List ℕ) (es : List Entry) → have_keys_apart es ≡ true → option_map (slot_of key) (lookup (is_at key) es) ≡ slot_at key (oldest_first (slots_of es))
 found_is key es a = lookup_is key es ∙ sym (ranked-find nat_lt (λ s. s.stamp) same_keys (of_key key) (passes key) (slots_of es) (slots-apart es a))
@@ -73,11 +69,7 @@ lent_is key es (Some k) a e = ap (option_map (slot_of key)) e ∙ found_is key e
 
 key-found : (key : List ℕ) (es : List Entry) (k : Vec ℕ Global) → lookup_key (is_at key) es ≡ Some k → same key k.items ≡ true
 key-found key [] k e = absurd (none-some k e)
-key-found key (d ∷ es) k e = go (same key d.0.items) refl e (key-found key es k)
-  where
-    go : (b : Bool) → same key d.0.items ≡ b → cond b (Some d.0) (lookup_key (is_at key) es) ≡ Some k → (lookup_key (is_at key) es ≡ Some k → same key k.items ≡ true) → same key k.items ≡ true
-    go true h e ih = let is : d.0 ≡ k = cc in ap (λ v. same key v.items) (sym is) ∙ h
-    go false h e ih = ih e
+key-found key (d ∷ es) k e = let next = key-found key es k in grind (arith, nat_tests, e, next)
 
 -- what a removal gives
 pub taken_is : (key : List ℕ) (es : List Entry) (r : Option Entry) → have_keys_apart es ≡ true → option_map (λ e. e.0) r ≡ lookup_key (is_at key) es → option_map (λ e. e.1) r ≡ lookup (is_at key) es → option_map item_of r ≡ slot_at key (oldest_first (slots_of es))
@@ -86,11 +78,7 @@ taken_is key es (Some e) a k v = ap (λ n. Some (slot_of n e.1)) (sym (equal key
 
 none-lookup : (key : List ℕ) (es : List Entry) → slot_at key (slots_of es) ≡ None → lookup (is_at key) es ≡ None
 none-lookup key [] n = refl
-none-lookup key (e ∷ es) n = go (same key e.0.items) n (none-lookup key es)
-  where
-    go : (b : Bool) → cond b (Some (item_of e)) (slot_at key (slots_of es)) ≡ None → (slot_at key (slots_of es) ≡ None → lookup (is_at key) es ≡ None) → cond b (Some e.1) (lookup (is_at key) es) ≡ None
-    go true n ih = absurd (none-some (item_of e) (sym n))
-    go false n ih = ih n
+none-lookup key (e ∷ es) n = let next = none-lookup key es in grind (arith, nat_tests, n, next)
 
 pub none-there : (key : List ℕ) (es : List Entry) → slot_at key (oldest_first (slots_of es)) ≡ None → lookup (is_at key) es ≡ None
 none-there key es n = none-lookup key es (none-found (of_key key) (slots_of es) (all-ranked nat_lt (λ s. s.stamp) (λ s. not (of_key key s)) (slots_of es) (found-none (of_key key) (oldest_first (slots_of es)) n)))
@@ -110,11 +98,10 @@ without-put : (key : List ℕ) (z : HeldSlot) (l : List HeldSlot) → of_key key
 without-put key z [] h n = ap (λ b. if b then [] else z ∷ []) h
 without-put key z (y ∷ ys) h n =
     let s = and_parts (not (of_key key y)) (list_all (λ s. not (of_key key s)) ys) n in
-    go (nat_lt z.stamp y.stamp) (not-true _ s.0) (without-put key z ys h s.1)
-  where
-    go : (b : Bool) → of_key key y ≡ false → slots_without key (put_ranked nat_lt (λ s. s.stamp) z ys) ≡ ys → slots_without key (if b then z ∷ y ∷ ys else y ∷ put_ranked nat_lt (λ s. s.stamp) z ys) ≡ y ∷ ys
-    go true f ih = ap (λ b. if b then y ∷ ys else z ∷ slots_without key (y ∷ ys)) h
-    go false f ih = ap (λ b. if b then put_ranked nat_lt (λ s. s.stamp) z ys else y ∷ slots_without key (put_ranked nat_lt (λ s. s.stamp) z ys)) f ∙ ap (λ l. y ∷ l) ih
+    elim (cases_Bool (nat_lt z.stamp y.stamp)) [
+      | inl e ↦ rw e (ap (λ b. if b then y ∷ ys else z ∷ slots_without key (y ∷ ys)) h)
+      | inr e ↦ rw e (ap (λ b. if b then put_ranked nat_lt (λ s. s.stamp) z ys else y ∷ slots_without key (put_ranked nat_lt (λ s. s.stamp) z ys)) (not-true _ s.0) ∙ ap (λ l. y ∷ l) (without-put key z ys h s.1))
+    ]
 
 left : (key : List ℕ) (slots : List HeldSlot) → are_apart same_keys slots ≡ true → are_apart (λ s t. s.stamp == t.stamp) slots ≡ true → oldest_first (swap_out (of_key key) slots) ≡ slots_without key (oldest_first slots)
 left key slots a b = go (find (of_key key) slots) refl
@@ -140,11 +127,7 @@ gone key es a b =
 -- ---- an entry used
 
 keeps-stamp : (key : List ℕ) (now : ℕ) (s : HeldSlot) → (slot_used_at key now s).stamp ≡ s.stamp
-keeps-stamp key now s = go (same key s.value.key)
-  where
-    go : (b : Bool) → (if b then record s { last_use = now } else s).stamp ≡ s.stamp
-    go true = refl
-    go false = refl
+keeps-stamp key now s = grind (arith, nat_tests)
 
 unused : (key : List ℕ) (now : ℕ) (slots : List HeldSlot) → list_all (λ s. not (of_key key s)) slots ≡ true → map (slot_used_at key now) slots ≡ slots
 unused key now [] n = refl
@@ -163,22 +146,16 @@ used : (key : List ℕ) (now : ℕ) (es : List Entry) (kept : StoredValue) → h
 used key now [] kept a f = absurd (none-some kept f)
 used key now (e ∷ es) kept a f =
     let parts = and_parts (list_all (λ d. not (same e.0.items d.0.items)) es) (have_keys_apart es) a in
-    go (same key e.0.items) refl parts.0 f (used key now es kept parts.1)
+    elim (cases_Bool (same key e.0.items)) [
+      | inl t ↦ rw t (let is : e.1 ≡ kept = cc in ap (λ (k : StoredValue). slot_of e.0.items (record k { last_use = now }) ∷ slots_of es) (sym is) ∙ ap (λ l. record (item_of e) { last_use = now } ∷ l) (sym (unused key now (slots_of es) (others t es parts.0))))
+      | inr t ↦ rw t (ap (λ l. item_of e ∷ l) ((used key now es kept parts.1) (rw t at f)))
+    ]
   where
     others : same key e.0.items ≡ true → (ds : List Entry) → list_all (λ d. not (same e.0.items d.0.items)) ds ≡ true → list_all (λ s. not (of_key key s)) (slots_of ds) ≡ true
     others h [] n = refl
     others h (d ∷ ds) n =
         let parts = and_parts (not (same e.0.items d.0.items)) (list_all (λ d. not (same e.0.items d.0.items)) ds) n in
         and_from _ _ (ap (λ k. not (same k d.0.items)) (equal key e.0.items h) ∙ parts.0) (others h ds parts.1)
-
-    go : (b : Bool) → same key e.0.items ≡ b → list_all (λ d. not (same e.0.items d.0.items)) es ≡ true → cond b (Some e.1) (lookup (is_at key) es) ≡ Some kept
-        → (lookup (is_at key) es ≡ Some kept → slots_of (set_value (is_at key) es (record kept { last_use = now })) ≡ map (slot_used_at key now) (slots_of es))
-        → slots_of (cond b ((e.0, record kept { last_use = now }) ∷ es) (e ∷ set_value (is_at key) es (record kept { last_use = now }))) ≡ cond b (record (item_of e) { last_use = now }) (item_of e) ∷ map (slot_used_at key now) (slots_of es)
-    go true h n f ih =
-        let is : e.1 ≡ kept = cc in
-        ap (λ (k : StoredValue). slot_of e.0.items (record k { last_use = now }) ∷ slots_of es) (sym is)
-        ∙ ap (λ l. record (item_of e) { last_use = now } ∷ l) (sym (unused key now (slots_of es) (others h es n)))
-    go false h n f ih = ap (λ l. item_of e ∷ l) (ih f)
 
 pub used_is : (key : List ℕ) (now : ℕ) (es : List Entry) (kept : StoredValue) → have_keys_apart es ≡ true → lookup (is_at key) es ≡ Some kept
     → oldest_first (slots_of (set_value (is_at key) es (record kept { last_use = now }))) ≡ map (slot_used_at key now) (oldest_first (slots_of es))
@@ -190,12 +167,7 @@ keys-set es fs same_keys a =
 
 same-stamps : (key : List ℕ) (es : List Entry) (kept new : StoredValue) → lookup (is_at key) es ≡ Some kept → new.stamp ≡ kept.stamp → map (λ e. e.1.stamp) (set_value (is_at key) es new) ≡ map (λ e. e.1.stamp) es
 same-stamps key [] kept new f k = refl
-same-stamps key (e ∷ es) kept new f k = go (same key e.0.items) f (same-stamps key es kept new)
-  where
-    go : (b : Bool) → cond b (Some e.1) (lookup (is_at key) es) ≡ Some kept → (lookup (is_at key) es ≡ Some kept → new.stamp ≡ kept.stamp → map (λ d. d.1.stamp) (set_value (is_at key) es new) ≡ map (λ d. d.1.stamp) es)
-        → map (λ d. d.1.stamp) (cond b ((e.0, new) ∷ es) (e ∷ set_value (is_at key) es new)) ≡ e.1.stamp ∷ map (λ d. d.1.stamp) es
-    go true f ih = let is : e.1 ≡ kept = cc in ap (λ n. n ∷ map (λ d. d.1.stamp) es) (k ∙ ap (λ (v : StoredValue). v.stamp) (sym is))
-    go false f ih = ap (λ l. e.1.stamp ∷ l) (ih f k)
+same-stamps key (e ∷ es) kept new f k = let next = same-stamps key es kept new in grind (arith, nat_tests, f, next)
 
 pub stamps-set : (key : List ℕ) (es : List Entry) (kept new : StoredValue) → lookup (is_at key) es ≡ Some kept → new.stamp ≡ kept.stamp → have_stamps_apart es ≡ true → have_stamps_apart (set_value (is_at key) es new) ≡ true
 stamps-set key es kept new f k a =

@@ -1,5 +1,5 @@
 -- Which keys are open, and what closing those that begin so does.
-use Rattle.std.proofs.Common.{◌≡◌, refl, ap, ◌∙◌, sym, subst, ℕ, ◌<◌, ◌≤◌, ◌==◌, Bool, true, false, cond, ◌||◌, nat_lt, nat_eq, List, [], ◌∷◌, ◌+◌, if◌then◌else◌, slice_get, IfSome, arith}
+use Rattle.std.proofs.Common.{inr, inl, ◌≡◌, refl, ap, ◌∙◌, sym, subst, ℕ, ◌<◌, ◌≤◌, ◌==◌, Bool, true, false, cond, ◌||◌, nat_lt, nat_eq, List, [], ◌∷◌, ◌+◌, if◌then◌else◌, slice_get, IfSome, arith}
 use Rattle.std.specs.List.{starts_with, list_any}
 use Rattle.std.specs.BTreeSet.{insert_key, IsKeyRangeOf, IsKeyInRange}
 use Rattle.std.specs.BTreeMap.Range.{IsLeBy}
@@ -11,7 +11,7 @@ use Rattle.std.specs.Cmp.Lexicographic.{slice_cmp}
 use Rattle.std.specs.Ordering.{nat_cmp, is_gt, is_eq, ordering_then, match_ordering}
 use Rattle.std.specs.declared.cmp.Ordering.{Ordering}
 use Rattle.std.specs.declared.cmp.Ordering.TheVariants.{Less, Equal, Greater}
-use Rattle.std.proofs.lemmas.Bool.{and_parts, and_from, eqb-true, eq-eqb}
+use Rattle.std.proofs.lemmas.Bool.{cond_both, cases_Bool, and_parts, and_from, eqb-true, eq-eqb}
 use Rattle.std.proofs.lemmas.Bool.Decides.{nat_tests}
 use Rattle.std.proofs.lemmas.Map.Text.{is_eq-slice_cmp}
 use Rattle.std.proofs.lemmas.Slice.Eq.{bytes_eq-Decides}
@@ -83,28 +83,18 @@ at-same : (q : List ℕ) (k : Word) → at q k ≡ true → q ≡ k.items
 at-same q k h = (bytes_eq-Decides q k.items).0 (sym (is_eq-slice_cmp q k.items) ∙ h)
 
 at-other : (q : List ℕ) (k : Word) → same k.items q ≡ false → at q k ≡ false
-at-other q k h = go (at q k) refl
-  where
-    go : (b : Bool) → at q k ≡ b → b ≡ false
-    go true e = let no : true ≡ false = sym ((bytes_eq-Decides k.items q).1 (sym (at-same q k e))) ∙ h in cc
-    go false e = refl
+at-other q k h = elim (cases_Bool (at q k)) [ inl is ↦ rw is (let no : true ≡ false = sym ((bytes_eq-Decides k.items q).1 (sym (at-same q k is))) ∙ h in cc) | inr is ↦ rw is ]
 
 -- ---- a key closed
 
 closed-other : (key q : List ℕ) (ks : List Word) → same key q ≡ false → list_any (at q) (remove_key (at key) ks) ≡ list_any (at q) ks
 closed-other key q [] h = refl
-closed-other key q (k ∷ ks) h = go (at key k) refl (closed-other key q ks h)
-  where
-    go : (b : Bool) → at key k ≡ b → list_any (at q) (remove_key (at key) ks) ≡ list_any (at q) ks → list_any (at q) (cond b ks (k ∷ remove_key (at key) ks)) ≡ (at q k || list_any (at q) ks)
-    go true e ih = sym (ap (λ b. b || list_any (at q) ks) (at-other q k (ap (λ t. same t q) (sym (at-same key k e)) ∙ h)))
-    go false e ih = ap (λ b. at q k || b) ih
+closed-other key q (k ∷ ks) h =
+    cond_both (at key k) _ _ (λ z. list_any (at q) z ≡ (at q k || list_any (at q) ks)) (λ is. sym (ap (λ b. b || list_any (at q) ks) (at-other q k (ap (λ t. same t q) (sym (at-same key k is)) ∙ h)))) (λ _. ap (λ b. at q k || b) (closed-other key q ks h))
 
 pub closed : (key q : List ℕ) (before after : Open) → after.keys ≡ remove_key (at key) before.keys → is_open_key key after ≡ false → is_open_key q after ≡ cond (same key q) false (is_open_key q before)
-closed key q before after e none = go (same key q) refl
-  where
-    go : (b : Bool) → same key q ≡ b → is_open_key q after ≡ cond b false (is_open_key q before)
-    go true h = ap (λ t. is_open_key t after) (sym ((bytes_eq-Decides key q).0 h)) ∙ none
-    go false h = ap (list_any (at q)) e ∙ closed-other key q before.keys h
+closed key q before after e none =
+    cond_both (same key q) _ _ (λ z. is_open_key q after ≡ z) (λ is. ap (λ t. is_open_key t after) (sym ((bytes_eq-Decides key q).0 is)) ∙ none) (λ is. ap (list_any (at q)) e ∙ closed-other key q before.keys is)
 
 pub one-fewer : (less more : ℕ) (was had : Bool) → was ≡ had → had ≡ true → less + (if was then 1 else 0) ≡ more → less < more
 one-fewer less more true had e h l = omega arith
@@ -124,33 +114,23 @@ opened-other key q (k ∷ ks) h = go (slice_cmp nat_cmp key.items k.items) (open
 
 pub opened : (key : Word) (q : List ℕ) (before after : Open) → after.keys ≡ insert_key (λ x y. slice_cmp nat_cmp x.items y.items) before.keys key → is_open_key key.items after ≡ true
     → is_open_key q after ≡ cond (same key.items q) true (is_open_key q before)
-opened key q before after e has = go (same key.items q) refl
-  where
-    go : (b : Bool) → same key.items q ≡ b → is_open_key q after ≡ cond b true (is_open_key q before)
-    go true h = ap (λ t. is_open_key t after) (sym ((bytes_eq-Decides key.items q).0 h)) ∙ has
-    go false h = ap (list_any (at q)) e ∙ opened-other key q before.keys h
+opened key q before after e has =
+    cond_both (same key.items q) _ _ (λ z. is_open_key q after ≡ z) (λ is. ap (λ t. is_open_key t after) (sym ((bytes_eq-Decides key.items q).0 is)) ∙ has) (λ is. ap (list_any (at q)) e ∙ opened-other key q before.keys is)
 
 -- ---- the keys that begin so
 
 witness : {X : Type 0} (p : X → Bool) (xs : List X) → list_any p xs ≡ true → (x : X) × (p x ≡ true)
 witness p [] h = let no : false ≡ true = h in cc
-witness {X} p (x ∷ xs) h = go (p x) refl h (λ m. witness p xs m)
-  where
-    go : (b : Bool) → p x ≡ b → (b || list_any p xs) ≡ true → (list_any p xs ≡ true → (y : X) × (p y ≡ true)) → (y : X) × (p y ≡ true)
-    go true e m later = (x, e)
-    go false e m later = later m
+witness {X} p (x ∷ xs) h = let next = witness p xs in grind (arith, nat_tests, h, next)
 
 -- where no key that is open begins so, none that begins so is open
 none-open : (prefix : List ℕ) (before : Open) → ((k : Word) → is_open_key k.items before ≡ true → starts_with nat_eq k.items prefix ≡ true → ⊥) → (q : List ℕ) → starts_with nat_eq q prefix ≡ true
     → is_open_key q before ≡ false
-none-open prefix before never q s = go (is_open_key q before) refl
-  where
-    go : (b : Bool) → is_open_key q before ≡ b → b ≡ false
-    go false e = refl
-    go true e =
-        let found = witness (at q) before.keys e in
-        let is = at-same q found.0 found.1 in
-        absurd (never found.0 (ap (λ t. is_open_key t before) (sym is) ∙ e) (ap (λ t. starts_with nat_eq t prefix) (sym is) ∙ s))
+none-open prefix before never q s =
+    elim (cases_Bool (is_open_key q before)) [
+      | inl h ↦ rw h (let found = witness (at q) before.keys h in let is = at-same q found.0 found.1 in absurd (never found.0 (ap (λ t. is_open_key t before) (sym is) ∙ h) (ap (λ t. starts_with nat_eq t prefix) (sym is) ∙ s)))
+      | inr h ↦ rw h
+    ]
 
 module _ (prefix : Word) (before : Open) (r : List Word) (range : IsKeyRangeOf (λ (x y : Word). slice_cmp nat_cmp x.items y.items) (Included prefix) Unbounded before r) where
   pub none-there : r ≡ [] → (q : List ℕ) → starts_with nat_eq q prefix.items ≡ true → is_open_key q before ≡ false

@@ -1,19 +1,15 @@
 -- Finding, leaving out and changing, one more at the end.
-use Rattle.std.proofs.Common.{◌≡◌, refl, ap, sym, Bool, cond, true, false, List, [], ◌∷◌, ◌++◌, Some, None, ℕ}
+use Rattle.std.proofs.Common.{arith, ◌≡◌, refl, ap, sym, Bool, cond, true, false, List, [], ◌∷◌, ◌++◌, Some, None, ℕ}
 use Rattle.std.specs.List.{find}
 use Rattle.std.proofs.lemmas.Option.{none-some}
 use Rattle.audit_model.specs.Bytewise.{same}
 use Rattle.audit_model.specs.Values.{without_key}
+use Rattle.std.proofs.lemmas.Bool.Decides.{nat_tests}
 
 module _ {X : Type 0} (p : X → Bool) where
   pub find-behind : (xs : List X) (x : X) → find p xs ≡ None → find p (xs ++ x ∷ []) ≡ cond (p x) (Some x) None
   find-behind [] x e = refl
-  find-behind (y ∷ xs) x e = go (p y) e (find-behind xs x)
-    where
-      go : (b : Bool) → cond b (Some y) (find p xs) ≡ None → (find p xs ≡ None → find p (xs ++ x ∷ []) ≡ cond (p x) (Some x) None)
-          → cond b (Some y) (find p (xs ++ x ∷ [])) ≡ cond (p x) (Some x) None
-      go true e ih = absurd (none-some y (sym e))
-      go false e ih = ih e
+  find-behind (y ∷ xs) x e = let next = find-behind xs x in grind (arith, nat_tests, e, next)
 
   pub find-past : (xs : List X) (x : X) → p x ≡ false → find p (xs ++ x ∷ []) ≡ find p xs
   find-past [] x e = ap (λ b. cond b (Some x) None) e
@@ -21,11 +17,7 @@ module _ {X : Type 0} (p : X → Bool) where
 
   pub find-before : (xs ys : List X) (y : X) → find p xs ≡ Some y → find p (xs ++ ys) ≡ Some y
   find-before [] ys y e = absurd (none-some y e)
-  find-before (x ∷ xs) ys y e = go (p x) e (find-before xs ys y)
-    where
-      go : (b : Bool) → cond b (Some x) (find p xs) ≡ Some y → (find p xs ≡ Some y → find p (xs ++ ys) ≡ Some y) → cond b (Some x) (find p (xs ++ ys)) ≡ Some y
-      go true e ih = e
-      go false e ih = ih e
+  find-before (x ∷ xs) ys y e = let next = find-before xs ys y in grind (arith, nat_tests, e, next)
 
 module _ {X : Type 0} (key_of : X → List ℕ) (key : List ℕ) where
   abbrev hits : X → Bool
@@ -42,26 +34,12 @@ module _ {X : Type 0} (key_of : X → List ℕ) (key : List ℕ) where
 
   pub without-past : (xs : List X) (x : X) → hits x ≡ false → without_key key_of key (xs ++ x ∷ []) ≡ without_key key_of key xs ++ x ∷ []
   without-past [] x h = ap (λ b. cond b [] (x ∷ [])) h
-  without-past (y ∷ xs) x h = go (hits y) (without-past xs x h)
-    where
-      go : (b : Bool) → without_key key_of key (xs ++ x ∷ []) ≡ without_key key_of key xs ++ x ∷ []
-          → cond b (xs ++ x ∷ []) (y ∷ without_key key_of key (xs ++ x ∷ [])) ≡ cond b xs (y ∷ without_key key_of key xs) ++ x ∷ []
-      go true ih = refl
-      go false ih = ap (λ zs. y ∷ zs) ih
+  without-past (y ∷ xs) x h = let next = without-past xs x h in grind (arith, nat_tests, next)
 
   pub without-before : (xs ys : List X) (y : X) → find hits xs ≡ Some y → without_key key_of key (xs ++ ys) ≡ without_key key_of key xs ++ ys
   without-before [] ys y e = absurd (none-some y e)
-  without-before (x ∷ xs) ys y e = go (hits x) e (without-before xs ys y)
-    where
-      go : (b : Bool) → cond b (Some x) (find hits xs) ≡ Some y → (find hits xs ≡ Some y → without_key key_of key (xs ++ ys) ≡ without_key key_of key xs ++ ys)
-          → cond b (xs ++ ys) (x ∷ without_key key_of key (xs ++ ys)) ≡ cond b xs (x ∷ without_key key_of key xs) ++ ys
-      go true e ih = refl
-      go false e ih = ap (λ zs. x ∷ zs) (ih e)
+  without-before (x ∷ xs) ys y e = let next = without-before xs ys y in grind (arith, nat_tests, e, next)
 
   pub without-none : (xs : List X) → find hits xs ≡ None → without_key key_of key xs ≡ xs
   without-none [] e = refl
-  without-none (x ∷ xs) e = go (hits x) e (without-none xs)
-    where
-      go : (b : Bool) → cond b (Some x) (find hits xs) ≡ None → (find hits xs ≡ None → without_key key_of key xs ≡ xs) → cond b xs (x ∷ without_key key_of key xs) ≡ x ∷ xs
-      go true e ih = absurd (none-some x (sym e))
-      go false e ih = ap (λ zs. x ∷ zs) (ih e)
+  without-none (x ∷ xs) e = let next = without-none xs in grind (arith, nat_tests, e, next)

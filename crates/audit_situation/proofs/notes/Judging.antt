@@ -1,5 +1,5 @@
 -- Notes judged one after another.
-use Rattle.std.proofs.Common.{◌≡◌, refl, ap, ◌∙◌, sym, ℕ, Bool, true, false, cond, List, [], ◌∷◌, ◌++◌, map, is_none, not, ◌&&◌, ◌||◌, true≢false, Option, Some, None, option_map, if◌then◌else◌}
+use Rattle.std.proofs.Common.{arith, ◌≡◌, refl, ap, ◌∙◌, sym, ℕ, Bool, true, false, cond, List, [], ◌∷◌, ◌++◌, map, is_none, not, ◌&&◌, ◌||◌, true≢false, Option, Some, None, option_map, if◌then◌else◌}
 use Rattle.std.specs.Prelude.{IfSome, is_some}
 use Rattle.std.specs.List.{find, list_all}
 use Rattle.std.proofs.lemmas.List.Folds.{list_all-append}
@@ -16,6 +16,7 @@ use Rattle.audit_model.specs.declared.transcript.Note.{Note}
 use Rattle.audit_situation.proofs.held.Keeping.{find-map, without-map}
 use Rattle.audit_situation.specs.Notes.Scenes.{new_candidate_at, newcomer_in, rest_of, may_be_told, candidates_in, TakesFirstValue}
 use Rattle.audit_situation.specs.declared.notes.notes.Scene.{Scene}
+use Rattle.std.proofs.lemmas.Bool.Decides.{nat_tests}
 
 -- ---- the same bytes
 
@@ -38,37 +39,19 @@ module _ {X : Type 0} (key_of : X → List ℕ) (key : List ℕ) where
 
   pub first-here : (xs ys : List X) (x : X) → first xs ≡ Some x → first (xs ++ ys) ≡ Some x
   first-here [] ys x e = absurd (none-some x e)
-  first-here (y ∷ xs) ys x e = go (same key (key_of y)) e (first-here xs ys x)
-    where
-      go : (b : Bool) → cond b (Some y) (first xs) ≡ Some x → (first xs ≡ Some x → first (xs ++ ys) ≡ Some x) → cond b (Some y) (first (xs ++ ys)) ≡ Some x
-      go true e ih = e
-      go false e ih = ih e
+  first-here (y ∷ xs) ys x e = let next = first-here xs ys x in grind (arith, nat_tests, e, next)
 
   pub first-there : (xs ys : List X) → first xs ≡ None → first (xs ++ ys) ≡ first ys
   first-there [] ys e = refl
-  first-there (y ∷ xs) ys e = go (same key (key_of y)) e (first-there xs ys)
-    where
-      go : (b : Bool) → cond b (Some y) (first xs) ≡ None → (first xs ≡ None → first (xs ++ ys) ≡ first ys) → cond b (Some y) (first (xs ++ ys)) ≡ first ys
-      go true e ih = absurd (none-some y (sym e))
-      go false e ih = ih e
+  first-there (y ∷ xs) ys e = let next = first-there xs ys in grind (arith, nat_tests, e, next)
 
   pub without-here : (xs ys : List X) (x : X) → first xs ≡ Some x → without_key key_of key (xs ++ ys) ≡ without_key key_of key xs ++ ys
   without-here [] ys x e = absurd (none-some x e)
-  without-here (y ∷ xs) ys x e = go (same key (key_of y)) e (without-here xs ys x)
-    where
-      go : (b : Bool) → cond b (Some y) (first xs) ≡ Some x → (first xs ≡ Some x → without_key key_of key (xs ++ ys) ≡ without_key key_of key xs ++ ys)
-          → cond b (xs ++ ys) (y ∷ without_key key_of key (xs ++ ys)) ≡ cond b xs (y ∷ without_key key_of key xs) ++ ys
-      go true e ih = refl
-      go false e ih = ap (λ zs. y ∷ zs) (ih e)
+  without-here (y ∷ xs) ys x e = let next = without-here xs ys x in grind (arith, nat_tests, e, next)
 
   pub without-there : (xs ys : List X) → first xs ≡ None → without_key key_of key (xs ++ ys) ≡ xs ++ without_key key_of key ys
   without-there [] ys e = refl
-  without-there (y ∷ xs) ys e = go (same key (key_of y)) e (without-there xs ys)
-    where
-      go : (b : Bool) → cond b (Some y) (first xs) ≡ None → (first xs ≡ None → without_key key_of key (xs ++ ys) ≡ xs ++ without_key key_of key ys)
-          → cond b (xs ++ ys) (y ∷ without_key key_of key (xs ++ ys)) ≡ y ∷ (xs ++ without_key key_of key ys)
-      go true e ih = absurd (none-some y (sym e))
-      go false e ih = ap (λ zs. y ∷ zs) (ih e)
+  without-there (y ∷ xs) ys e = let next = without-there xs ys in grind (arith, nat_tests, e, next)
 
 -- ---- the values that may be told
 
@@ -119,12 +102,7 @@ taken-new scene key held left leaves others e o w l = record {
 
 pub without-none : (key : List ℕ) (held : List HeldValue) → find (λ h. same key h.value.key) held ≡ None → without_key (λ h. h.value.key) key held ≡ held
 without-none key [] e = refl
-without-none key (h ∷ held) e = go (same key h.value.key) e (without-none key held)
-  where
-    go : (b : Bool) → cond b (Some h) (find (λ h. same key h.value.key) held) ≡ None → (find (λ h. same key h.value.key) held ≡ None → without_key (λ h. h.value.key) key held ≡ held)
-        → cond b held (h ∷ without_key (λ h. h.value.key) key held) ≡ h ∷ held
-    go true e ih = absurd (none-some h (sym e))
-    go false e ih = ap (λ hs. h ∷ hs) (ih e)
+without-none key (h ∷ held) e = let next = without-none key held in grind (arith, nat_tests, e, next)
 
 -- ---- one note after another
 
@@ -182,12 +160,7 @@ spared key held = list_all (λ h. not (is_this h.value.key key)) held
 
 pub absent-all : (key : List ℕ) (held : List HeldValue) → is_none (find (λ h. same key h.value.key) held) ≡ spared (Some key) held
 absent-all key [] = refl
-absent-all key (h ∷ held) = go (same key h.value.key) (absent-all key held)
-  where
-    go : (b : Bool) → is_none (find (λ h. same key h.value.key) held) ≡ spared (Some key) held
-        → is_none (cond b (Some h) (find (λ h. same key h.value.key) held)) ≡ (not b && spared (Some key) held)
-    go true ih = refl
-    go false ih = ih
+absent-all key (h ∷ held) = let next = absent-all key held in grind (arith, nat_tests, next)
 
 pub all-absent : (key : List ℕ) (held : List HeldValue) → spared (Some key) held ≡ true → find (λ h. same key h.value.key) held ≡ None
 all-absent key held e = go (find (λ h. same key h.value.key) held) (absent-all key held ∙ e)

@@ -1,10 +1,10 @@
 -- What a step does to the values that stay.
-use Rattle.std.proofs.Common.{◌≡◌, refl, ap, ◌∙◌, sym, ℕ, ◌+◌, Bool, true, false, cond, not, ◌&&◌, ◌||◌, List, [], ◌∷◌, ◌++◌, map, is_some, Option, Some, None, option_map, nat_lt, if◌then◌else◌, true≢false, arith}
+use Rattle.std.proofs.Common.{inr, inl, ◌≡◌, refl, ap, ◌∙◌, sym, ℕ, ◌+◌, Bool, true, false, cond, not, ◌&&◌, ◌||◌, List, [], ◌∷◌, ◌++◌, map, is_some, Option, Some, None, option_map, nat_lt, if◌then◌else◌, true≢false, arith}
 use Rattle.std.specs.Prelude.{◌==◌, IfSome}
 use Rattle.std.specs.List.{find, list_all}
 use Rattle.std.specs.Option.{option_to_list, option_copied}
 use Rattle.std.proofs.Math.Path.{fun_ext}
-use Rattle.std.proofs.lemmas.Bool.{and_parts, eqb-true}
+use Rattle.std.proofs.lemmas.Bool.{cases_Bool, and_parts, eqb-true}
 use Rattle.std.proofs.lemmas.Bool.Decides.{nat_tests}
 use Rattle.std.proofs.lemmas.Option.{none-some}
 use Rattle.std.proofs.lemmas.Simd.{map-map}
@@ -36,21 +36,15 @@ module _ (key : List ℕ) (q : HeldValue → Bool) where
 
   pub none-good : (hs : List HeldValue) → one hs ≡ None → good hs ≡ None
   none-good [] e = refl
-  none-good (h ∷ hs) e = go (same key h.value.key) e (none-good hs)
-    where
-      go : (b : Bool) → cond b (Some h) (one hs) ≡ None → (one hs ≡ None → good hs ≡ None) → cond (b && q h) (Some h) (good hs) ≡ None
-      go true e ih = absurd (none-some h (sym e))
-      go false e ih = ih e
+  none-good (h ∷ hs) e = let next = none-good hs in grind (arith, nat_tests, e, next)
 
   pub one-good : (hs : List HeldValue) (h : HeldValue) → one (without_key (λ h. h.value.key) key hs) ≡ None → one hs ≡ Some h → good hs ≡ (if q h then Some h else None)
   one-good [] h a e = absurd (none-some h e)
-  one-good (x ∷ hs) h a e = go (same key x.value.key) refl a e (one-good hs h)
-    where
-      go : (b : Bool) → same key x.value.key ≡ b → one (cond b hs (x ∷ without_key (λ h. h.value.key) key hs)) ≡ None → cond b (Some x) (one hs) ≡ Some h
-          → (one (without_key (λ h. h.value.key) key hs) ≡ None → one hs ≡ Some h → good hs ≡ (if q h then Some h else None))
-          → cond (b && q x) (Some x) (good hs) ≡ (if q h then Some h else None)
-      go true f a e ih = let is : x ≡ h = cc in ap (λ o. cond (q x) (Some x) o) (none-good hs a) ∙ ap (λ (y : HeldValue). cond (q y) (Some y) None) is
-      go false f a e ih = ih (sym (ap (λ b. cond b (Some x) (one (without_key (λ h. h.value.key) key hs))) f) ∙ a) e
+  one-good (x ∷ hs) h a e =
+      elim (cases_Bool (same key x.value.key)) [
+        | inl t ↦ rw t (let is : x ≡ h = cc in ap (λ o. cond (q x) (Some x) o) (none-good hs (rw t at a)) ∙ ap (λ (y : HeldValue). cond (q y) (Some y) None) is)
+        | inr t ↦ rw t ((one-good hs h) (sym (ap (λ b. cond b (Some x) (one (without_key (λ h. h.value.key) key hs))) t) ∙ (rw t at a)) (rw t at e))
+      ]
 
 -- ---- a use
 
@@ -61,40 +55,24 @@ module _ (config : Config) (now : ℕ) (key : List ℕ) where
   -- none of the key
   unused : (hs : List HeldValue) → find (λ h. same key h.value.key) hs ≡ None → map (value_used_at key now) hs ≡ map (used_in config now (Some key)) hs
   unused [] e = refl
-  unused (h ∷ hs) e = go (same key h.value.key) e (unused hs)
-    where
-      go : (b : Bool) → cond b (Some h) (find (λ h. same key h.value.key) hs) ≡ None → (find (λ h. same key h.value.key) hs ≡ None → map (value_used_at key now) hs ≡ map (used_in config now (Some key)) hs)
-          → (if b then record h { last_use = now } else h) ∷ map (value_used_at key now) hs ≡ record h { last_use = if b && live h then now else h.last_use } ∷ map (used_in config now (Some key)) hs
-      go true e ih = absurd (none-some h (sym e))
-      go false e ih = ap (λ hs. h ∷ hs) (ih e)
+  unused (h ∷ hs) e = let next = unused hs in grind (arith, nat_tests, e, next)
 
   pub used-live : (hs : List HeldValue) → find (λ h. same key h.value.key) (without_key (λ h. h.value.key) key hs) ≡ None → is_some (find (λ h. same key h.value.key && live h) hs) ≡ true
       → map (value_used_at key now) hs ≡ map (used_in config now (Some key)) hs
   used-live [] a e = refl
-  used-live (h ∷ hs) a e = go (same key h.value.key) refl a e (used-live hs)
+  used-live (h ∷ hs) a e =
+      elim (cases_Bool (same key h.value.key)) [
+        | inl is ↦ rw is (ap (λ b. record h { last_use = if b then now else h.last_use } ∷ map (value_used_at key now) hs) (sym (by_live (live h) (rw is at e) (none-good key live hs (rw is at a)))) ∙ ap (λ hs. record h { last_use = if live h then now else h.last_use } ∷ hs) (unused hs (rw is at a)))
+        | inr is ↦ rw is (ap (λ hs. h ∷ hs) ((used-live hs) (sym (ap (λ b. cond b (Some h) (find (λ h. same key h.value.key) (without_key (λ h. h.value.key) key hs))) is) ∙ (rw is at a)) (rw is at e)))
+      ]
     where
       by_live : (l : Bool) → is_some (cond l (Some h) (find (λ h. same key h.value.key && live h) hs)) ≡ true → find (λ h. same key h.value.key && live h) hs ≡ None → l ≡ true
       by_live true e f = refl
       by_live false e f = absurd (true≢false (sym e ∙ ap is_some f))
 
-      go : (b : Bool) → same key h.value.key ≡ b → find (λ h. same key h.value.key) (cond b hs (h ∷ without_key (λ h. h.value.key) key hs)) ≡ None
-          → is_some (cond (b && live h) (Some h) (find (λ h. same key h.value.key && live h) hs)) ≡ true
-          → (find (λ h. same key h.value.key) (without_key (λ h. h.value.key) key hs) ≡ None → is_some (find (λ h. same key h.value.key && live h) hs) ≡ true → map (value_used_at key now) hs ≡ map (used_in config now (Some key)) hs)
-          → (if b then record h { last_use = now } else h) ∷ map (value_used_at key now) hs ≡ record h { last_use = if b && live h then now else h.last_use } ∷ map (used_in config now (Some key)) hs
-      go true f a e ih =
-          ap (λ b. record h { last_use = if b then now else h.last_use } ∷ map (value_used_at key now) hs) (sym (by_live (live h) e (none-good key live hs a)))
-          ∙ ap (λ hs. record h { last_use = if live h then now else h.last_use } ∷ hs) (unused hs a)
-      go false f a e ih = ap (λ hs. h ∷ hs) (ih (sym (ap (λ b. cond b (Some h) (find (λ h. same key h.value.key) (without_key (λ h. h.value.key) key hs))) f) ∙ a) e)
-
   pub used-dead : (hs : List HeldValue) → is_some (find (λ h. same key h.value.key && live h) hs) ≡ false → hs ≡ map (used_in config now (Some key)) hs
   used-dead [] e = refl
-  used-dead (h ∷ hs) e = go (same key h.value.key && live h) e (used-dead hs)
-    where
-      go : (b : Bool) → is_some (cond b (Some h) (find (λ h. same key h.value.key && live h) hs)) ≡ false
-          → (is_some (find (λ h. same key h.value.key && live h) hs) ≡ false → hs ≡ map (used_in config now (Some key)) hs)
-          → h ∷ hs ≡ record h { last_use = if b then now else h.last_use } ∷ map (used_in config now (Some key)) hs
-      go true e ih = absurd (true≢false e)
-      go false e ih = ap (λ hs. h ∷ hs) (ih e)
+  used-dead (h ∷ hs) e = let next = used-dead hs in grind (arith, nat_tests, e, next)
 
 pub used-none : (config : Config) (now : ℕ) (hs : List HeldValue) → hs ≡ map (used_in config now None) hs
 used-none config now [] = refl
@@ -168,11 +146,7 @@ module _ (config : Config) (syncs : Bool) (sized : List ℕ) (values : List Valu
       ap (λ b. (if b then marked h else h) ∷ map (marked_below 256) hs) parts.0 ∙ ap (λ hs. marked h ∷ hs) (mark-done hs parts.1)
 
   value-below : (n : ℕ) (h : HeldValue) → (marked_below n h).value ≡ h.value
-  value-below n h = go (nat_lt h.value.part n)
-    where
-      go : (b : Bool) → (if b then marked h else h).value ≡ h.value
-      go true = refl
-      go false = refl
+  value-below n h = grind (arith, nat_tests)
 
   pub values-below : (n : ℕ) (held hs : List HeldValue) → held ≡ map (marked_below n) hs → values_of held ≡ values_of hs
   values-below n held hs e = ap values_of e ∙ go hs

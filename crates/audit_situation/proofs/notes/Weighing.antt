@@ -1,5 +1,5 @@
 -- What a part weighs where a newcomer has taken its key's place.
-use Rattle.std.proofs.Common.{◌≡◌, refl, ap, ◌∙◌, sym, ℕ, ◌+◌, ◌-◌, ◌≤◌, ◌&&◌, Bool, true, false, cond, List, [], ◌∷◌, map, Option, Some, None, nat_lt, arith, Result, Ok, Err}
+use Rattle.std.proofs.Common.{inr, inl, ◌≡◌, refl, ap, ◌∙◌, sym, ℕ, ◌+◌, ◌-◌, ◌≤◌, ◌&&◌, Bool, true, false, cond, List, [], ◌∷◌, map, Option, Some, None, nat_lt, arith, Result, Ok, Err}
 use Rattle.std.specs.Prelude.{is_some, IfOk}
 use Rattle.std.specs.List.{find}
 use Rattle.std.specs.Option.{option_map_or}
@@ -13,6 +13,7 @@ use Rattle.audit_model.specs.Values.{without_key}
 use Rattle.audit_model.specs.declared.config.Config.{Config}
 use Rattle.audit_situation.specs.Held.Weights.{weight_if_in, weight_of_part, values_of}
 use Rattle.audit_situation.proofs.held.Weighing.{weight-cons, weight-push}
+use Rattle.std.proofs.lemmas.Bool.{cases_Bool}
 
 swapped : (a w x y : ℕ) → a + x ≡ y → a + (w + x) ≡ w + y
 swapped a w x y e = omega arith
@@ -21,16 +22,8 @@ swapped a w x y e = omega arith
 pub without-weighs : (key : List ℕ) (part : ℕ) (hs : List HeldValue)
     → option_map_or (weight_if_in part) (find (λ h. same key h.value.key) hs) 0 + weight_of_part part (without_key (λ v. v.key) key (values_of hs)) ≡ weight_of_part part (values_of hs)
 without-weighs key part [] = refl
-without-weighs key part (h ∷ hs) = go (same key h.value.key) (without-weighs key part hs) ∙ sym (weight-cons part h.value (values_of hs))
-  where
-    go : (b : Bool)
-        → option_map_or (weight_if_in part) (find (λ k. same key k.value.key) hs) 0 + weight_of_part part (without_key (λ v. v.key) key (values_of hs)) ≡ weight_of_part part (values_of hs)
-        → option_map_or (weight_if_in part) (cond b (Some h) (find (λ k. same key k.value.key) hs)) 0
-        + weight_of_part part (cond b (values_of hs) (h.value ∷ without_key (λ v. v.key) key (values_of hs))) ≡ weight_if_in part h + weight_of_part part (values_of hs)
-    go true e = refl
-    go false e =
-        ap (λ n. option_map_or (weight_if_in part) (find (λ k. same key k.value.key) hs) 0 + n) (weight-cons part h.value (without_key (λ v. v.key) key (values_of hs)))
-        ∙ swapped _ (weight_if_in part h) _ (weight_of_part part (values_of hs)) e
+without-weighs key part (h ∷ hs) =
+    (elim (cases_Bool (same key h.value.key)) [ inl is ↦ rw is | inr is ↦ rw is (ap (λ n. option_map_or (weight_if_in part) (find (λ k. same key k.value.key) hs) 0 + n) (weight-cons part h.value (without_key (λ v. v.key) key (values_of hs))) ∙ swapped _ (weight_if_in part h) _ (weight_of_part part (values_of hs)) (without-weighs key part hs)) ]) ∙ sym (weight-cons part h.value (values_of hs))
 
 -- the same by numbers
 pub enough : (key : List ℕ) (part older : ℕ) (hs : List HeldValue) → older ≡ option_map_or (weight_if_in part) (find (λ h. same key h.value.key) hs) 0 → older ≤ weight_of_part part (values_of hs)

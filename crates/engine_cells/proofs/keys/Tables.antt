@@ -7,6 +7,7 @@ use Rattle.std.specs.Prelude.{nat_lt}
 use Rattle.engine_cells.specs.declared.keys.Slot.{Slot}
 use Rattle.engine_cells.specs.Keys.Spots.{IsAmong}
 use Rattle.engine_cells.specs.Keys.Slots.{nowhere, vacant, slot_at, IsTaken, taken_in, entries_in, Has}
+use Rattle.std.proofs.lemmas.Bool.Decides.{nat_tests}
 
 pub at-set : (xs : List Slot) (i : ℕ) (s : Slot) → i < length xs → slot_at (set xs i s) i ≡ s
 at-set xs i s within = get_or-set_same xs i s vacant within
@@ -57,14 +58,10 @@ has-among xs h p (k, at, less) = go xs k at
     here true x xs e is = inl (ap (λ s. s.tag) is, ap (λ s. s.place) is)
     here false x xs e is = absurd (cc)
 
-    later : (b : Bool) (x : Slot) (xs : List Slot) → IsAmong (entries_in xs) h p → IsAmong (cond b ((x.tag, x.place) ∷ entries_in xs) (entries_in xs)) h p
-    later true x xs h = inr h
-    later false x xs h = h
-
     go : (xs : List Slot) (k : ℕ) → slot_at xs k ≡ record { tag = h; place = p } → IsAmong (entries_in xs) h p
     go [] k at = absurd (omega (arith, ap (λ s. s.place) at))
     go (x ∷ xs) zero at = here (nat_lt x.place nowhere) x xs (lt-ltb x.place nowhere (omega (arith, ap (λ s. s.place) at))) at
-    go (x ∷ xs) (suc k) at = later (nat_lt x.place nowhere) x xs (go xs k at)
+    go (x ∷ xs) (suc k) at = let next = go xs k at in grind (arith, nat_tests, x, xs, next)
 
 pub both : (x : Slot) (h p : ℕ) → x.tag ≡ h → x.place ≡ p → x ≡ record { tag = h; place = p }
 both x h p a b = ap (λ n. record x { tag = n }) a ∙ ap (λ n. record x { tag = h; place = n }) b

@@ -1,7 +1,7 @@
 -- Lists of records that are part of others, with weights that are no greater: what counts is no more, also after further writes.
 use Rattle.std.proofs.Common.{◌≡◌, refl, ap, sym, ◌∙◌, subst, ℕ, ◌+◌, ◌≤◌, arith, Bool, true, false, cond, List, [], ◌∷◌, Some, None, inl, inr, ◌⊎◌, eqb}
 use Rattle.std.specs.Prelude.{fold, unwrap_or}
-use Rattle.std.proofs.lemmas.Bool.{eqb-true, ne_eqb, eqb-false}
+use Rattle.std.proofs.lemmas.Bool.{cond_both, cases_Bool, eqb-true, ne_eqb, eqb-false}
 use Rattle.engine_reference.specs.declared.data.Record.{Record}
 use Rattle.engine_reference.specs.declared.data.Upsert.{Upsert}
 use Rattle.engine_reference.specs.declared.data.Write.{Write}
@@ -76,23 +76,16 @@ module _ {K V : Type 0} where
   fewer-without n [] rs h = tt
   fewer-without n (x ∷ xs) [] h = elim h [ ]
   fewer-without n (x ∷ xs) (r ∷ rs) (inr h) = fewer-more r (without_record n (x ∷ xs)) rs (fewer-without n (x ∷ xs) rs h)
-  fewer-without n (x ∷ xs) (r ∷ rs) (inl h) = go (eqb x.number n) (fewer-without n xs rs h.2)
-    where
-      go : (b : Bool) → Fewer (without_record n xs) rs → Fewer (cond b xs (x ∷ without_record n xs)) (r ∷ rs)
-      go true later = fewer-more r xs rs h.2
-      go false later = inl (h.0, h.1, later)
+  fewer-without n (x ∷ xs) (r ∷ rs) (inl h) = cond_both (eqb x.number n) _ _ (λ z. Fewer z (r ∷ rs)) (λ _. fewer-more r xs rs h.2) (λ _. inl (h.0, h.1, (fewer-without n xs rs h.2)))
 
   -- a change of bookkeeping that leaves number and weight
   pub fewer-changed : (n : ℕ) (change : Record K V → Record K V) → ((r : Record K V) → (change r).number ≡ r.number) → ((r : Record K V) → (change r).counts ≡ r.counts) → (rs : List (Record K V)) → Fewer (changed_at n change rs) rs
   fewer-changed n change same weight [] = tt
-  fewer-changed n change same weight (r ∷ rs) = go (eqb r.number n) (fewer-changed n change same weight rs)
+  fewer-changed n change same weight (r ∷ rs) =
+      cond_both (eqb r.number n) _ _ (λ z. Fewer z (r ∷ rs)) (λ _. inl (same r, omega (arith, keeps), fewer-refl rs)) (λ _. inl (refl, omega arith, (fewer-changed n change same weight rs)))
     where
       keeps : weight_at (change r) ≡ weight_at r
       keeps = ap (λ o. unwrap_or o 0) (weight r)
-
-      go : (b : Bool) → Fewer (changed_at n change rs) rs → Fewer (cond b (change r ∷ rs) (r ∷ changed_at n change rs)) (r ∷ rs)
-      go true later = inl (same r, omega (arith, keeps), fewer-refl rs)
-      go false later = inl (refl, omega arith, later)
 
   -- the same write on both
   pub fewer-put : (u : Upsert) (xs rs : List (Record K V)) → AreNumbered rs → Fewer xs rs → Fewer (with_write (Put u) xs) (with_write (Put u) rs)
@@ -158,32 +151,24 @@ module _ {K V : Type 0} where
   -- a refused newcomer goes, or stays as it is
   pub fewer-refused : (u : Upsert) (rs : List (Record K V)) → Fewer (without_record u.number rs) (with_write (Put u) rs)
   fewer-refused u [] = tt
-  fewer-refused u (r ∷ rs) = go (eqb r.number u.number) (fewer-refused u rs)
+  fewer-refused u (r ∷ rs) = elim (cases_Bool (eqb r.number u.number)) [ inl e ↦ rw e (fewer-more (change r) rs rs (fewer-refl rs)) | inr e ↦ rw e (inl (refl, omega arith, (fewer-refused u rs))) ]
     where
       change : Record K V → Record K V
       change y = record y { applied = u.write; counts = Some u.weight }
 
-      go : (b : Bool) → Fewer (without_record u.number rs) (changed_at u.number change rs) → Fewer (cond b rs (r ∷ without_record u.number rs)) (cond b (change r ∷ rs) (r ∷ changed_at u.number change rs))
-      go true later = fewer-more (change r) rs rs (fewer-refl rs)
-      go false later = inl (refl, omega arith, later)
-
   pub fewer-put_off : (u : Upsert) (rs : List (Record K V)) (x : Record K V) → record_at rs u.number ≡ Some x → x.counts ≡ None → Fewer (changed_at u.number (λ r. record r { applied = u.write }) rs) (with_write (Put u) rs)
   fewer-put_off u [] x there none = tt
-  fewer-put_off u (r ∷ rs) x there none = go (eqb r.number u.number) there (fewer-put_off u rs x)
+  fewer-put_off u (r ∷ rs) x there none =
+      elim (cases_Bool (eqb r.number u.number)) [
+        | inl e ↦ rw e (let same : r ≡ x = cc in let zero_weight : weight_at r ≡ 0 = ap (λ o. unwrap_or o 0) (ap (λ y. y.counts) same ∙ none) in inl (refl, omega (arith, zero_weight), fewer-refl rs))
+        | inr e ↦ rw e (inl (refl, omega arith, (fewer-put_off u rs x) (rw e at there) none))
+      ]
     where
       change : Record K V → Record K V
       change y = record y { applied = u.write; counts = Some u.weight }
 
       less : Record K V → Record K V
       less y = record y { applied = u.write }
-
-      go : (b : Bool) → cond b (Some r) (record_at rs u.number) ≡ Some x → (record_at rs u.number ≡ Some x → x.counts ≡ None → Fewer (changed_at u.number less rs) (changed_at u.number change rs))
-          → Fewer (cond b (less r ∷ rs) (r ∷ changed_at u.number less rs)) (cond b (change r ∷ rs) (r ∷ changed_at u.number change rs))
-      go true there later =
-          let same : r ≡ x = cc in
-          let zero_weight : weight_at r ≡ 0 = ap (λ o. unwrap_or o 0) (ap (λ y. y.counts) same ∙ none) in
-          inl (refl, omega (arith, zero_weight), fewer-refl rs)
-      go false there later = inl (refl, omega arith, later there none)
 
   -- ---- what is kept
 
@@ -198,17 +183,11 @@ module _ {K V : Type 0} where
   -- a newcomer's weight comes on top
   pub weight-put : (u : Upsert) (rs : List (Record K V)) (x : Record K V) → record_at rs u.number ≡ Some x → x.counts ≡ None → admitted_weight (with_write (Put u) rs) ≡ admitted_weight rs + u.weight
   weight-put u [] x there none = absurd (cc)
-  weight-put u (r ∷ rs) x there none = go (eqb r.number u.number) there (weight-put u rs x)
+  weight-put u (r ∷ rs) x there none =
+      elim (cases_Bool (eqb r.number u.number)) [
+        | inl e ↦ rw e (let same : r ≡ x = cc in let zero_weight : weight_at r ≡ 0 = ap (λ o. unwrap_or o 0) (ap (λ y. y.counts) same ∙ none) in omega (arith, zero_weight, weight-cons (change r) rs, weight-cons r rs))
+        | inr e ↦ rw e (let more = (weight-put u rs x) (rw e at there) none in omega (arith, weight-cons r (changed_at u.number change rs), weight-cons r rs))
+      ]
     where
       change : Record K V → Record K V
       change y = record y { applied = u.write; counts = Some u.weight }
-
-      go : (b : Bool) → cond b (Some r) (record_at rs u.number) ≡ Some x → (record_at rs u.number ≡ Some x → x.counts ≡ None → admitted_weight (changed_at u.number change rs) ≡ admitted_weight rs + u.weight)
-          → admitted_weight (cond b (change r ∷ rs) (r ∷ changed_at u.number change rs)) ≡ admitted_weight (r ∷ rs) + u.weight
-      go true there later =
-          let same : r ≡ x = cc in
-          let zero_weight : weight_at r ≡ 0 = ap (λ o. unwrap_or o 0) (ap (λ y. y.counts) same ∙ none) in
-          omega (arith, zero_weight, weight-cons (change r) rs, weight-cons r rs)
-      go false there later =
-          let more = later there none in
-          omega (arith, weight-cons r (changed_at u.number change rs), weight-cons r rs)

@@ -18,6 +18,7 @@ use Rattle.engine_reference.proofs.SoundSteps.{step-sound, steps-sound}
 use Rattle.engine_reference.proofs.TellingSteps.{told_once, notices_of-append, notices_of-none}
 use Rattle.engine_reference.proofs.Unapplied.{record_at-without, settled_in-settled, first-settled}
 use Rattle.engine_reference.specs.RunLaws.Fronts.{NothingIsDue, EvictsFront, RunsEvictShortestFront, for_size}
+use Rattle.std.proofs.lemmas.Bool.Decides.{nat_tests}
 
 -- ---- lists
 
@@ -45,22 +46,11 @@ module _ {K V : Type 0} where
     where
       gone : (rs : List (Record K V)) → AreNumbered rs → record_at (without_record n rs) n ≡ Some r → ⊥
       gone [] numbered h = absurd (cc)
-      gone (x ∷ rs) numbered h = go (eqb x.number n) refl h (gone rs numbered.1)
-        where
-          go : (b : Bool) → eqb x.number n ≡ b → record_at (cond b rs (x ∷ without_record n rs)) n ≡ Some r → (record_at (without_record n rs) n ≡ Some r → ⊥) → ⊥
-          go true t h later =
-              let none : record_at rs n ≡ None = ap (λ k. record_at rs k) (sym (eqb-true x.number n t)) ∙ numbered.0 in
-              let both : Some r ≡ None = sym h ∙ none in
-              absurd (cc)
-          go false t h later = later (sym (ap (λ b. cond b (Some x) (record_at (without_record n rs) n)) t) ∙ h)
+      gone (x ∷ rs) numbered h = let next = gone rs numbered.1 in grind (arith, nat_tests, h, next)
 
   pub each-at : (Q : Record K V → Type 0) (rs : List (Record K V)) (n : ℕ) (r : Record K V) → Each Q rs → record_at rs n ≡ Some r → Q r
   each-at Q [] n r h there = absurd (cc)
-  each-at Q (x ∷ rs) n r h there = go (eqb x.number n) there (each-at Q rs n r h.1)
-    where
-      go : (b : Bool) → cond b (Some x) (record_at rs n) ≡ Some r → (record_at rs n ≡ Some r → Q r) → Q r
-      go true there later = let same : x ≡ r = cc in subst Q same h.0
-      go false there later = later there
+  each-at Q (x ∷ rs) n r h there = let next = each-at Q rs n r h.1 in grind (arith, nat_tests, there, next)
 
 -- ---- the rest of a run
 

@@ -1,7 +1,7 @@
 -- What a run takes away it takes for a just cause.
 use Rattle.std.proofs.Common.{◌≡◌, refl, ap, sym, ◌∙◌, subst, ℕ, ◌+◌, ◌<◌, ◌≤◌, ◌||◌, arith, Bool, true, false, true≢false, not, cond, List, [], ◌∷◌, ◌++◌, Option, Some, None, map, is_some, append_assoc, append-nil, inl, inr, ◌⊎◌}
 use Rattle.std.specs.Prelude.{nat_lt, slice_get}
-use Rattle.std.proofs.lemmas.Bool.{eqb-true, ltb-true, ltb-false, lt-ltb}
+use Rattle.std.proofs.lemmas.Bool.{cond_both, eqb-true, ltb-true, ltb-false, lt-ltb}
 use Rattle.policy_base.specs.Counts.{incremented, frequency_of}
 use Rattle.engine_reference.specs.declared.rules.causes.RemovalCause.{RemovalCause}
 use Rattle.engine_reference.specs.declared.rules.causes.RemovalCause.TheVariants as cause
@@ -115,13 +115,10 @@ module _ {K V P S R : Type 0} (s : State K V P S R) where
       settled : List (Record K V)
       settled = settled_in s.records s.access
 
-      by_frequency : (b : Bool) (vs : List (Record K V)) → AllSettled s.records vs → Justified (cond b (displace vs) refuse)
-      by_frequency true vs h = h
-      by_frequency false vs h = tt
-
       by_front : (o : Option (List (Record K V))) → shortest_front u.weight settled ≡ o → Justified (contest s.sketch u.hash o)
       by_front None e = tt
-      by_front (Some vs) e = by_frequency (nat_lt (frequencies s.sketch vs) (frequency_of s.sketch u.hash)) vs (front-settled s.records u.weight settled vs (settled_in-settled s.records s.access) e)
+      by_front (Some vs) e =
+          cond_both (nat_lt (frequencies s.sketch vs) (frequency_of s.sketch u.hash)) _ _ Justified (λ _. front-settled s.records u.weight settled vs (settled_in-settled s.records s.access) e) (λ _. tt)
 
       by_policy : (p : EvictionPolicy) → Justified (verdict_of_full p s.sketch u settled)
       by_policy Lru = tt
@@ -252,7 +249,8 @@ module _ {K V P S R : Type 0} (base : List (Record K V)) (rest us : List Write) 
         → ((y : Record K V) → is_settled y ≡ true → record_at s.records y.number ≡ Some y → y.is_held ≡ true → Q cause.Size y.entry) × (x.is_held ≡ true → is_overtaken u x ≡ false → Q cause.Size x.entry))
         → WriteGoes Q (Put u) s (after_put u o s)
     put-goes None here just = put-none here
-    put-goes (Some x) here just = by_generation (nat_lt x.applied u.write) refl
+    put-goes (Some x) here just =
+        cond_both (nat_lt x.applied u.write) _ _ (WriteGoes Q (Put u) s) (λ _. by_counts x.counts refl) (λ e. absurd (let late = ltb-false x.applied u.write e in omega (arith, newer)))
       where
         full : Verdict K V
         full = cond (is_above s.settings.capacity u.weight) refuse (verdict_of_full s.settings.policy s.sketch u (settled_in s.records s.access))
@@ -268,10 +266,6 @@ module _ {K V P S R : Type 0} (base : List (Record K V)) (rest us : List Write) 
         -- its writes rise
         newer : x.applied < u.write
         newer = (each-at (Now base rest us (Put u)) s.records u.number x each here).0.0 (sym (record_at-number s.records u.number x here))
-
-        by_generation : (b : Bool) → nat_lt x.applied u.write ≡ b → WriteGoes Q (Put u) s (cond b (cond (is_some x.counts) (counting u s) (judged u x s (verdict s u))) s)
-        by_generation true t = by_counts x.counts refl
-        by_generation false t = absurd (let late = ltb-false x.applied u.write t in omega (arith, newer))
 
   module _ (Q : RemovalCause → Entry K V → Type 0) (n : ℕ) (s : State K V P S R) (numbered : AreNumbered s.records) (each : Each (Now base rest us (Removed n)) s.records) where
     removal-goes : ((r : Record K V) → record_at s.records n ≡ Some r → r.is_held ≡ false) → (o : Option (Record K V)) → record_at s.records n ≡ o → WriteGoes Q (Removed n) s (after_removal o s)
@@ -469,14 +463,9 @@ module _ {K V P S R : Type 0} (old : State K V P S R) (us : List Write) (us_are 
         t : State K V P S R
         t = record s { sketch = incremented s.sketch hash }
 
-        by_counts : (m : ℕ) (b : Bool) → ((cond b (record t { access = moved_to_back m t.access }) t).records ≡ s.records) × ((cond b (record t { access = moved_to_back m t.access }) t).writes ≡ s.writes)
-            × ((cond b (record t { access = moved_to_back m t.access }) t).settings ≡ s.settings) × ((cond b (record t { access = moved_to_back m t.access }) t).notices ≡ s.notices) × ((cond b (record t { access = moved_to_back m t.access }) t).unsent ≡ s.unsent)
-        by_counts m true = (refl, refl, refl, refl, refl)
-        by_counts m false = (refl, refl, refl, refl, refl)
-
         by_record : (o : Option (Record K V)) → ((after_hit o t).records ≡ s.records) × ((after_hit o t).writes ≡ s.writes) × ((after_hit o t).settings ≡ s.settings) × ((after_hit o t).notices ≡ s.notices) × ((after_hit o t).unsent ≡ s.unsent)
         by_record None = (refl, refl, refl, refl, refl)
-        by_record (Some r) = by_counts r.number (is_some r.counts)
+        by_record (Some r) = grind (arith, r.number)
 
     same-goes : (done : List Write) (s t : State K V P S R) → Going done s → IsSound t → t.records ≡ s.records → t.writes ≡ s.writes → t.settings ≡ s.settings → t.notices ≡ s.notices → t.unsent ≡ s.unsent → StepGoes s t
     same-goes done s t g sound records queued settings notices unsent = record {

@@ -1,7 +1,7 @@
 -- Calls and uncut runs keep a state in order.
 use Rattle.std.proofs.Common.{zero, suc, ◌≡◌, refl, ap, sym, ◌∙◌, subst, ℕ, ◌+◌, ◌<◌, ◌≤◌, arith, Bool, true, false, true≢false, cond, List, [], ◌∷◌, ◌++◌, Option, Some, None, map, append_assoc, inl, inr, eqb, ◌==◌}
 use Rattle.std.specs.Prelude.{nat_lt, unwrap_or, sum_by}
-use Rattle.std.proofs.lemmas.Bool.{eqb-true, eq-eqb, ne_eqb, ltb-true}
+use Rattle.std.proofs.lemmas.Bool.{cond_both, cases_Bool, eqb-true, eq-eqb, ne_eqb, ltb-true}
 use Rattle.std.proofs.lemmas.List.{map-append}
 use Rattle.engine_reference.specs.declared.data.Entry.{Entry}
 use Rattle.engine_reference.specs.declared.data.Record.{Record}
@@ -70,20 +70,13 @@ not_above capacity a b less h = go (is_above capacity a) refl
 
 not_above-within : (capacity : Option ℕ) (a : ℕ) → ((c : ℕ) → capacity ≡ Some c → a ≤ c) → is_above capacity a ≡ false
 not_above-within None a h = refl
-not_above-within (Some c) a h = go (nat_lt c a) refl
-  where
-    go : (b : Bool) → nat_lt c a ≡ b → b ≡ false
-    go true e = absurd (let over = ltb-true c a e in let within = h c refl in omega arith)
-    go false e = refl
+not_above-within (Some c) a h = elim (cases_Bool (nat_lt c a)) [ inl is ↦ absurd (let over = ltb-true c a is in let within = h c refl in omega arith) | inr is ↦ rw is ]
 
 module _ {K V : Type 0} where
   pub rising-push_own : (x : Record K V) (a : ℕ) (v : Upsert) (ws : List Write) → ((w : Write) → IsIn w ws → Fits w x) → a < v.write → x.writes < v.write → AreRising x.number a ws → AreRising x.number a (ws ++ Put v ∷ [])
   rising-push_own x a v [] fits less last h = ((λ e. less), tt)
-  rising-push_own x a v (Put u ∷ ws) fits less last h = (h.0, rising-push_own x (cond (u.number == x.number) u.write a) v ws (λ w i. fits w (inr i)) (go (u.number == x.number) refl) last h.1)
-    where
-      go : (b : Bool) → eqb u.number x.number ≡ b → cond b u.write a < v.write
-      go true e = let within = (fits (Put u) (inl refl) (eqb-true u.number x.number e)).earlier in omega arith
-      go false e = less
+  rising-push_own x a v (Put u ∷ ws) fits less last h =
+      (h.0, rising-push_own x (cond (u.number == x.number) u.write a) v ws (λ w i. fits w (inr i)) ((cond_both (u.number == x.number) _ _ (λ z. z < v.write) (λ is. let within = (fits (Put u) (inl refl) (eqb-true u.number x.number is)).earlier in omega arith) (λ _. less))) last h.1)
   rising-push_own x a v (Removed k ∷ ws) fits less last h = rising-push_own x a v ws (λ w i. fits w (inr i)) less last h
 
   -- ---- all that is pending, applied in turn
@@ -99,19 +92,11 @@ module _ {K V : Type 0} where
   -- a record of which nothing is pending, and that does not count
   changed-push : (n : ℕ) (change : Record K V → Record K V) (rs : List (Record K V)) (x : Record K V) → (x.number ≡ n → ⊥) → changed_at n change (rs ++ x ∷ []) ≡ changed_at n change rs ++ x ∷ []
   changed-push n change [] x other = ap (λ b. cond b (change x ∷ []) (x ∷ [])) (ne_eqb x.number n other)
-  changed-push n change (r ∷ rs) x other = go (eqb r.number n) (changed-push n change rs x other)
-    where
-      go : (b : Bool) → changed_at n change (rs ++ x ∷ []) ≡ changed_at n change rs ++ x ∷ [] → cond b (change r ∷ (rs ++ x ∷ [])) (r ∷ changed_at n change (rs ++ x ∷ [])) ≡ cond b (change r ∷ rs) (r ∷ changed_at n change rs) ++ x ∷ []
-      go true later = refl
-      go false later = ap (λ l. r ∷ l) later
+  changed-push n change (r ∷ rs) x other = elim (cases_Bool (eqb r.number n)) [ inl e ↦ rw e | inr e ↦ rw e (ap (λ l. r ∷ l) (changed-push n change rs x other)) ]
 
   without-push : (n : ℕ) (rs : List (Record K V)) (x : Record K V) → (x.number ≡ n → ⊥) → without_record n (rs ++ x ∷ []) ≡ without_record n rs ++ x ∷ []
   without-push n [] x other = ap (λ b. cond b [] (x ∷ [])) (ne_eqb x.number n other)
-  without-push n (r ∷ rs) x other = go (eqb r.number n) (without-push n rs x other)
-    where
-      go : (b : Bool) → without_record n (rs ++ x ∷ []) ≡ without_record n rs ++ x ∷ [] → cond b (rs ++ x ∷ []) (r ∷ without_record n (rs ++ x ∷ [])) ≡ cond b rs (r ∷ without_record n rs) ++ x ∷ []
-      go true later = refl
-      go false later = ap (λ l. r ∷ l) later
+  without-push n (r ∷ rs) x other = elim (cases_Bool (eqb r.number n)) [ inl e ↦ rw e | inr e ↦ rw e (ap (λ l. r ∷ l) (without-push n rs x other)) ]
 
   write-push : (w : Write) (rs : List (Record K V)) (x : Record K V) → (number_of w ≡ x.number → ⊥) → with_write w (rs ++ x ∷ []) ≡ with_write w rs ++ x ∷ []
   write-push (Put u) rs x other = changed-push u.number (λ r. record r { applied = u.write; counts = Some u.weight }) rs x (λ e. other (sym e))

@@ -1,7 +1,7 @@
 -- The state's own write list is in order after each run, where the pending writes of a record rise.
 use Rattle.std.proofs.Common.{◌≡◌, refl, ap, sym, ◌∙◌, subst, ℕ, ◌+◌, ◌<◌, arith, Bool, true, false, true≢false, not, cond, List, [], ◌∷◌, ◌++◌, Option, Some, None, is_some, inl, inr, ◌⊎◌, eqb, ◌==◌}
 use Rattle.std.specs.Prelude.{nat_lt}
-use Rattle.std.proofs.lemmas.Bool.{eqb-true, ltb-false}
+use Rattle.std.proofs.lemmas.Bool.{cond_both, cases_Bool, eqb-true, ltb-false}
 use Rattle.policy_base.specs.Counts.{incremented}
 use Rattle.engine_reference.specs.declared.rules.causes.RemovalCause.{RemovalCause}
 use Rattle.engine_reference.specs.declared.rules.causes.RemovalCause.TheVariants as cause
@@ -271,27 +271,19 @@ module _ {K V P S R : Type 0} where
             (each-without r.number (HasEntryFrom s.records) (λ y. y.number ≡ u.number → ⊥) (λ y other q is. other (is ∙ sym same)) s.records h.numbered (own-entry s.records h.numbered))
             (front-gone next (Put u ∷ rest) s.records s.order r.number h)
 
-        refused : (b : Bool) → InFront next rest (cond b (put_off u s) (left cause.Size u.number s)).records (cond b (put_off u s) (left cause.Size u.number s)).order
-        refused true = front-put_off next rest s.records s.order u x here none h
-        refused false = gone (record_at s.records u.number) refl
-
         go : (v : Verdict K V) → InFront next rest (judged u x s v).records (judged u x s v).order
         go admit = front-counting next rest s.records s.order u low h
         go (displace vs) =
             front-counting next rest (all_left cause.Size vs s).records (all_left cause.Size vs s).order u low (front-all_left next (Put u ∷ rest) cause.Size vs s h)
-        go refuse = refused (is_overtaken u x)
+        go refuse = elim (cases_Bool (is_overtaken u x)) [ inl e ↦ rw e (front-put_off next rest s.records s.order u x here none h) | inr e ↦ rw e (gone (record_at s.records u.number) refl) ]
 
     front-put : (o : Option (Record K V)) → record_at s.records u.number ≡ o → InFront next rest (after_put u o s).records (after_put u o s).order
     front-put None here = front-absent next rest s.records s.order u (none_there u.number s.records here) h
     front-put (Some x) here = by_generation (nat_lt x.applied u.write) refl
       where
-        by_admission : (b : Bool) → is_some x.counts ≡ b → InFront next rest (cond b (counting u s) (judged u x s (verdict s u))).records (cond b (counting u s) (judged u x s (verdict s u))).order
-        by_admission true e = front-counting next rest s.records s.order u low h
-        by_admission false e = front-judged x here e (verdict s u)
-
         by_generation : (b : Bool) → nat_lt x.applied u.write ≡ b
             → InFront next rest (cond b (cond (is_some x.counts) (counting u s) (judged u x s (verdict s u))) s).records (cond b (cond (is_some x.counts) (counting u s) (judged u x s (verdict s u))) s).order
-        by_generation true t = by_admission (is_some x.counts) refl
+        by_generation true t = elim (cases_Bool (is_some x.counts)) [ inl is ↦ rw is (front-counting next rest s.records s.order u low h) | inr is ↦ rw is (front-judged x here is (verdict s u)) ]
         by_generation false t = absurd (
             let newer = (each-at (λ r. AreRising r.number r.applied (Put u ∷ rest)) s.records u.number x h.rising here).0 (sym (record_at-number s.records u.number x here)) in
             let older = ltb-false x.applied u.write t in
@@ -299,14 +291,14 @@ module _ {K V P S R : Type 0} where
 
   front-removal : (next : ℕ) (rest : List Write) (n : ℕ) (s : State K V P S R) → InFront next (Removed n ∷ rest) s.records s.order → (o : Option (Record K V)) → InFront next rest (after_removal o s).records (after_removal o s).order
   front-removal next rest n s h None = front-removed next rest s.records s.order n h
-  front-removal next rest n s h (Some x) = go x.is_held
+  front-removal next rest n s h (Some x) =
+      elim (cases_Bool x.is_held) [
+        | inl e ↦ rw e (front-removed next rest s.records s.order n h)
+        | inr e ↦ rw e (front-gone next rest s.records s.order x.number (front-removed next rest s.records s.order n h))
+      ]
     where
       gone : State K V P S R
       gone = record s { records = without_record x.number s.records; access = without x.number s.access; order = without x.number s.order }
-
-      go : (b : Bool) → InFront next rest (cond b s gone).records (cond b s gone).order
-      go true = front-removed next rest s.records s.order n h
-      go false = front-gone next rest s.records s.order x.number (front-removed next rest s.records s.order n h)
 
   front-write : (next : ℕ) (rest : List Write) (w : Write) (s : State K V P S R) → number_of w < next → InFront next (w ∷ rest) s.records s.order → InFront next rest (after_write w s).records (after_write w s).order
   front-write next rest (Put u) s low h = front-put next rest u s low h (record_at s.records u.number) refl
@@ -339,13 +331,9 @@ module _ {K V P S R : Type 0} where
       t : State K V P S R
       t = record s { sketch = incremented s.sketch hash }
 
-      by_counts : (m : ℕ) (b : Bool) → IsFront (cond b (record t { access = moved_to_back m t.access }) t)
-      by_counts m true = h
-      by_counts m false = h
-
       by_record : (o : Option (Record K V)) → IsFront (after_hit o t)
       by_record None = h
-      by_record (Some r) = by_counts r.number (is_some r.counts)
+      by_record (Some r) = cond_both (is_some r.counts) _ _ IsFront (λ _. h) (λ _. h)
 
   left-front : (why : RemovalCause) (n : ℕ) (s : State K V P S R) → IsFront s → IsFront (left why n s)
   left-front why n s h =

@@ -1,8 +1,8 @@
 -- What calls show.
-use Rattle.std.proofs.Common.{◌≡◌, refl, ap, sym, ◌∙◌, ℕ, ◌+◌, Bool, true, false, true≢false, cond, ◌&&◌, List, [], ◌∷◌, ◌++◌, Option, Some, None, inl, inr, ◌⊎◌, eqb}
+use Rattle.std.proofs.Common.{arith, ◌≡◌, refl, ap, sym, ◌∙◌, ℕ, ◌+◌, Bool, true, false, true≢false, cond, ◌&&◌, List, [], ◌∷◌, ◌++◌, Option, Some, None, inl, inr, ◌⊎◌, eqb}
 use Rattle.std.specs.Cmp.{IsEquivalence}
 use Rattle.std.specs.Option.{option_map}
-use Rattle.std.proofs.lemmas.Bool.{eqb-true, and_parts}
+use Rattle.std.proofs.lemmas.Bool.{cond_both, cases_Bool, eqb-true, and_parts}
 use Rattle.engine_reference.specs.declared.data.Entry.{Entry}
 use Rattle.engine_reference.specs.declared.data.Record.{Record}
 use Rattle.engine_reference.specs.Calls.{with_written, first_entry, next_entry, with_removed, removal_told, with_read, used_entry}
@@ -14,6 +14,7 @@ use Rattle.engine_reference.specs.Visible.{visible, visible_record, visible_valu
 use Rattle.engine_reference.proofs.Accounts.{each-map, only_one}
 use Rattle.engine_reference.proofs.SoundCalls.{held_at-only}
 use Rattle.engine_reference.specs.RunLaws.Showing.{OnlyWritesShow, CallsKeepApart}
+use Rattle.std.proofs.lemmas.Bool.Decides.{nat_tests}
 
 -- what a choice gives that is none
 cond_none : {A : Type 0} (b : Bool) (x : A) (o : Option A) → cond b (Some x) o ≡ None → (b ≡ false) × (o ≡ None)
@@ -36,16 +37,7 @@ module _ {K V : Type 0} (eq : K → K → Bool) where
 
   pub entry-held : (rs : List (Record K V)) (key : K) → entry_of eq (held_entries rs) key ≡ option_map (λ r. r.entry) (held_at eq rs key)
   entry-held [] key = refl
-  entry-held (x ∷ rs) key = go x.is_held (entry-held rs key)
-    where
-      go : (b : Bool) → entry_of eq (held_entries rs) key ≡ option_map (λ r. r.entry) (held_at eq rs key)
-          → entry_of eq (cond b (x.entry ∷ held_entries rs) (held_entries rs)) key ≡ option_map (λ r. r.entry) (cond (b && eq key x.entry.key) (Some x) (held_at eq rs key))
-      go false later = later
-      go true later = by_key (eq key x.entry.key)
-        where
-          by_key : (c : Bool) → cond c (Some x.entry) (entry_of eq (held_entries rs) key) ≡ option_map (λ r. r.entry) (cond c (Some x) (held_at eq rs key))
-          by_key true = refl
-          by_key false = later
+  entry-held (x ∷ rs) key = let next = entry-held rs key in grind (arith, nat_tests, next)
 
   pub to-records : (rs : List (Record K V)) → AreApart eq (held_entries rs) → RecordsApart rs
   to-records [] h = tt
@@ -57,11 +49,7 @@ module _ {K V : Type 0} (eq : K → K → Bool) where
 
   pub from-records : (rs : List (Record K V)) → RecordsApart rs → AreApart eq (held_entries rs)
   from-records [] h = tt
-  from-records (x ∷ rs) h = go x.is_held refl (from-records rs h.1)
-    where
-      go : (b : Bool) → x.is_held ≡ b → AreApart eq (held_entries rs) → AreApart eq (cond b (x.entry ∷ held_entries rs) (held_entries rs))
-      go true t later = (entry-held rs x.entry.key ∙ ap (λ o. option_map (λ r. r.entry) o) (h.0 t), later)
-      go false t later = later
+  from-records (x ∷ rs) h = cond_both x.is_held _ _ (AreApart eq) (λ e. (entry-held rs x.entry.key ∙ ap (λ o. option_map (λ r. r.entry) o) (h.0 e), (from-records rs h.1))) (λ _. from-records rs h.1)
 
   -- ---- a record changes, with a key that compares as before, and is not held anew
 
@@ -72,26 +60,17 @@ module _ {K V : Type 0} (eq : K → K → Bool) where
   still_none n change [] mild key h = refl
   still_none n change (x ∷ rs) mild key h =
       let p = cond_none (x.is_held && eq key x.entry.key) x (held_at eq rs key) h in
-      go (eqb x.number n) refl p.0 p.1 (still_none n change rs mild.1 key p.1)
+      cond_both (eqb x.number n) _ _ (λ z. held_at eq z key ≡ None) (λ e. ap (λ c. cond c (Some (change x)) (held_at eq rs key)) (unmatched (change x).is_held refl (mild.0 (eqb-true x.number n e)) p.0) ∙ p.1) (λ _. ap (λ c. cond c (Some x) (held_at eq (changed_at n change rs) key)) p.0 ∙ (still_none n change rs mild.1 key p.1))
     where
       unmatched : (b : Bool) → (change x).is_held ≡ b → (((change x).is_held ≡ true → x.is_held ≡ true) × ((key : K) → eq key (change x).entry.key ≡ eq key x.entry.key)) → (x.is_held && eq key x.entry.key) ≡ false → (b && eq key (change x).entry.key) ≡ false
       unmatched false t m unlike = refl
       unmatched true t m unlike = m.1 key ∙ sym (ap (λ c. c && eq key x.entry.key) (m.0 t)) ∙ unlike
 
-      go : (b : Bool) → eqb x.number n ≡ b → (x.is_held && eq key x.entry.key) ≡ false → held_at eq rs key ≡ None → held_at eq (changed_at n change rs) key ≡ None → held_at eq (cond b (change x ∷ rs) (x ∷ changed_at n change rs)) key ≡ None
-      go true t unlike none later = ap (λ c. cond c (Some (change x)) (held_at eq rs key)) (unmatched (change x).is_held refl (mild.0 (eqb-true x.number n t)) unlike) ∙ none
-      go false t unlike none later = ap (λ c. cond c (Some x) (held_at eq (changed_at n change rs) key)) unlike ∙ later
-
   module _ (alike : (a b : K) → ((key : K) → eq key a ≡ eq key b) → (rs : List (Record K V)) → held_at eq rs a ≡ None → held_at eq rs b ≡ None) where
     apart-changed : (n : ℕ) (change : Record K V → Record K V) (rs : List (Record K V)) → Each (IsMild n change) rs → RecordsApart rs → RecordsApart (changed_at n change rs)
     apart-changed n change [] mild h = tt
-    apart-changed n change (x ∷ rs) mild h = go (eqb x.number n) refl (apart-changed n change rs mild.1 h.1)
-      where
-        go : (b : Bool) → eqb x.number n ≡ b → RecordsApart (changed_at n change rs) → RecordsApart (cond b (change x ∷ rs) (x ∷ changed_at n change rs))
-        go true t later =
-            let m = mild.0 (eqb-true x.number n t) in
-            ((λ held. alike x.entry.key (change x).entry.key (λ key. sym (m.1 key)) rs (h.0 (m.0 held))), h.1)
-        go false t later = ((λ held. still_none n change rs mild.1 x.entry.key (h.0 held)), later)
+    apart-changed n change (x ∷ rs) mild h =
+        cond_both (eqb x.number n) _ _ RecordsApart (λ e. let m = mild.0 (eqb-true x.number n e) in ((λ held. alike x.entry.key (change x).entry.key (λ key. sym (m.1 key)) rs (h.0 (m.0 held))), h.1)) (λ _. ((λ held. still_none n change rs mild.1 x.entry.key (h.0 held)), (apart-changed n change rs mild.1 h.1)))
 
   -- ---- what is found
 
@@ -99,14 +78,7 @@ module _ {K V : Type 0} (eq : K → K → Bool) where
   pub unmatched-changed : (n : ℕ) (change : Record K V → Record K V) (key : K) (rs : List (Record K V)) → Each (λ x. x.number ≡ n → (eq key x.entry.key ≡ false) × (eq key (change x).entry.key ≡ false)) rs
       → held_at eq (changed_at n change rs) key ≡ held_at eq rs key
   unmatched-changed n change key [] h = refl
-  unmatched-changed n change key (x ∷ rs) h = go (eqb x.number n) refl (unmatched-changed n change key rs h.1)
-    where
-      go : (b : Bool) → eqb x.number n ≡ b → held_at eq (changed_at n change rs) key ≡ held_at eq rs key → held_at eq (cond b (change x ∷ rs) (x ∷ changed_at n change rs)) key ≡ cond (x.is_held && eq key x.entry.key) (Some x) (held_at eq rs key)
-      go true t later =
-          let k = h.0 (eqb-true x.number n t) in
-          ap (λ c. cond c (Some (change x)) (held_at eq rs key)) (and_left_false (change x).is_held (eq key (change x).entry.key) k.1)
-          ∙ sym (ap (λ c. cond c (Some x) (held_at eq rs key)) (and_left_false x.is_held (eq key x.entry.key) k.0))
-      go false t later = ap (λ o. cond (x.is_held && eq key x.entry.key) (Some x) o) later
+  unmatched-changed n change key (x ∷ rs) h = let next = unmatched-changed n change key rs h.1 in grind (arith, nat_tests, next)
 
   pub held-push : (rs : List (Record K V)) (x : Record K V) (key : K) → eq key x.entry.key ≡ false → held_at eq (rs ++ x ∷ []) key ≡ held_at eq rs key
   held-push [] x key unlike = ap (λ c. cond c (Some x) None) (and_left_false x.is_held (eq key x.entry.key) unlike)
@@ -135,11 +107,7 @@ module _ {K V : Type 0} (eq : K → K → Bool) where
 module _ {K V : Type 0} (eq : K → K → Bool) where
   pub held_at-match : (rs : List (Record K V)) (key : K) (r : Record K V) → held_at eq rs key ≡ Some r → eq key r.entry.key ≡ true
   held_at-match [] key r h = absurd (cc)
-  held_at-match (x ∷ rs) key r h = go (x.is_held && eq key x.entry.key) refl h (held_at-match rs key r)
-    where
-      go : (b : Bool) → (x.is_held && eq key x.entry.key) ≡ b → cond b (Some x) (held_at eq rs key) ≡ Some r → (held_at eq rs key ≡ Some r → eq key r.entry.key ≡ true) → eq key r.entry.key ≡ true
-      go true t e later = let same : x ≡ r = cc in ap (λ y. eq key y.entry.key) (sym same) ∙ (and_parts x.is_held (eq key x.entry.key) t).1
-      go false t e later = later e
+  held_at-match (x ∷ rs) key r h = let next = held_at-match rs key r in grind (arith, nat_tests, h, next)
 
 module _ {K V : Type 0} (eq : K → K → Bool) (laws : IsEquivalence eq) where
   alike_none : (rs : List (Record K V)) (a b : K) → eq a b ≡ true → held_at eq rs b ≡ None → held_at eq rs a ≡ None
@@ -187,11 +155,7 @@ pass_none test a b (inr e) = inr (ap (λ o. passing test o) e)
 -- what passed
 passed : {X : Type 0} (test : X → Bool) (o : Option X) (x : X) → passing test o ≡ Some x → (o ≡ Some x) × (test x ≡ true)
 passed test None x h = absurd (cc)
-passed test (Some y) x h = go (test y) refl h
-  where
-    go : (b : Bool) → test y ≡ b → cond b (Some y) None ≡ Some x → (Some y ≡ Some x) × (test x ≡ true)
-    go true t e = let same : y ≡ x = cc in (e, ap test (sym same) ∙ t)
-    go false t e = absurd (cc)
+passed test (Some y) x h = grind (arith, nat_tests, h)
 
 module _ {K V P S R : Type 0} where
   removed-shows : (eq : K → K → Bool) → IsEquivalence eq → (answers : Answers K V P R) (s : State K V P S R) (moment : ℕ) (other : K) → RecordsApart eq s.records → (o : Option (Record K V))
@@ -220,7 +184,11 @@ module _ {K V P S R : Type 0} where
 
       by_visible : (x : Record K V) → held_at eq s.records other ≡ Some x → x.number ≡ r.number → held_at eq (changed_at r.number f s.records) other ≡ Some (f x) → (b : Bool) → is_visible answers s now (f r).entry ≡ b
           → (value_of (held_at eq (changed_at r.number f s.records) other) ≡ value_of (held_at eq s.records other)) ⊎ (value_of (held_at eq (changed_at r.number f s.records) other) ≡ None)
-      by_visible x there number after b t = go b t
+      by_visible x there number after b t =
+          elim (cases_Bool b) [
+            | inl e ↦ let t = rw e at t in inl (now_is ∙ ap (λ c. option_map (λ x. x.value) (option_map (λ x. x.entry) (cond c (Some (f r)) None))) t ∙ sym was)
+            | inr e ↦ let t = rw e at t in inr (now_is ∙ ap (λ c. option_map (λ x. x.value) (option_map (λ x. x.entry) (cond c (Some (f r)) None))) t)
+          ]
         where
           is_r : x ≡ r
           is_r = let both : Some x ≡ Some r = sym (held_at-only eq s.records other x sound.records.numbered there) ∙ ap (λ n. record_at s.records n) number ∙ held_at-only eq s.records key r sound.records.numbered found.0 in cc
@@ -230,10 +198,6 @@ module _ {K V P S R : Type 0} where
 
           was : value_of (held_at eq s.records other) ≡ Some r.entry.value
           was = ap (λ o. value_of o) (there ∙ ap Some is_r) ∙ ap (λ c. option_map (λ x. x.value) (option_map (λ x. x.entry) (cond c (Some r) None))) found.1
-
-          go : (b : Bool) → is_visible answers s now (f r).entry ≡ b → (value_of (held_at eq (changed_at r.number f s.records) other) ≡ value_of (held_at eq s.records other)) ⊎ (value_of (held_at eq (changed_at r.number f s.records) other) ≡ None)
-          go true t = inl (now_is ∙ ap (λ c. option_map (λ x. x.value) (option_map (λ x. x.entry) (cond c (Some (f r)) None))) t ∙ sym was)
-          go false t = inr (now_is ∙ ap (λ c. option_map (λ x. x.value) (option_map (λ x. x.entry) (cond c (Some (f r)) None))) t)
 
   written-shows : (eq : K → K → Bool) → IsEquivalence eq → (answers : Answers K V P R) (s : State K V P S R) (key : K) (hash : ℕ) (value : V) (now step moment : ℕ) (other : K) → IsSound s → eq other key ≡ false → (o : Option (Record K V)) → held_at eq s.records key ≡ o
       → visible answers eq (with_written answers o s key hash value now step) moment other ≡ visible answers eq s moment other

@@ -1,7 +1,7 @@
 -- What an uncut run leaves of times and clears.
 use Rattle.std.proofs.Common.{◌≡◌, refl, ap, sym, ◌∙◌, subst, ℕ, ◌+◌, ◌<◌, ◌≤◌, arith, Bool, true, false, true≢false, not, cond, List, [], ◌∷◌, ◌++◌, Option, Some, None, is_some, inl, inr, ◌⊎◌, eqb, ◌==◌}
 use Rattle.std.specs.Prelude.{nat_lt}
-use Rattle.std.proofs.lemmas.Bool.{eqb-true, eqb-false, eq-eqb, ne_eqb, ltb-false}
+use Rattle.std.proofs.lemmas.Bool.{cases_Bool, eqb-true, eqb-false, eq-eqb, ne_eqb, ltb-false}
 use Rattle.policy_base.specs.Counts.{incremented}
 use Rattle.engine_reference.specs.declared.rules.causes.RemovalCause.TheVariants as cause
 use Rattle.std.specs.List.{list_any}
@@ -33,6 +33,7 @@ use Rattle.engine_reference.specs.RunLaws.Fronts.{NothingIsDue}
 use Rattle.engine_reference.proofs.run_laws.Fronting.{each-at, or_right}
 use Rattle.engine_reference.proofs.run_laws.Rising.{each-own}
 use Rattle.engine_reference.proofs.run_laws.Ticking.{own-tick, changed-tick, end-later, end-after, tick-not_reached, lt-false-up, earlier-not_reached}
+use Rattle.std.proofs.lemmas.Bool.Decides.{nat_tests}
 
 -- ---- what maintenance does not touch
 
@@ -77,13 +78,9 @@ module _ {K V P S R : Type 0} (Q : Record K V → Type 0) (stable : (r : Record 
       t : State K V P S R
       t = record s { sketch = incremented s.sketch hash }
 
-      by_counts : (m : ℕ) (b : Bool) → (cond b (record t { access = moved_to_back m t.access }) t).records ≡ s.records
-      by_counts m true = refl
-      by_counts m false = refl
-
       by_record : (o : Option (Record K V)) → (after_hit o t).records ≡ s.records
       by_record None = refl
-      by_record (Some r) = by_counts r.number (is_some r.counts)
+      by_record (Some r) = grind (arith, nat_tests, r.number)
 
   module _ (answers : Answers K V P R) (now : ℕ) where
     pub each-step : (s t : State K V P S R) → IsSound s → Each Q s.records → Step answers now s t → Each Q t.records
@@ -133,18 +130,8 @@ module _ {K V : Type 0} where
       → ((m : ℕ) (y x : Record K V) → record_at rs m ≡ Some y → record_at rs' n ≡ Some x → IsWrittenBefore y x)
       → (ns : List ℕ) → InOrderBy IsWrittenBefore rs ns → InOrderBy IsWrittenBefore rs' (moved_to_back n ns)
   ordered-back rs rs' n back last [] h = ((λ m y x i here there. elim i [ ]), tt)
-  ordered-back rs rs' n back last (k ∷ ns) h = go (k == n) refl (ordered-back rs rs' n back last ns h.1)
-    where
-      go : (b : Bool) → eqb k n ≡ b → InOrderBy IsWrittenBefore rs' (moved_to_back n ns) → InOrderBy IsWrittenBefore rs' (cond (not b) (k ∷ without n ns) (without n ns) ++ n ∷ [])
-      go true t later = later
-      go false t later =
-          let other : (k ≡ n → ⊥) = eqb-false k n t in (
-            (λ m y x i here there. elim (in_pushed n m (without n ns) i) [
-              | inl j ↦ h.0 m y x (IsIn-without_from n m ns j) (back k y other here) (back m x (λ same. not_in-without n ns (subst (λ z. IsIn z (without n ns)) same j)) there)
-              | inr same ↦ last k y x (back k y other here) (ap (λ z. record_at rs' z) same ∙ there)
-            ]),
-            later,
-          )
+  ordered-back rs rs' n back last (k ∷ ns) h =
+      elim (cases_Bool (k == n)) [ inl e ↦ rw e (ordered-back rs rs' n back last ns h.1) | inr e ↦ rw e (let other : (k ≡ n → ⊥) = eqb-false k n e in ((λ m y x i here there. elim (in_pushed n m (without n ns) i) [ inl j ↦ h.0 m y x (IsIn-without_from n m ns j) (back k y other here) (back m x (λ same. not_in-without n ns (subst (λ z. IsIn z (without n ns)) same j)) there) | inr same ↦ last k y x (back k y other here) (ap (λ z. record_at rs' z) same ∙ there) ]), (ordered-back rs rs' n back last ns h.1))) ]
 
   -- the first of the list that is there stands before each other
   pub first-before : (Rel : Record K V → Record K V → Type 0) → ((x : Record K V) → Rel x x) → (rs : List (Record K V)) → Each (λ r. is_some r.counts ≡ true) rs → (ns : List ℕ) → InOrderBy Rel rs ns
@@ -170,25 +157,19 @@ module _ {K V : Type 0} where
   first-found rs [] r e = absurd (cc)
   first-found rs (n ∷ ns) r e = go (record_at rs n) refl e (first-found rs ns r)
     where
-      by_counts : (b : Bool) (x : Record K V) → record_at rs n ≡ Some x → first_of (cond b (x ∷ admitted_in rs ns) (admitted_in rs ns)) ≡ Some r → (first_of (admitted_in rs ns) ≡ Some r → record_at rs r.number ≡ Some r) → record_at rs r.number ≡ Some r
-      by_counts true x there e later = let same : x ≡ r = cc in ap (λ y. record_at rs y.number) (sym same) ∙ ap (λ k. record_at rs k) (record_at-number rs n x there) ∙ there ∙ ap Some same
-      by_counts false x there e later = later e
-
       go : (o : Option (Record K V)) → record_at rs n ≡ o → first_of (with_admitted o (admitted_in rs ns)) ≡ Some r → (first_of (admitted_in rs ns) ≡ Some r → record_at rs r.number ≡ Some r) → record_at rs r.number ≡ Some r
       go None there e later = later e
-      go (Some x) there e later = by_counts (is_some x.counts) x there e later
+      go (Some x) there e later =
+          elim (cases_Bool (is_some x.counts)) [
+            | inl is ↦ let same : x ≡ r = cc in ap (λ y. record_at rs y.number) (sym same) ∙ ap (λ k. record_at rs k) (record_at-number rs n x there) ∙ there ∙ ap Some same
+            | inr is ↦ later (rw is at e)
+          ]
 
   -- ---- records by number
 
   pub changed-other : (n m : ℕ) (change : Record K V → Record K V) → ((x : Record K V) → (change x).number ≡ x.number) → (rs : List (Record K V)) → (m ≡ n → ⊥) → record_at (changed_at n change rs) m ≡ record_at rs m
   changed-other n m change same [] other = refl
-  changed-other n m change same (r ∷ rs) other = go (eqb r.number n) refl (changed-other n m change same rs other)
-    where
-      go : (b : Bool) → eqb r.number n ≡ b → record_at (changed_at n change rs) m ≡ record_at rs m → record_at (cond b (change r ∷ rs) (r ∷ changed_at n change rs)) m ≡ cond (eqb r.number m) (Some r) (record_at rs m)
-      go true t later =
-          let apart : eqb r.number m ≡ false = ne_eqb r.number m (λ e. other (sym e ∙ eqb-true r.number n t)) in
-          ap (λ k. cond (eqb k m) (Some (change r)) (record_at rs m)) (same r) ∙ ap (λ b. cond b (Some (change r)) (record_at rs m)) apart ∙ sym (ap (λ b. cond b (Some r) (record_at rs m)) apart)
-      go false t later = ap (λ o. cond (eqb r.number m) (Some r) o) later
+  changed-other n m change same (r ∷ rs) other = let next = changed-other n m change same rs other in grind (arith, nat_tests, next)
 
   -- what is found after a change was there before, or is what it became
   pub changed-from : (n m : ℕ) (change : Record K V → Record K V) → ((x : Record K V) → (change x).number ≡ x.number) → (rs : List (Record K V)) (r : Record K V) → record_at (changed_at n change rs) m ≡ Some r
@@ -474,15 +455,11 @@ module _ {K V P S R : Type 0} where
         first-before IsUsedBefore (λ x. omega arith) new.records all_admitted new.access close r.number r (listed admitted) there
 
     run-own : IsSweptBy now (order_after old.writes order) old new → (r : Record K V) → record_at new.records r.number ≡ Some r → (expires : ℕ) → r.entry.expires ≡ Some expires → tick_of new.settings now ≤ tick_of new.settings expires
-    run-own swept r there expires e = subst (λ c. tick_of c now ≤ tick_of c expires) (sym k.settings) (go (nat_lt (tick_of old.settings old.ran) (tick_of old.settings now)) refl)
-      where
-        go : (b : Bool) → nat_lt (tick_of old.settings old.ran) (tick_of old.settings now) ≡ b → tick_of old.settings now ≤ tick_of old.settings expires
-        go true t = tick-not_reached old.settings r.entry.expires expires now (swept.own t r there) e
-        go false t =
-            let f = from-at old new k r.number r there in
-            let before = each-at (λ x. (expires : ℕ) → x.entry.expires ≡ Some expires → tick_of old.settings old.ran ≤ tick_of old.settings expires) old.records r.number f.0 h.own f.1 expires (ap (λ x. x.expires) f.2 ∙ e) in
-            let low = ltb-false (tick_of old.settings old.ran) (tick_of old.settings now) t in
-            omega (arith, before, low)
+    run-own swept r there expires e =
+        subst (λ c. tick_of c now ≤ tick_of c expires) (sym k.settings) ((elim (cases_Bool (nat_lt (tick_of old.settings old.ran) (tick_of old.settings now))) [
+          | inl is ↦ tick-not_reached old.settings r.entry.expires expires now (swept.own is r there) e
+          | inr is ↦ let f = from-at old new k r.number r there in let before = each-at (λ x. (expires : ℕ) → x.entry.expires ≡ Some expires → tick_of old.settings old.ran ≤ tick_of old.settings expires) old.records r.number f.0 h.own f.1 expires (ap (λ x. x.expires) f.2 ∙ e) in let low = ltb-false (tick_of old.settings old.ran) (tick_of old.settings now) is in omega (arith, before, low)
+        ]))
 
     run-none_due : IsSweptBy now (order_after old.writes order) old new → LeavesNoneDue now new
     run-none_due swept = record {

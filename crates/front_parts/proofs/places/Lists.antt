@@ -1,16 +1,12 @@
 -- Lists one of whose items is changed.
 use Rattle.std.proofs.Common.{◌≡◌, refl, ap, sym, ℕ, zero, suc, ◌<◌, arith, List, [], ◌∷◌, length, get_or, Some, inl, inr, ◌⊎◌}
 use Rattle.std.specs.Prelude.{slice_get, slice_set}
-use Rattle.front_reference.specs.Fronts.{CallsAt}
 
 module _ {X : Type 0} where
   pub there : (xs : List X) (i : ℕ) (x : X) → i < length xs → x ≡ get_or xs i x → slice_get xs i ≡ Some x
   there [] i x low e = absurd (omega arith)
   there (y ∷ xs) zero x low e = ap Some (sym e)
   there (y ∷ xs) (suc i) x low e = there xs i x (omega arith) e
-
-  pub called_at : (Rel : X → X → Type 0) (xs : List X) (i : ℕ) (x t : X) → i < length xs → x ≡ get_or xs i x → Rel x t → CallsAt i Rel xs (slice_set xs i t)
-  called_at Rel xs i x t low e r = record { before = x; after = t; there = there xs i x low e; does = r; changed = refl }
 
   pub length-set_at : (xs : List X) (i : ℕ) (x : X) → length (slice_set xs i x) ≡ length xs
   length-set_at [] i x = refl

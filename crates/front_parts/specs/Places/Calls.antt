@@ -1,17 +1,16 @@
 -- What a call does to a front, in terms of the part that its key belongs to.
-use Rattle.std.specs.Prelude.{◌≡◌, ℕ, ◌+◌, ◌^◌, ◌<◌, ◌≤◌, Bool, false, List, [], Option, Some, None, Result, Ok, Vec, length, option_map, slice_get}
+use Rattle.std.specs.Prelude.{◌≡◌, ℕ, ◌+◌, ◌^◌, ◌≤◌, Bool, false, List, [], Option, Some, None, Result, Ok, option_map}
 use Rattle.std.specs.declared.hash.Hasher as hashers
 use Rattle.std.specs.declared.hash.BuildHasher as builders
 use Rattle.engine_reference.specs.Rules.Hashing.{hash_of_key}
 use Rattle.engine_reference.specs.declared.rules.rules.Rules as rules
-use Rattle.engine_reference.specs.Records.{held_at, held_entries}
+use Rattle.engine_reference.specs.Records.{held_at}
 use Rattle.engine_reference.specs.Scanning.{NotesLookUp, held_keys, past}
 use Rattle.engine_reference.specs.State.{State, Answers}
-use Rattle.engine_reference.specs.Telling.{AreApart}
 use Rattle.engine_reference.specs.Visible.{visible_value}
 use Rattle.engine_reference.specs.declared.data.Settings.{Settings}
-use Rattle.front_reference.specs.Fronts.{Front, CallsAt, CallsPart, IsSteady, part_by_hash}
-use Rattle.front_reference.specs.Parts.{IsReady, Coalesces, Computes, Inserts, TakesOut, held_value}
+use Rattle.front_reference.specs.Fronts.{Front, CallsPart, IsSteady, part_by_hash}
+use Rattle.front_reference.specs.Parts.{Coalesces, Computes, Inserts, TakesOut, held_value}
 use Rattle.front_reference.specs.declared.data.At.{At}
 use Rattle.front_reference.specs.declared.data.Computed.{Computed}
 use Rattle.front_reference.specs.declared.data.Made.{Made}
@@ -106,16 +105,6 @@ module _ {K V P S R : Type 0} (ways : Ways K V P S R) where
   abbrev pub IsCauseIn : (rooms : Settings → ℕ) → Front K V P S R → K → CacheError → Type 0
   IsCauseIn rooms f key e = IsCauseOf rooms (part_with f key) e
 
-  -- a call on a key may come to the part at a place, which is as parts are between calls
-  pub record IsOpenAt (place : ℕ) (key : K) (hash : ℕ) (parts : List (State K V P S R)) : Type 0
-    where
-      pub within : place < length parts
-      pub ready : (s : State K V P S R) → slice_get parts place ≡ Some s → IsReady s
-      pub hashed : (s : State K V P S R) → slice_get parts place ≡ Some s
-          → hash ≡ ways.hash s.hasher key
-      pub apart : (s : State K V P S R) → slice_get parts place ≡ Some s
-          → AreApart ways.eq (held_entries s.records)
-
   -- a call comes to the part of a key, under its hash
   abbrev pub CallsKey : K → At → (ℕ → State K V P S R → State K V P S R → Type 0) → Front K V P S R
       → Front K V P S R → Type 0
@@ -144,6 +133,13 @@ module _ {K V P S R : Type 0} (ways : Ways K V P S R) where
       CallsKey key at (λ hash s t. Coalesces ways.answers ways.eq key hash at.now at.step Ignores
       Makes s t answer is_fresh) old new
 
+  -- the same, by what the closure that makes a value returns
+  abbrev pub CoalescesBy : {F E : Type 0} → K → At → (Ignores : V → Bool → Type 0)
+      → (Makes : Result (Made V F) E → Type 0) → Front K V P S R → Front K V P S R → Made V F × Bool
+      → Type 0
+  CoalescesBy key at Ignores Makes old new answer =
+      CoalescesIn key at Ignores (λ made. Makes (Ok made)) old new answer.0 answer.1
+
   -- a compute call, by what its closure may decide
   abbrev pub ComputesIn : {E : Type 0} → K → At → (Decides : Option V → Result (Op V) E → Type 0)
       → Front K V P S R → Front K V P S R → Result (Computed V) E → Type 0
@@ -151,24 +147,3 @@ module _ {K V P S R : Type 0} (ways : Ways K V P S R) where
       CallsKey key at
       (λ hash s t. Computes ways.answers ways.eq key hash at.now at.step Decides s t answer) old
       new
-
-  -- the same for a part at a place, by what the closure that makes a value returns
-  abbrev pub CoalescesAt : {F E G : Type 0} → (place : ℕ) → K → (hash : ℕ) → At
-      → (Ignores : V → Bool → Type 0) → (Makes : Result (Made V F) E → Type 0)
-      → Vec (State K V P S R) G → Vec (State K V P S R) G → Made V F × Bool → Type 0
-  CoalescesAt place key hash at Ignores Makes old new answer =
-      CallsAt place (λ s t. Coalesces ways.answers ways.eq key hash at.now at.step Ignores
-      (λ made. Makes (Ok made)) s t answer.0 answer.1) old.items new.items
-
-  abbrev pub CoalescesBy : {F E : Type 0} → K → At → (Ignores : V → Bool → Type 0)
-      → (Makes : Result (Made V F) E → Type 0) → Front K V P S R → Front K V P S R → Made V F × Bool
-      → Type 0
-  CoalescesBy key at Ignores Makes old new answer =
-      CoalescesIn key at Ignores (λ made. Makes (Ok made)) old new answer.0 answer.1
-
-  abbrev pub ComputesAt : {E : Type 0} → (place : ℕ) → K → (hash : ℕ) → At
-      → (Decides : Option V → Result (Op V) E → Type 0) → List (State K V P S R)
-      → List (State K V P S R) → Result (Computed V) E → Type 0
-  ComputesAt place key hash at Decides old new answer =
-      CallsAt place
-      (λ s t. Computes ways.answers ways.eq key hash at.now at.step Decides s t answer) old new

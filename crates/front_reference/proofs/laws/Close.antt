@@ -1,7 +1,7 @@
 -- An uncut run leaves the access list in the order of uses, but for 300 milliseconds.
 use Rattle.std.proofs.Common.{◌≡◌, refl, ap, sym, ◌∙◌, subst, ℕ, ◌+◌, ◌<◌, ◌≤◌, arith, Bool, true, false, true≢false, not, cond, List, [], ◌∷◌, ◌++◌, Option, Some, None, is_some, inl, inr, ◌⊎◌, eqb, ◌==◌}
 use Rattle.std.specs.Prelude.{nat_lt}
-use Rattle.std.proofs.lemmas.Bool.{eqb-true, eqb-false, eq-eqb, ltb-true}
+use Rattle.std.proofs.lemmas.Bool.{cases_Bool, eqb-true, eqb-false, eq-eqb, ltb-true}
 use Rattle.policy_base.specs.Counts.{incremented}
 use Rattle.engine_reference.specs.declared.rules.causes.RemovalCause.{RemovalCause}
 use Rattle.engine_reference.specs.declared.rules.causes.RemovalCause.TheVariants as cause
@@ -42,27 +42,17 @@ module _ {K V : Type 0} (Rel Rel' : Record K V → Record K V → Type 0) (rs rs
       → ((k : ℕ) (y x : Record K V) → (k ≡ n → ⊥) → record_at rs' k ≡ Some y → record_at rs' n ≡ Some x → Rel' y x)
       → (ns : List ℕ) → InOrderBy Rel rs ns → InOrderBy Rel' rs' (moved_to_back n ns)
   order-moved n still last [] h = ((λ m y x i here there. elim i [ ]), tt)
-  order-moved n still last (k ∷ ns) h = go (k == n) refl (order-moved n still last ns h.1)
-    where
-      go : (b : Bool) → eqb k n ≡ b → InOrderBy Rel' rs' (moved_to_back n ns) → InOrderBy Rel' rs' (cond (not b) (k ∷ without n ns) (without n ns) ++ n ∷ [])
-      go true t later = later
-      go false t later =
-          let other : (k ≡ n → ⊥) = eqb-false k n t in (
-            (λ m y x i here there. elim (in_pushed n m (without n ns) i) [
-              | inl j ↦ still k m y x other (λ same. not_in-without n ns (subst (λ z. IsIn z (without n ns)) same j)) here there (λ y0 x0 one two. h.0 m y0 x0 (IsIn-without_from n m ns j) one two)
-              | inr same ↦ last k y x other here (ap (λ z. record_at rs' z) same ∙ there)
-            ]),
-            later,
-          )
+  order-moved n still last (k ∷ ns) h =
+      elim (cases_Bool (k == n)) [ inl e ↦ rw e (order-moved n still last ns h.1) | inr e ↦ rw e (let other : (k ≡ n → ⊥) = eqb-false k n e in ((λ m y x i here there. elim (in_pushed n m (without n ns) i) [ inl j ↦ still k m y x other (λ same. not_in-without n ns (subst (λ z. IsIn z (without n ns)) same j)) here there (λ y0 x0 one two. h.0 m y0 x0 (IsIn-without_from n m ns j) one two) | inr same ↦ last k y x other here (ap (λ z. record_at rs' z) same ∙ there) ]), (order-moved n still last ns h.1))) ]
 
 module _ {K V : Type 0} where
   order-without : (Rel : Record K V → Record K V → Type 0) (rs : List (Record K V)) (n : ℕ) (ns : List ℕ) → InOrderBy Rel rs ns → InOrderBy Rel rs (without n ns)
   order-without Rel rs n [] h = tt
-  order-without Rel rs n (k ∷ ns) h = go (k == n) (order-without Rel rs n ns h.1)
-    where
-      go : (b : Bool) → InOrderBy Rel rs (without n ns) → InOrderBy Rel rs (cond (not b) (k ∷ without n ns) (without n ns))
-      go true later = later
-      go false later = ((λ m y x i here there. h.0 m y x (IsIn-without_from n m ns i) here there), later)
+  order-without Rel rs n (k ∷ ns) h =
+      elim (cases_Bool (k == n)) [
+        | inl e ↦ rw e (order-without Rel rs n ns h.1)
+        | inr e ↦ rw e ((λ m y x i here there. h.0 m y x (IsIn-without_from n m ns i) here there), (order-without Rel rs n ns h.1))
+      ]
 
   -- the last write of a record used so late is the last write of all
   abbrev pub LateIsLast : ℕ → List Write → List (Record K V) → Type 0

@@ -1,7 +1,7 @@
 -- Calls and runs keep a part close: the uses of its records go with the access list.
 use Rattle.std.proofs.Common.{◌≡◌, refl, ap, sym, ◌∙◌, subst, ℕ, ◌+◌, ◌<◌, ◌≤◌, arith, Bool, true, false, true≢false, cond, List, [], ◌∷◌, ◌++◌, length, map, append_assoc, append-nil, Option, Some, None, is_some, inl, inr, ◌⊎◌, eqb, ◌==◌, ◌||◌}
 use Rattle.std.specs.Prelude.{nat_le, MatchBool}
-use Rattle.std.proofs.lemmas.Bool.{eqb-true, eq-eqb, ne_eqb, leb-false, cases_eq}
+use Rattle.std.proofs.lemmas.Bool.{cases_Bool, eqb-true, eq-eqb, ne_eqb, leb-false, cases_eq}
 use Rattle.engine_reference.specs.declared.data.Record.{Record}
 use Rattle.engine_reference.specs.declared.data.Read.{Read}
 use Rattle.engine_reference.specs.declared.data.Read.TheVariants.{Hit, Miss}
@@ -27,6 +27,7 @@ use Rattle.engine_reference.proofs.run_laws.Swept.{run-leaves, changed-other}
 use Rattle.front_reference.specs.Closeness.{hits, EndsBy, IsWaiting, IsCloseTo, IsSince, IsNear, IsClose}
 use Rattle.front_reference.specs.Laws.Laws.{CallsStayClose}
 use Rattle.front_reference.proofs.laws.Close.{Still, order-map, LateIsLast, IsSettledNear, Closing, run-close}
+use Rattle.std.proofs.lemmas.Bool.Decides.{nat_tests}
 
 -- ---- what waits
 
@@ -85,28 +86,17 @@ module _ {K V P S R : Type 0} where
 module _ {K V : Type 0} where
   -- what is found with one more was there before, or is that one
   pushed-from : (rs : List (Record K V)) (x : Record K V) (n : ℕ) (r : Record K V) → record_at (rs ++ x ∷ []) n ≡ Some r → (record_at rs n ≡ Some r) ⊎ (r ≡ x)
-  pushed-from [] x n r e = go (eqb x.number n) e
-    where
-      go : (b : Bool) → cond b (Some x) None ≡ Some r → (None ≡ Some r) ⊎ (r ≡ x)
-      go true e = inr (let same : x ≡ r = cc in sym same)
-      go false e = inl e
-  pushed-from (y ∷ rs) x n r e = go (eqb y.number n) e (pushed-from rs x n r)
-    where
-      go : (b : Bool) → cond b (Some y) (record_at (rs ++ x ∷ []) n) ≡ Some r → (record_at (rs ++ x ∷ []) n ≡ Some r → (record_at rs n ≡ Some r) ⊎ (r ≡ x)) → (cond b (Some y) (record_at rs n) ≡ Some r) ⊎ (r ≡ x)
-      go true e later = inl e
-      go false e later = later e
+  pushed-from [] x n r e = grind (arith, nat_tests, e)
+  pushed-from (y ∷ rs) x n r e = let next = pushed-from rs x n r in grind (arith, nat_tests, e, next)
 
   -- the record that was changed
   changed-own : (n : ℕ) (f : Record K V → Record K V) → ((x : Record K V) → (f x).number ≡ x.number) → (rs : List (Record K V)) (r : Record K V) → record_at (changed_at n f rs) n ≡ Some r → (o : Record K V) × (record_at rs n ≡ Some o) × (r ≡ f o)
   changed-own n f number [] r e = absurd (cc)
-  changed-own n f number (x ∷ rs) r e = go (eqb x.number n) refl e (changed-own n f number rs r)
-    where
-      go : (b : Bool) → eqb x.number n ≡ b → record_at (cond b (f x ∷ rs) (x ∷ changed_at n f rs)) n ≡ Some r → (record_at (changed_at n f rs) n ≡ Some r → (o : Record K V) × (record_at rs n ≡ Some o) × (r ≡ f o))
-          → (o : Record K V) × (cond b (Some x) (record_at rs n) ≡ Some o) × (r ≡ f o)
-      go true t e later =
-          let here : Some (f x) ≡ Some r = sym (ap (λ b. cond b (Some (f x)) (record_at rs n)) (ap (λ m. eqb m n) (number x) ∙ t)) ∙ e in
-          (x, refl, (let same : f x ≡ r = cc in sym same))
-      go false t e later = later (sym (ap (λ b. cond b (Some x) (record_at (changed_at n f rs) n)) t) ∙ e)
+  changed-own n f number (x ∷ rs) r e =
+      elim (cases_Bool (eqb x.number n)) [
+        | inl is ↦ rw is (let here : Some (f x) ≡ Some r = sym (ap (λ b. cond b (Some (f x)) (record_at rs n)) (ap (λ m. eqb m n) (number x) ∙ is)) ∙ (rw is at e) in (x, refl, (let same : f x ≡ r = cc in sym same)))
+        | inr is ↦ rw is ((changed-own n f number rs r) (sym (ap (λ b. cond b (Some x) (record_at (changed_at n f rs) n)) is) ∙ (rw is at e)))
+      ]
 
   -- where not the last write was applied
   unsettled : (r : Record K V) → (r.writes ≡ r.applied → ⊥) → is_settled r ≡ false
@@ -411,11 +401,11 @@ module _ {K V P S R : Type 0} where
 
   -- after maintenance where it is due, less than 300 milliseconds have passed since the last run
   pub close-maintained : (answers : Answers K V P R) (late : Bool) (now : ℕ) (old new : State K V P S R) → IsInOrder old → old.unsent ≡ [] → MaintainsIfDue answers now old new → IsClose late now old → IsClose false now new × (now < new.ran + 300000000)
-  close-maintained answers late now old new ordered none m h = go (is_due old now) refl m
-    where
-      go : (b : Bool) → is_due old now ≡ b → MatchBool b (RunsToEnd answers now old new) (new ≡ old) → IsClose false now new × (now < new.ran + 300000000)
-      go true due run = (close-run answers late now now old new ordered none (omega arith) run.runs h, (let ran = ap (λ t. t.ran) run.runs.after in omega (arith, ran)))
-      go false due same = let early = not_due-early old now due in subst (λ x. IsClose false now x × (now < x.ran + 300000000)) (sym same) (close-early late now old early h, early)
+  close-maintained answers late now old new ordered none m h =
+      elim (cases_Bool (is_due old now)) [
+        | inl e ↦ (close-run answers late now now old new ordered none (omega arith) (rw e at m).runs h, (let ran = ap (λ t. t.ran) (rw e at m).runs.after in omega (arith, ran)))
+        | inr e ↦ let early = not_due-early old now e in subst (λ x. IsClose false now x × (now < x.ran + 300000000)) (sym (rw e at m)) (close-early late now old early h, early)
+      ]
 
 -- ---- the laws
 

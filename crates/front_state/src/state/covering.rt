@@ -10,11 +10,12 @@ ghost use Rattle.front_reference.specs.declared.errors.CacheError.TheVariants as
 ghost use Rattle.front_state.specs.Covering.{CoversAll, GivesVisible, IsCauseToCover, keys_in};
 ghost use Rattle.front_parts.specs.Wholes.Covering.{id_text};
 
+use crate::state::parts::part_ref;
 use crate::state::{LentState, PredicateId, Segmented, Single};
 use engine_reference::{Hashes, Rules};
 use front_parts::{
     HasWays, Iter, Notice, ScanningGet, clone_each, cover_all, keys_at, next_notice,
-    next_notice_at, place_of, scan_at, write_id,
+    next_notice_at, place_of, write_id,
 };
 use front_reference::{At, CacheError, LentKey, Shared};
 use policy_base::Instant;
@@ -213,8 +214,8 @@ impl<K: Eq + Hash + Drop, V: Clone, S: BuildHasher, R: Rules<K, V>, C> ScanningG
     fn scanning_get(&self, key: &Shared<K>, now: Instant) -> Result<Option<V>, AllocError> {
         let key = &**key;
         let hash = self.hasher.hash_key(key);
-        let place = place_of(self.bits, hash);
-        scan_at(self.parts.as_slice(), place, &LentKey { key }, hash, now)
+        let part = part_ref(&self.parts, self.bits, hash);
+        part.get_with_hash_without_recording(&LentKey { key }, hash, now)
     }
 
     fn keys(&self, segment: usize) -> Result<Option<Vec<Shared<K>>>, AllocError> {

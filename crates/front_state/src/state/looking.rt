@@ -5,8 +5,9 @@ ghost use Rattle.front_parts.specs.Places.Calls.{LooksUpIn, hash_in, held_key_in
 ghost use Rattle.front_parts.specs.Showing.{IsShown};
 
 use crate::state::LentState;
+use crate::state::parts::{part_mut, part_ref};
 use engine_reference::{Hashes, Rules};
-use front_parts::{HasWays, count_visible, held_key_at, look_up_at, peek_at, place_of};
+use front_parts::{HasWays, count_visible};
 use front_reference::{LentKey, Shared};
 use policy_base::Instant;
 use std::alloc::AllocError;
@@ -22,8 +23,8 @@ impl<K: Eq + Hash, V, S: BuildHasher, R: Rules<K, V>, C> LentState<K, V, S, R, C
             ≡ visible_in ⟦<R as HasWays<K, V, S>>⟧.ways self.now now key.now }
     {
         let hash = self.hasher.hash_key(key);
-        let place = place_of(self.bits, hash);
-        peek_at(self.parts.as_slice(), place, &LentKey { key }, hash, now)
+        let part = part_ref(&self.parts, self.bits, hash);
+        part.peek(&LentKey { key }, hash, now)
     }
 
     /// Returns the key that is held and equal to this one, shared with the cache, whether its value is visible or not, or `None` if none is
@@ -39,8 +40,8 @@ impl<K: Eq + Hash, V, S: BuildHasher, R: Rules<K, V>, C> LentState<K, V, S, R, C
             (λ found. found ≡ held_key_in ⟦<R as HasWays<K, V, S>>⟧.ways self.now key.now) }
         ensures equal { IfOk result (λ found. IfSome found (λ held. K.eq key.now held ≡ true)) }
     {
-        let place = place_of(self.bits, hash);
-        held_key_at(self.parts.as_slice(), place, &LentKey { key }, hash)
+        let part = part_ref(&self.parts, self.bits, hash);
+        part.get_key_with_hash(&LentKey { key }, hash)
     }
 
     /// Returns how many keys have a visible value, up to 2^64 - 1. The call counts as a use of no value, allocates nothing, and looks at
@@ -115,16 +116,8 @@ impl<K: Eq + Hash, V, S: BuildHasher, R: Rules<K, V>, C> LentState<K, V, S, R, C
             (record { now = now; step = self.old.step }) self.old self.new) }
         ensures err { OnErr result (self.new ≡ self.old) }
     {
-        let place = place_of(self.bits, hash);
-        match look_up_at(
-            &mut self.parts,
-            place,
-            &LentKey { key },
-            hash,
-            now,
-            output,
-            see,
-        ) {
+        let part = part_mut(&mut self.parts, self.bits, hash);
+        match part.look_up_with_hash(&LentKey { key }, hash, now, output, see) {
             Ok(answer) => {
                 self.moment = now;
                 Ok(answer)

@@ -8,8 +8,9 @@ ghost use Rattle.front_reference.specs.declared.errors.CacheError.TheVariants as
 ghost use Rattle.front_state.specs.Naming.{bytes_key, text_key};
 
 use crate::state::LentState;
+use crate::state::parts::{part_mut, part_ref};
 use engine_reference::{Hashes, Names, Rules};
-use front_parts::{HasWays, contains_key_at, get_at, invalidate_at, place_of, remove_at};
+use front_parts::{HasWays, invalidate, remove};
 use front_reference::{At, CacheError, LentKey, Shared};
 use policy_base::Instant;
 use std::hash::{BuildHasher, Hash};
@@ -118,8 +119,8 @@ impl<K: Eq + Hash, V, S: BuildHasher, R: Rules<K, V>, C> LentState<K, V, S, R, C
     {
         let At { now, step } = at;
         let hash = name.hash_name(&self.hasher);
-        let place = place_of(self.bits, hash);
-        let found = get_at(&mut self.parts, place, name, hash, now)?;
+        let part = part_mut(&mut self.parts, self.bits, hash);
+        let found = part.get_with_hash(name, hash, now)?;
         self.moment = now;
         self.step = step;
         Ok(found)
@@ -134,8 +135,8 @@ impl<K: Eq + Hash, V, S: BuildHasher, R: Rules<K, V>, C> LentState<K, V, S, R, C
             (Q.named_key name.now)) }
     {
         let hash = name.hash_name(&self.hasher);
-        let place = place_of(self.bits, hash);
-        contains_key_at(self.parts.as_slice(), place, name, hash, now)
+        let part = part_ref(&self.parts, self.bits, hash);
+        part.contains_key_with_hash(name, hash, now)
     }
 
     /// Like `remove`, by what names the key. Returns `OutOfMemory` if there is not enough memory, and `UsedUp` if the 64-bit numbers of
@@ -163,11 +164,15 @@ impl<K: Eq + Hash, V, S: BuildHasher, R: Rules<K, V>, C> LentState<K, V, S, R, C
     {
         let At { now, step } = at;
         let hash = name.hash_name(&self.hasher);
-        let place = place_of(self.bits, hash);
-        let value = remove_at(&mut self.parts, place, name, hash, now)?;
-        self.moment = now;
-        self.step = step;
-        Ok(value)
+        let part = part_mut(&mut self.parts, self.bits, hash);
+        match remove(part, name, hash, now) {
+            Ok(value) => {
+                self.moment = now;
+                self.step = step;
+                Ok(value)
+            }
+            Err(refused) => Err(refused),
+        }
     }
 
     /// Like `invalidate`, by what names the key. Returns `OutOfMemory` if there is not enough memory, and `UsedUp` if the 64-bit numbers of
@@ -216,10 +221,14 @@ impl<K: Eq + Hash, V, S: BuildHasher, R: Rules<K, V>, C> LentState<K, V, S, R, C
             self.old (Q.named_key name.now)) }
     {
         let At { now, step } = at;
-        let place = place_of(self.bits, hash);
-        invalidate_at(&mut self.parts, place, name, hash, now)?;
-        self.moment = now;
-        self.step = step;
-        Ok(())
+        let part = part_mut(&mut self.parts, self.bits, hash);
+        match invalidate(part, name, hash, now) {
+            Ok(()) => {
+                self.moment = now;
+                self.step = step;
+                Ok(())
+            }
+            Err(refused) => Err(refused),
+        }
     }
 }

@@ -13,8 +13,9 @@ ghost use Rattle.front_parts.specs.Places.Turning.{BeginsIn, EndsTurnOf, Finishe
 ghost use Rattle.front_state.specs.Beginning.{BeginsBy, StartsBy};
 
 use crate::state::LentState;
+use crate::state::parts::part_mut;
 use engine_reference::{Hashes, Names, Rules};
-use front_parts::{HasWays, get_unless_at, insert_or_back_at, make_turn, note_at, place_of};
+use front_parts::{HasWays, insert_or_back, make_turn};
 use front_reference::{
     At, CacheError, IntoKey, LentKey, Made, OwnedKey, Shared, TurnKind, TurnStart,
 };
@@ -82,8 +83,8 @@ impl<K: Eq + Hash, V, S: BuildHasher, R: Rules<K, V>, C> LentState<K, V, S, R, C
         ensures err { OnErr result (self.new ≡ self.old) }
     {
         let At { now, step } = at;
-        let place = place_of(self.bits, hash);
-        let (ignored, found) = get_unless_at(&mut self.parts, place, key, hash, now, replace_if)?;
+        let part = part_mut(&mut self.parts, self.bits, hash);
+        let (ignored, found) = part.get_with_hash_unless(key, hash, now, replace_if)?;
         match found {
             Some(value) => {
                 self.moment = now;
@@ -106,8 +107,8 @@ impl<K: Eq + Hash, V, S: BuildHasher, R: Rules<K, V>, C> LentState<K, V, S, R, C
             (Q.named_key key.now) hash at.now ignored) self.old self.new }
     {
         let At { now, step } = at;
-        let place = place_of(self.bits, hash);
-        note_at(&mut self.parts, place, key, hash, now, ignored);
+        let part = part_mut(&mut self.parts, self.bits, hash);
+        part.note_look_up(key, hash, now, ignored);
         self.moment = now;
         self.step = step;
     }
@@ -135,12 +136,12 @@ impl<K: Eq + Hash, V, S: BuildHasher, R: Rules<K, V>, C> LentState<K, V, S, R, C
         ensures cause { IfErr result (IsTurnCause self.old.next_turn) }
     {
         let At { now, step } = at;
-        let place = place_of(self.bits, hash);
         let number = self.next_turn;
         let turn = make_turn(number, kind, name, hash)?;
         let key = turn.key.clone()?;
         self.turns.add(turn)?;
-        note_at(&mut self.parts, place, &key, hash, now, ignored);
+        let part = part_mut(&mut self.parts, self.bits, hash);
+        part.note_look_up(&key, hash, now, ignored);
         self.next_turn = number + 1;
         self.moment = now;
         self.step = step;
@@ -427,12 +428,12 @@ impl<K: Eq + Hash, V, S: BuildHasher, R: Rules<K, V>, C> LentState<K, V, S, R, C
             return Err((CacheError::UnknownTurn, value));
         };
         let hash = turn.hash;
-        let part = place_of(self.bits, hash);
         let key = match turn.key.clone() {
             Ok(key) => key,
             Err(_) => return Err((CacheError::OutOfMemory, value)),
         };
-        match insert_or_back_at(&mut self.parts, part, key, hash, value, At { now, step }) {
+        let part = part_mut(&mut self.parts, self.bits, hash);
+        match insert_or_back(part, key, hash, value, At { now, step }) {
             Ok(()) => {
                 self.turns.end(number);
                 self.moment = now;

@@ -1,25 +1,32 @@
-use Rattle.std.proofs.Common.{◌∙◌, ◌≡◌, ap, slice_get, subst, sym, true, IfSome}
+use Rattle.std.proofs.Common.{◌∙◌, ◌≡◌, ap, subst, sym, true, IfSome}
 use Rattle.std.proofs.lemmas.Result.{IfOk-weaker}
-use Rattle.front_parts.specs.Places.Calls.{IsOpenAt, hash_in, ways_by}
 use Rattle.front_parts.proofs.places.HeldKey.{held_named}
-use Rattle.front_state.proofs.Steady.{few_bits, open_at}
+use Rattle.front_parts.specs.Places.Calls.{hash_in, part_with, ways_by}
+use Rattle.front_state.proofs.Seen.{sees_key}
+use Rattle.front_state.proofs.Steady.{all_parts, open_part}
 use Rattle.front_state.proofs.state.LentState.held_key.Goals as goal
 
-pub place_of-place-requires : goal.place_of-place-requires
-place_of-place-requires g c = few_bits (ways_by g.R.Rules g.K.PartialEq.eq g.K.Hash.hash_input g.S.BuildHasher g.S.Hasher.Hasher) _ c.self.invariant
+pub part_ref-part-requires : goal.part_ref-part-requires
+part_ref-part-requires g c =
+    all_parts (ways_by g.R.Rules g.K.PartialEq.eq g.K.Hash.hash_input g.S.BuildHasher g.S.Hasher.Hasher) _ c.self.invariant
 
-pub held_key_at-requires : goal.held_key_at-requires
-held_key_at-requires g c =
+pub get_key_with_hash-requires : goal.get_key_with_hash-requires
+get_key_with_hash-requires g c =
     let ways = (ways_by g.R.Rules g.K.PartialEq.eq g.K.Hash.hash_input g.S.BuildHasher g.S.Hasher.Hasher) in
-    record {
-      exact_key = λ x y same. same;
-      there = subst (λ xs. IsOpenAt ways c.place_of-place.result c.args.key.now c.args.hash xs) (sym c.as_slice.ensures.value)
-          (open_at ways _ c.place_of-place.result c.args.hash c.args.key.now c.self.invariant c.place_of-place.ensures.within
-          (c.requires.hashed ∙ ap (λ f. hash_in ways f c.args.key.now) (sym c.self.view_is)));
-    }
+    let key = c.args.key.now in
+    let is = c.requires.hashed ∙ ap (λ f. hash_in ways f key) (sym c.self.view_is) in
+    record { hashed = (open_part ways _ c.args.hash key c.part_ref-part.result.now c.self.invariant is c.part_ref-part.ensures).hashed; exact_key = λ x y same. same }
+
+pub returns-clause-found : goal.returns-clause-found
+returns-clause-found g c =
+    let ways = (ways_by g.R.Rules g.K.PartialEq.eq g.K.Hash.hash_input g.S.BuildHasher g.S.Hasher.Hasher) in
+    let key = c.args.key.now in
+    let is = c.requires.hashed ∙ ap (λ f. hash_in ways f key) (sym c.self.view_is) in
+    IfOk-weaker c.get_key_with_hash.result _ _ (λ found e. e ∙ sees_key ways _ c.args.self.now c.args.hash key c.part_ref-part.result.now c.self.view_is is c.part_ref-part.ensures) c.get_key_with_hash.ensures
 
 pub returns-clause-equal : goal.returns-clause-equal
 returns-clause-equal g c =
     let ways = (ways_by g.R.Rules g.K.PartialEq.eq g.K.Hash.hash_input g.S.BuildHasher g.S.Hasher.Hasher) in
-    IfOk-weaker c.held_key_at.result _ _
-    (λ found e. subst (λ f. IfSome f (λ held. g.K.PartialEq.eq c.args.key.now held ≡ true)) (sym e) (held_named ways (slice_get c.as_slice.result.now c.place_of-place.result) c.args.key.now)) c.held_key_at.ensures
+    let key = c.args.key.now in
+    let is = c.requires.hashed ∙ ap (λ f. hash_in ways f key) (sym c.self.view_is) in
+    IfOk-weaker c.get_key_with_hash.result _ _ (λ found e. subst (λ f. IfSome f (λ held. g.K.PartialEq.eq key held ≡ true)) (sym (e ∙ sees_key ways _ c.args.self.now c.args.hash key c.part_ref-part.result.now c.self.view_is is c.part_ref-part.ensures)) (held_named ways (part_with ways c.args.self.now key) key)) c.get_key_with_hash.ensures

@@ -1,34 +1,54 @@
 use Rattle.std.proofs.Common.{◌∙◌, ap, subst, sym}
-use Rattle.front_reference.specs.Fronts.{CallsAt}
 use Rattle.front_reference.specs.Parts.{Inserts}
 use Rattle.front_parts.specs.Places.Calls.{hash_in, ways_by}
-use Rattle.front_state.proofs.Steady.{called_key, few_bits, inserting_keeps, open_at, stays_steady}
+use Rattle.front_state.proofs.Seen.{cause_of_key}
+use Rattle.front_state.proofs.Steady.{all_parts, called_key, inserting_keeps, open_part, stays_steady, untouched, untouched_keeps}
 use Rattle.front_state.proofs.state.LentState.insert_with_hash.Goals as goal
 
-pub place_of-place-requires : goal.place_of-place-requires
-place_of-place-requires g c = few_bits (ways_by g.R.Rules g.K.PartialEq.eq g.K.Hash.hash_input g.S.BuildHasher g.S.Hasher.Hasher) _ c.self.invariant
+pub part_mut-part-requires : goal.part_mut-part-requires
+part_mut-part-requires g c =
+    all_parts (ways_by g.R.Rules g.K.PartialEq.eq g.K.Hash.hash_input g.S.BuildHasher g.S.Hasher.Hasher) _ c.self.invariant
 
-pub insert_at-requires : goal.insert_at-requires
-insert_at-requires g c =
+pub insert-requires : goal.insert-requires
+insert-requires g c =
     let ways = (ways_by g.R.Rules g.K.PartialEq.eq g.K.Hash.hash_input g.S.BuildHasher g.S.Hasher.Hasher) in
     let key = g.Q.Names.named_key c.args.name in
-    record {
-      there = open_at ways _ c.place_of-place.result c.args.hash c.in_ok-key.key c.self.invariant c.place_of-place.ensures.within
-          (c.requires.hashed ∙ ap (λ f. hash_in ways f key) (sym c.self.view_is) ∙ ap (λ k. ways.hash c.self.inside.hasher k) (sym c.in_ok-key.ensures));
-    }
+    let is = c.requires.hashed ∙ ap (λ f. hash_in ways f key) (sym c.self.view_is) in
+    let own = is ∙ ap (λ k. ways.hash c.self.inside.hasher k) (sym c.in_ok-key.ensures) in
+    let part = open_part ways _ c.args.hash c.in_ok-key.key c.part_mut-part.result.now c.self.invariant own c.part_mut-part.ensures.there in
+    record { hashed = part.hashed; ready = part.ready }
 
-pub invariant_of-self-2 : goal.invariant_of-self-2
-invariant_of-self-2 g c =
+pub invariant_of-self : goal.invariant_of-self
+invariant_of-self g c =
     let ways = (ways_by g.R.Rules g.K.PartialEq.eq g.K.Hash.hash_input g.S.BuildHasher g.S.Hasher.Hasher) in
     let key = g.Q.Names.named_key c.args.name in
-    stays_steady ways _ c.args.self.now c.args.at.now c.args.at.step c.place_of-place.result c.args.hash c.in_ok-key.key _ c.insert_at.new.parts.items c.self.view_is c.requires.follows
-    (c.requires.hashed ∙ ap (λ f. hash_in ways f key) (sym c.self.view_is) ∙ ap (λ k. ways.hash c.self.inside.hasher k) (sym c.in_ok-key.ensures)) c.place_of-place.ensures.part
-    (inserting_keeps ways g.met.K.Eq.laws c.in_ok-key.key c.args.hash c.args.value c.args.at.now c.args.at.step) c.in_ok-insert_at.ensures.inserts c.self.invariant
+    let is = c.requires.hashed ∙ ap (λ f. hash_in ways f key) (sym c.self.view_is) in
+    let own = is ∙ ap (λ k. ways.hash c.self.inside.hasher k) (sym c.in_ok-key.ensures) in
+    stays_steady ways _ c.args.self.now c.args.at.now c.args.at.step c.args.hash c.in_ok-key.key _ c.part_mut-part.result.now c.insert.new.part c.self.view_is c.requires.follows own (inserting_keeps ways g.met.K.Eq.laws c.in_ok-key.key c.args.hash c.args.value c.args.at.now c.args.at.step) c.part_mut-part.ensures.there c.in-Ok.ensures.inserts c.self.invariant
 
-pub returns-clause-inserts : goal.returns-clause-inserts
-returns-clause-inserts g c =
+pub returns-in-Ok-clause-inserts : goal.returns-in-Ok-clause-inserts
+returns-in-Ok-clause-inserts g c =
     let ways = (ways_by g.R.Rules g.K.PartialEq.eq g.K.Hash.hash_input g.S.BuildHasher g.S.Hasher.Hasher) in
     let key = g.Q.Names.named_key c.args.name in
-    called_key ways _ c.args.self.now c.args.at.now c.args.at.step c.place_of-place.result c.args.hash key (λ n. Inserts ways.answers ways.eq key n c.args.value c.args.at.now c.args.at.step) c.insert_at.new.parts.items c.self.view_is
-    (c.requires.hashed ∙ ap (λ f. hash_in ways f key) (sym c.self.view_is)) c.place_of-place.ensures.part
-    (subst (λ k. CallsAt c.place_of-place.result (Inserts ways.answers ways.eq k c.args.hash c.args.value c.args.at.now c.args.at.step) c.self.inside.parts.items c.insert_at.new.parts.items) c.in_ok-key.ensures c.in_ok-insert_at.ensures.inserts)
+    let is = c.requires.hashed ∙ ap (λ f. hash_in ways f key) (sym c.self.view_is) in
+    let own = is ∙ ap (λ k. ways.hash c.self.inside.hasher k) (sym c.in_ok-key.ensures) in
+    called_key ways _ c.args.self.now c.args.at.now c.args.at.step c.args.hash key (λ n. Inserts ways.answers ways.eq key n c.args.value c.args.at.now c.args.at.step) c.part_mut-part.result.now c.insert.new.part c.self.view_is is c.part_mut-part.ensures.there
+    (subst (λ k. Inserts ways.answers ways.eq k c.args.hash c.args.value c.args.at.now c.args.at.step c.part_mut-part.result.now c.insert.new.part) c.in_ok-key.ensures c.in-Ok.ensures.inserts)
+
+pub invariant_of-self-in-Err : goal.invariant_of-self-in-Err
+invariant_of-self-in-Err g c =
+    let ways = (ways_by g.R.Rules g.K.PartialEq.eq g.K.Hash.hash_input g.S.BuildHasher g.S.Hasher.Hasher) in
+    untouched_keeps ways _ c.args.hash c.part_mut-part.result.now c.insert.new.part c.part_mut-part.ensures.there c.in-Err.ensures.err c.self.invariant
+
+pub returns-in-Err-clause-err : goal.returns-in-Err-clause-err
+returns-in-Err-clause-err g c =
+    let ways = (ways_by g.R.Rules g.K.PartialEq.eq g.K.Hash.hash_input g.S.BuildHasher g.S.Hasher.Hasher) in
+    untouched ways _ c.args.hash c.part_mut-part.result.now c.insert.new.part c.part_mut-part.ensures.there c.in-Err.ensures.err ∙ c.self.view_is
+
+pub returns-in-Err-clause-cause : goal.returns-in-Err-clause-cause
+returns-in-Err-clause-cause g c =
+    let ways = (ways_by g.R.Rules g.K.PartialEq.eq g.K.Hash.hash_input g.S.BuildHasher g.S.Hasher.Hasher) in
+    let key = g.Q.Names.named_key c.args.name in
+    let is = c.requires.hashed ∙ ap (λ f. hash_in ways f key) (sym c.self.view_is) in
+    let own = is ∙ ap (λ k. ways.hash c.self.inside.hasher k) (sym c.in_ok-key.ensures) in
+    cause_of_key ways _ c.args.self.now c.args.hash key c.part_mut-part.result.now c.self.view_is is c.part_mut-part.ensures.there (λ _. 1) c.in-Err.refused c.in-Err.ensures.cause

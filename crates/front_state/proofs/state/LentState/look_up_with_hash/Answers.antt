@@ -1,37 +1,55 @@
 use Rattle.std.proofs.Common.{◌∙◌, ap, sym, subst, Ok, Err, false}
-use Rattle.front_parts.specs.Places.Calls.{hash_in, ways_by}
 use Rattle.front_parts.specs.Showing.{IsShown}
-use Rattle.front_state.proofs.Seen.{seen_of_key}
-use Rattle.front_state.proofs.Steady.{comes_still, few_bits, looking_keeps, open_at, stays_steady, touched}
+use Rattle.front_parts.specs.Places.Calls.{hash_in, ways_by}
+use Rattle.front_state.proofs.Seen.{sees_visible}
+use Rattle.front_state.proofs.Steady.{all_parts, comes_still, looking_keeps, open_part, stays_steady, touched, untouched, untouched_keeps}
 use Rattle.front_state.proofs.state.LentState.look_up_with_hash.Goals as goal
 
-pub place_of-place-requires : goal.place_of-place-requires
-place_of-place-requires g c = few_bits (ways_by g.R.Rules g.K.PartialEq.eq g.K.Hash.hash_input g.S.BuildHasher g.S.Hasher.Hasher) _ c.self.invariant
+pub part_mut-part-requires : goal.part_mut-part-requires
+part_mut-part-requires g c =
+    all_parts (ways_by g.R.Rules g.K.PartialEq.eq g.K.Hash.hash_input g.S.BuildHasher g.S.Hasher.Hasher) _ c.self.invariant
 
-pub look_up_at-requires-clause-there : goal.look_up_at-requires-clause-there
-look_up_at-requires-clause-there g c =
+pub look_up_with_hash-requires-clause-hashed : goal.look_up_with_hash-requires-clause-hashed
+look_up_with_hash-requires-clause-hashed g c =
     let ways = (ways_by g.R.Rules g.K.PartialEq.eq g.K.Hash.hash_input g.S.BuildHasher g.S.Hasher.Hasher) in
-    open_at ways _ c.place_of-place.result c.args.hash c.args.key.now c.self.invariant c.place_of-place.ensures.within (c.requires.hashed ∙ ap (λ f. hash_in ways f c.args.key.now) (sym c.self.view_is))
+    let key = c.args.key.now in
+    let is = c.requires.hashed ∙ ap (λ f. hash_in ways f key) (sym c.self.view_is) in
+    (open_part ways _ c.args.hash key c.part_mut-part.result.now c.self.invariant is c.part_mut-part.ensures.there).hashed
 
 pub invariant_of-self : goal.invariant_of-self
 invariant_of-self g c =
     let ways = (ways_by g.R.Rules g.K.PartialEq.eq g.K.Hash.hash_input g.S.BuildHasher g.S.Hasher.Hasher) in
-    stays_steady ways _ c.args.self.now c.args.now c.self.inside.step c.place_of-place.result c.args.hash c.args.key.now _ c.look_up_at.new.parts.items c.self.view_is (comes_still ways _ c.args.self.now c.args.now c.self.view_is c.requires.later) (c.requires.hashed ∙ ap (λ f. hash_in ways f c.args.key.now) (sym c.self.view_is)) c.place_of-place.ensures.part
-    (looking_keeps ways g.met.K.Eq.laws c.args.key.now c.args.hash c.args.now c.self.inside.step false) c.in-Ok.ensures.used c.self.invariant
+    let key = c.args.key.now in
+    let is = c.requires.hashed ∙ ap (λ f. hash_in ways f key) (sym c.self.view_is) in
+    stays_steady ways _ c.args.self.now c.args.now c.self.inside.step c.args.hash key _ c.part_mut-part.result.now c.look_up_with_hash.new.self c.self.view_is (comes_still ways _ c.args.self.now c.args.now c.self.view_is c.requires.later) is (looking_keeps ways g.met.K.Eq.laws key c.args.hash c.args.now c.self.inside.step false) c.part_mut-part.ensures.there c.in-Ok.ensures.used c.self.invariant
 
 pub returns-in-Ok-clause-used : goal.returns-in-Ok-clause-used
 returns-in-Ok-clause-used g c =
     let ways = (ways_by g.R.Rules g.K.PartialEq.eq g.K.Hash.hash_input g.S.BuildHasher g.S.Hasher.Hasher) in
-    touched ways _ c.args.self.now c.args.now c.place_of-place.result c.args.hash c.args.key.now c.look_up_at.new.parts.items c.self.view_is (c.requires.hashed ∙ ap (λ f. hash_in ways f c.args.key.now) (sym c.self.view_is)) c.place_of-place.ensures.part c.in-Ok.ensures.used
+    let key = c.args.key.now in
+    let is = c.requires.hashed ∙ ap (λ f. hash_in ways f key) (sym c.self.view_is) in
+    touched ways _ c.args.self.now c.args.now c.args.hash key c.part_mut-part.result.now c.look_up_with_hash.new.self c.self.view_is is c.part_mut-part.ensures.there c.in-Ok.ensures.used
 
 pub returns-in-Ok-clause-shown : goal.returns-in-Ok-clause-shown
 returns-in-Ok-clause-shown g c =
     let ways = (ways_by g.R.Rules g.K.PartialEq.eq g.K.Hash.hash_input g.S.BuildHasher g.S.Hasher.Hasher) in
-    let is = seen_of_key ways _ c.args.self.now c.args.now c.place_of-place.result c.args.hash c.args.key.now c.self.view_is (c.requires.hashed ∙ ap (λ f. hash_in ways f c.args.key.now) (sym c.self.view_is)) c.place_of-place.ensures.part in
-    subst (λ v. IsShown g.F.FnOnce c.args.see v c.args.output.now (Ok c.in-Ok.answer) c.look_up_at.new.output) is c.in-Ok.ensures.shown
+    let key = c.args.key.now in
+    let is = c.requires.hashed ∙ ap (λ f. hash_in ways f key) (sym c.self.view_is) in
+    subst (λ v. IsShown g.F.FnOnce c.args.see v c.args.output.now (Ok c.in-Ok.answer) c.look_up_with_hash.new.output) (sees_visible ways _ c.args.self.now c.args.hash key c.part_mut-part.result.now c.self.view_is is c.part_mut-part.ensures.there c.args.now) c.in-Ok.ensures.shown
+
+pub invariant_of-self-in-Err : goal.invariant_of-self-in-Err
+invariant_of-self-in-Err g c =
+    let ways = (ways_by g.R.Rules g.K.PartialEq.eq g.K.Hash.hash_input g.S.BuildHasher g.S.Hasher.Hasher) in
+    untouched_keeps ways _ c.args.hash c.part_mut-part.result.now c.look_up_with_hash.new.self c.part_mut-part.ensures.there c.in-Err.ensures.err c.self.invariant
 
 pub returns-in-Err-clause-shown : goal.returns-in-Err-clause-shown
 returns-in-Err-clause-shown g c =
     let ways = (ways_by g.R.Rules g.K.PartialEq.eq g.K.Hash.hash_input g.S.BuildHasher g.S.Hasher.Hasher) in
-    let is = seen_of_key ways _ c.args.self.now c.args.now c.place_of-place.result c.args.hash c.args.key.now c.self.view_is (c.requires.hashed ∙ ap (λ f. hash_in ways f c.args.key.now) (sym c.self.view_is)) c.place_of-place.ensures.part in
-    subst (λ v. IsShown g.F.FnOnce c.args.see v c.args.output.now (Err c.in-Err.error) c.look_up_at.new.output) is c.in-Err.ensures.shown
+    let key = c.args.key.now in
+    let is = c.requires.hashed ∙ ap (λ f. hash_in ways f key) (sym c.self.view_is) in
+    subst (λ v. IsShown g.F.FnOnce c.args.see v c.args.output.now (Err c.in-Err.error) c.look_up_with_hash.new.output) (sees_visible ways _ c.args.self.now c.args.hash key c.part_mut-part.result.now c.self.view_is is c.part_mut-part.ensures.there c.args.now) c.in-Err.ensures.shown
+
+pub returns-in-Err-clause-err : goal.returns-in-Err-clause-err
+returns-in-Err-clause-err g c =
+    let ways = (ways_by g.R.Rules g.K.PartialEq.eq g.K.Hash.hash_input g.S.BuildHasher g.S.Hasher.Hasher) in
+    untouched ways _ c.args.hash c.part_mut-part.result.now c.look_up_with_hash.new.self c.part_mut-part.ensures.there c.in-Err.ensures.err ∙ c.self.view_is
