@@ -4,7 +4,6 @@ use Rattle.std.proofs.lemmas.List.{append-nil}
 use Rattle.std.proofs.lemmas.Option.{same_Some}
 use Rattle.std.specs.List.{flat_map, slice_get}
 use Rattle.std.specs.Option.{option_map, option_map_or}
-use Rattle.audit_model.specs.Bytewise.{is_empty}
 use Rattle.audit_model.specs.Places.{tasks_to_give_up}
 use Rattle.audit_model.specs.Situation.{HeldValue}
 use Rattle.audit_model.specs.Steps.{Task, RunAgain, RunLines}
@@ -20,20 +19,19 @@ use Rattle.cache_commands.specs.declared.loads.loads.Loads.{Loads}
 use Rattle.cache_lines.specs.Bases.{CanRun, Seen}
 use Rattle.cache_lines.specs.Ended.{spare_of}
 use Rattle.cache_lines.specs.Gathered.{HasNothingOutside, adds, gathered, stage, written_in}
-use Rattle.cache_lines.specs.Leads.Leads.{BeginsUnknown}
 use Rattle.cache_lines.specs.Making.{Making, making_of}
 use Rattle.cache_lines.specs.Tape.Taped.{HasSpare, IsBegun, Taped, spends, started}
 use Rattle.cache_lines.specs.Waiting.{under_way}
 use Rattle.cache_lines.specs.declared.base.Base.{Base}
 use Rattle.cache_core.proofs.Spots.{seen-was, replaced-is, same-here, text-is}
-use Rattle.cache_core.proofs.Steps.{piece-on, piece-on-steps, still-kept, none-begins, piece-none, flat-both, piece-step}
+use Rattle.cache_core.proofs.Steps.{piece-on, still-kept, piece-none, flat-both, piece-step}
 use Rattle.cache_core.proofs.Touched.{front-more, once-first, rest-next, leaves-others}
 use Rattle.cache_core.proofs.connections.Getting.{found-at}
 use Rattle.cache_core.specs.Connection.Fed.{AwaitsLoad, StepRan, seen_by}
 use Rattle.cache_core.specs.Connections.Presence.{Presence, reply_text_of, text_at, Here, is_here}
 use Rattle.cache_core.specs.Fed.{seen_at, ReplacedAt}
 use Rattle.cache_core.specs.Settled.{HasSpareFor, IsAmid, Parts, Piece}
-use Rattle.cache_core.specs.Settling.{PartsUnknown, Reruns, AreThere, IsWaitingAt, LeavesOthers}
+use Rattle.cache_core.specs.Settling.{AreThere, IsWaitingAt, LeavesOthers}
 use Rattle.cache_core.specs.State.{at_number}
 use Rattle.cache_core.specs.Turned.{replies_to}
 use Rattle.cache_core.specs.declared.connection.connection.Connection.{Connection}
@@ -121,55 +119,6 @@ module _ {S T : Type 0} (view : S → Values) (tape : T → Option Taped) (now :
     frame = frame-on (view was.store).frame (view mid.store).frame (view is.store).frame a.frame b.frame;
   }
 
-  begins-first : (config : Config) (xs ys : List Step) → is_empty xs ≡ false → BeginsUnknown config xs → BeginsUnknown config (xs ++ ys)
-  begins-first config [] ys some b = let no : true ≡ false = some in cc
-  begins-first config (x ∷ xs) ys some b = b
-
-  some-first : (xs ys : List Step) → is_empty xs ≡ false → is_empty (xs ++ ys) ≡ false
-  some-first [] ys some = let no : true ≡ false = some in cc
-  some-first (x ∷ xs) ys some = refl
-
-  some-last : (xs ys : List Step) → is_empty ys ≡ false → is_empty (xs ++ ys) ≡ false
-  some-last [] ys some = some
-  some-last (x ∷ xs) ys some = refl
-
-  begins-both : (config : Config) (xs ys : List Step) → BeginsUnknown config xs → BeginsUnknown config ys → BeginsUnknown config (xs ++ ys)
-  begins-both config [] ys a b = b
-  begins-both config (x ∷ xs) ys a b = a
-
-  -- a `LOAD` that ran again, and its lines
-  pub rerun-on : (was mid is : Base S T) (old between new : List Presence) (tasks more : List Task) → Reruns view tape now was mid old between tasks → Parts view tape now mid is between new more → Reruns view tape now was is old new (tasks ++ more)
-  rerun-on was mid is old between new tasks more a b = record {
-    ran = λ held stands.
-        let x = a.ran held stands in
-        let p = x.0 in
-        let q = subst (λ (making : Making). Piece view tape making now mid is between new more p.left) (making-same (view was.store).frame (view mid.store).frame a.frame) (b.ran p.left p.stands) in (
-          piece-on view tape (making_of (view was.store).frame) now was mid is old between new tasks more held p q,
-          subst (BeginsUnknown (view was.store).frame.config) (sym (piece-on-steps view tape (making_of (view was.store).frame) now was mid is old between new tasks more held p q)) (begins-first (view was.store).frame.config p.steps q.steps x.2 x.1),
-          ap is_empty (piece-on-steps view tape (making_of (view was.store).frame) now was mid is old between new tasks more held p q) ∙ some-first p.steps q.steps x.2,
-        );
-    frame = frame-on (view was.store).frame (view mid.store).frame (view is.store).frame a.frame b.frame;
-  }
-
-  pub unknown-none : (base : Base S T) (cs : List Presence) → (view base.store).frame.latest ≤ now → PartsUnknown view tape now base base cs cs []
-  unknown-none base cs latest = record { ran = λ held stands. (piece-none view tape now base base cs held stands, none-begins view tape now base base (view base.store).frame.config cs held stands, λ e. refl); frame = record { rest = refl; latest = latest } }
-
-  -- one more of them
-  pub unknown-on : (was mid is : Base S T) (old between new : List Presence) (tasks more : List Task) → PartsUnknown view tape now was mid old between tasks → Reruns view tape now mid is between new more → PartsUnknown view tape now was is old new (tasks ++ more)
-  unknown-on was mid is old between new tasks more a b = record {
-    ran = λ held stands.
-        let x = a.ran held stands in
-        let p = x.0 in
-        let same = making-same (view was.store).frame (view mid.store).frame a.frame in
-        let y = subst (λ (making : Making). (q : Piece view tape making now mid is between new more p.left) × BeginsUnknown making.config q.steps × (is_empty q.steps ≡ false)) same (b.ran p.left p.stands) in
-        let q = y.0 in (
-          piece-on view tape (making_of (view was.store).frame) now was mid is old between new tasks more held p q,
-          subst (BeginsUnknown (view was.store).frame.config) (sym (piece-on-steps view tape (making_of (view was.store).frame) now was mid is old between new tasks more held p q)) (begins-both (view was.store).frame.config p.steps q.steps x.1 y.1),
-          λ e. let no : false ≡ true = sym (ap is_empty (piece-on-steps view tape (making_of (view was.store).frame) now was mid is old between new tasks more held p q) ∙ some-last p.steps q.steps y.2) ∙ e in cc,
-        );
-    frame = frame-on (view was.store).frame (view mid.store).frame (view is.store).frame a.frame b.frame;
-  }
-
 -- Calls on connections, one after another.
 
 map-both : {A B : Type 0} (f : A → B) (xs ys : List A) → map f (xs ++ ys) ≡ map f xs ++ map f ys
@@ -240,7 +189,7 @@ taken-stays old new e = subst (SameTaken old) (sym e) (taken-same old)
 
 -- what a call does to the connection at a place
 pub record Stepped {S T : Type 0} (view : S → Values) (tape : T → Option Taped) (now : ℕ) (base new_base : Base S T) (cs ds : List Presence) (i : ℕ) (task : Task) : Type 0 where
-  pub ran : Reruns view tape now base new_base cs ds (task ∷ [])
+  pub ran : Parts view tape now base new_base cs ds (task ∷ [])
   pub amid : (lines : ℕ) → IsAmid view tape now base cs (suc lines) → IsAmid view tape now new_base ds lines
   pub others : LeavesOthers cs ds i
 
@@ -266,10 +215,6 @@ stepped view tape now base new_base cs ds m i p task config number w sound r spa
       ran = record { ran = λ held stands. piece-step view tape now base new_base (i + 1) i cs ds p e w.is_open (task (i + 1)) w.waits ran held stands; frame = r.frame };
       amid = λ lines amid.
           let more : suc lines ≡ 1 + lines = omega arith in
-          amid-behind view tape now base new_base cs ds (task (i + 1) ∷ []) sound.some 1 lines (making_of (view base.store).frame) one.0 r.frame.latest spare (subst (λ k. IsAmid view tape now base cs k) more amid);
+          amid-behind view tape now base new_base cs ds (task (i + 1) ∷ []) sound.some 1 lines (making_of (view base.store).frame) one r.frame.latest spare (subst (λ k. IsAmid view tape now base cs k) more amid);
       others = leaves-others cs ds i p;
     }
-
--- a part that is known to have steps
-pub only-parts : {S T : Type 0} (view : S → Values) (tape : T → Option Taped) (now : ℕ) (base new_base : Base S T) (cs ds : List Presence) (tasks : List Task) → Reruns view tape now base new_base cs ds tasks → Parts view tape now base new_base cs ds tasks
-only-parts view tape now base new_base cs ds tasks r = record { ran = λ held stands. (r.ran held stands).0; frame = r.frame }

@@ -8,8 +8,8 @@ use Rattle.audit_model.specs.Belongs.{refusal_of}
 use Rattle.audit_model.specs.Follows.{after_event, tasks_in, without_load}
 use Rattle.audit_model.specs.History.{Storing}
 use Rattle.audit_model.specs.Places.{steps_of}
-use Rattle.audit_model.specs.Situation.{HeldValue, PendingLoad, Situation, view_in}
-use Rattle.audit_model.specs.Steps.{Deliver, RunLines, Task, effect_in}
+use Rattle.audit_model.specs.Situation.{HeldValue, Situation, view_in}
+use Rattle.audit_model.specs.Steps.{Deliver, RunLines, effect_in}
 use Rattle.audit_model.specs.declared.config.Config.{Config}
 use Rattle.audit_model.specs.declared.event.Event.{Event}
 use Rattle.audit_model.specs.declared.event.Outcome.{Outcome}
@@ -19,6 +19,7 @@ use Rattle.audit_model.specs.declared.transcript.Record.{Record}
 use Rattle.audit_model.specs.declared.transcript.Step.{Step}
 use Rattle.cache_commands.specs.Loading.{step_silent}
 use Rattle.cache_commands.specs.Loads.Pending.{SameTaken, loads_pending}
+use Rattle.cache_commands.specs.Order.{Order, Unknown}
 use Rattle.cache_commands.specs.Right.{held_when_run}
 use Rattle.cache_core.specs.Connections.Presence.{Presence, closing_of_presence, open_from, reply_text_of}
 use Rattle.cache_core.specs.Fed.{BaseStays}
@@ -27,38 +28,27 @@ use Rattle.cache_core.specs.Settling.{AllLookAsBefore, BeginsAnswer, Happens, Ha
 use Rattle.cache_core.specs.State.{IsBetweenEvents, NamespaceState, at_number, situation_with, state_of}
 use Rattle.cache_core.specs.Turned.{Turned, own_steps, replies_to, with_record}
 use Rattle.cache_lines.proofs.Drawn.{keeps-more}
-use Rattle.cache_lines.proofs.leads.Leading.{draws-on}
+use Rattle.cache_lines.proofs.leads.Leading.{leads-mean, leads-order}
 use Rattle.cache_lines.proofs.leads.Settling.{answer}
-use Rattle.cache_lines.specs.Drawing.{Identifiers, identifiers_in}
+use Rattle.cache_lines.specs.Drawing.{identifiers_in}
 use Rattle.cache_lines.specs.Leads.Laws.{record_answered, when_stored}
-use Rattle.cache_lines.specs.Leads.Leads.{TasksLead}
+use Rattle.cache_lines.specs.Leading.{StepsLead, TasksLead, point}
+use Rattle.cache_lines.specs.Leads.Leads.{SettlingLeads}
 use Rattle.cache_lines.specs.Lines.{has_its_part}
 use Rattle.cache_lines.specs.Making.{Making, making_of}
 use Rattle.cache_lines.specs.Tape.Taped.{IsAtRest, Taped, finishes}
 use Rattle.cache_lines.specs.Waiting.{UnderWay, under_way}
 use Rattle.cache_lines.specs.declared.base.Base.{Base}
-use Rattle.cache_store.specs.Identifiers.{KeepsIdentifiers}
 use Rattle.cache_store.specs.Promises.{Frame}
 use Rattle.cache_store.specs.Running.{is_bounded}
 use Rattle.cache_store.specs.Values.{IsSoundStore, Values}
 use Rattle.audit_model.specs.Situation as model
 use Rattle.audit_model.specs.declared.event.Outcome.TheVariants as came
-use Rattle.cache_commands.proofs.Drawn.{spends-kept}
 use Rattle.cache_core.proofs.Sending.{sends-behind}
-use Rattle.cache_core.proofs.Happening.{closings-moved, orders-lost, settled-kept, started-some}
+use Rattle.cache_core.proofs.Happening.{closings-moved, settled-kept, started-some}
 use Rattle.cache_core.proofs.Orders.{order-turned, state-alike}
 use Rattle.cache_core.proofs.Touched.{all-closings, all-courses, all-listed, all-texts}
 use Rattle.cache_core.proofs.Turning.{sit}
-
--- where identifiers were kept before
-kept-first : (config : Config) (making : Making) (s t : Situation) (tasks left : List Task) (steps : List Step) (a b c : Identifiers) → KeepsIdentifiers a.stream b.stream a.registered b.registered → TasksLead config making s tasks steps t left b c → TasksLead config making s tasks steps t left a c
-kept-first config making s t tasks left steps a b c kept l = record {
-  after = l.after;
-  parted = l.parted;
-  timely = l.timely;
-  draws = λ more last h. draws-on config [] (steps ++ more) a b last (spends-kept a.stream b.stream a.registered b.registered kept) (l.draws more last h);
-  tidy = l.tidy;
-}
 
 -- the value that was stored stands in its key's part
 stored-parted : (config : Config) (part_of : List ℕ → ℕ) (s : Situation) (key : List ℕ) (outcome : Outcome) (accepted : Option Accepted) (told : List Note) → IfSome accepted (λ a. a.part ≡ part_of key)
@@ -136,21 +126,28 @@ module _ {S T : Type 0} (view : S → Values) (tape : T → Option Taped) (base 
       ∙ ap (λ k. at (max moment latest) (length (map closing_of_presence old)) k (open_from 1 cs) (view begun.store).frame.dropped) (out.left_is ∙ ap (but_for load) same_loads)
       ∙ ap (λ ks. at (max moment latest) (length (map closing_of_presence old)) (but_for load l) ks (view begun.store).frame.dropped) (all-listed 1 old cs looks)
       ∙ ap (at (max moment latest) (length (map closing_of_presence old)) (but_for load l) (open_from 1 old)) dropped_is in
-      let leads : TasksLead config making (when_stored config u key outcome accepted told) tasks steps t [] b c =
-      subst (λ v. TasksLead config making v tasks steps t [] b c) begins (subst (λ ts. TasksLead config making start ts steps t [] b c) (append-nil tasks) (p.leads [])) in
+      let leads : TasksLead making (when_stored config u key outcome accepted told) tasks steps t [] (view begun.store) (view new_base.store) =
+      subst (λ v. TasksLead making v tasks steps t [] (view begun.store) (view new_base.store)) begins p.leads in
       let kept = keeps-more (view base.store).stream (view starts.middle).stream (view begun.store).stream (view base.store).registered (view starts.middle).registered (view begun.store).registered starts.stored.identifiers starts.drains.identifiers in
-      let settles = answer config making s t load moment key outcome accepted told steps a c admitted starts.keyed y.1 x.right (stored-parted config making.part_of u key outcome accepted told starts.stored.part)
-      (kept-first config making (when_stored config u key outcome accepted told) t tasks [] steps a b c kept leads) in
+      let entry = record_answered load outcome moment accepted told steps in
+      let settles : (places : ℕ) (order behind : Order) → StepsLead making places (point (when_stored config u key outcome accepted told) b Unknown) tasks steps (point t c behind) [] → SettlingLeads making places s entry t a c order behind =
+      λ places order behind lead. answer making places s t load moment key outcome accepted told steps a b c order behind admitted starts.keyed y.1 x.right
+      (stored-parted config making.part_of u key outcome accepted told starts.stored.part) kept lead in
+      let own : TasksLead making (after_event entry.event s) (tasks_in s entry.event) (steps_of entry) t [] (view base.store) (view new_base.store) = λ places order agrees.
+      let l = leads places Unknown (λ plain. tt) in
+      (l.0, l.1, (settles places order l.0 l.2).leads) in
+      let mean = leads-mean making (after_event entry.event s) t (tasks_in s entry.event) (steps_of entry) (view base.store) (view new_base.store) own in
+      let l = leads 0 Unknown (λ plain. tt) in
+      let settled = settles 0 Unknown l.0 l.2 in
       let kept_same = started-some room (tape base.tape) (tape begun.tape) starts.begun in
       let same_texts = all-texts old cs looks in
-      let same_courses = all-courses old cs looks in
-      let entry = record_answered load outcome moment accepted told steps in (
+      let same_courses = all-courses old cs looks in (
         entry,
         refl,
         record {
           next = t;
           stands = record { held = p.left; stands = p.stands; is = refl };
-          follows = settles.follows;
+          follows = settled.follows;
           kept = settled-kept (answering load outcome moment) accepted notes steps room (tape base.tape) (tape begun.tape) (tape new_base.tape) (tape final) rests starts.begun p.kept ended
               ∙ told-kept (answering load outcome moment) accepted notes told steps (tape base.tape) (λ e. starts.notes_are e ∙ x.handed.added ∙ ap (λ ns. ns ++ told) (untaken e));
           outputs = λ n.
@@ -159,11 +156,11 @@ module _ {S T : Type 0} (view : S → Values) (tape : T → Option Taped) (base 
           notes = notes-all (is_some (tape base.tape)) (view base.store).untaken (view starts.middle).untaken (view begun.store).untaken (view new_base.store).untaken told (flat_map (λ (step : Step). step.notices) steps) untaken x.handed.added starts.untaken_is
               (subst (λ b. (view new_base.store).untaken ≡ (view begun.store).untaken ++ (if b then [] else flat_map (λ (step : Step). step.notices) steps)) kept_same p.notes);
           closings = closings-moved config s t entry old ds refl refl (λ n. refl) (λ n. subst (λ ks. MovesCourse config (own_steps n steps) (at_number Absent ks n) (course_at ds n)) same_courses (p.moves n));
-          parted = settles.parted;
-          timely = settles.timely;
+          parted = mean.parted;
+          timely = mean.timely;
           bounded = subst (λ (k : Config). IsTrue (is_bounded k p.left)) config-stays (sound.bounded p.left p.stands);
-          draws = settles.draws;
-          ordered = orders-lost config (view base.store).Used (view new_base.store).Used (after_event entry.event s) (tasks_in s entry.event) (steps_of entry) settles.ordered refl;
+          draws = settled.draws;
+          ordered = leads-order making (after_event entry.event s) t (tasks_in s entry.event) (steps_of entry) (view base.store) (view new_base.store) own;
         },
       )
 

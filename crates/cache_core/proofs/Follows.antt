@@ -24,6 +24,7 @@ use Rattle.cache_commands.proofs.Taking.{taken-on}
 use Rattle.cache_commands.specs.Loads.Pending.{SameTaken}
 use Rattle.cache_commands.specs.Loads.Standings.{holds_line, waits_for_load}
 use Rattle.cache_commands.specs.declared.loads.loads.Loads.{Loads}
+use Rattle.cache_lines.proofs.leads.Leading.{leads-mean, leads-order}
 use Rattle.cache_lines.specs.Bases.{Seen, seen_on}
 use Rattle.cache_lines.specs.Ended.{RanTasks, ends_silent}
 use Rattle.cache_lines.specs.Gathered.{Gathered, adds, gather, reply_in, stage, written_in}
@@ -146,7 +147,7 @@ module _ {S T : Type 0} (view : S → Values) (tape : T → Option Taped) (base 
   start held = set_in (sit (max moment latest) (under_way base.loads) cs before.frame.dropped held) held (with_piece piece (shown_connection m old))
 
   pub ran-fed : (held : List HeldValue) → before.Stands held
-      → RanTasks (making_of before.frame) (start held) (tasks_to_feed m (holds_line old.standing)) turn.ran.quit is_held turn.ran.silent
+      → RanTasks (making_of before.frame) (start held) (tasks_to_feed m (holds_line old.standing)) [] turn.ran.quit is_held turn.ran.silent
       (λ rest. put_in (sit (max moment latest) (under_way new_base.loads) cs behind.frame.dropped held) rest m new)
       (stage before (text_at cs i) (option_map (started 1) (tape base.tape))) (stage behind (text_at (slice_set cs i (Here new)) i) turn.middle)
   ran-fed held stands = turn.ran.ran (sit (max moment latest) (under_way base.loads) cs before.frame.dropped held) (record { at = refl; dropped = refl; stands = stands }) (ap is_some (found-open m i old cs refl at is_open)) refl
@@ -168,7 +169,10 @@ module _ {S T : Type 0} (view : S → Values) (tape : T → Option Taped) (base 
       let k = kept-fed held stands in
       let found = found-open m i old cs refl at is_open in
       let tasks = tasks_to_feed m (holds_line old.standing) in
-      let own : list_all (λ (step : Step). step.conn == m) steps ≡ true = all-own config m (start held) tasks steps _ (feed-own m (holds_line old.standing)) r.after in
+      let ends = put_in (sit (max moment latest) (under_way new_base.loads) cs behind.frame.dropped held) r.left m new in
+      let mean = leads-mean (making_of before.frame) (start held) ends tasks steps before behind r.leads in
+      let after = mean.follows refl in
+      let own : list_all (λ (step : Step). step.conn == m) steps ≡ true = all-own config m (start held) tasks steps _ (feed-own m (holds_line old.standing)) after in
       let known = known-open m i old s cs refl refl refl at is_open in
       let next = sit (max moment latest) (under_way left) (slice_set cs i (Here new)) behind.frame.dropped r.left in
       let rest = after_steps config (after_event (feeding m piece moment) s) (tasks_in s (feeding m piece moment)) steps in
@@ -193,7 +197,7 @@ module _ {S T : Type 0} (view : S → Values) (tape : T → Option Taped) (base 
               ∙ ap (λ a. if is_none (refusal_where a error.Moment) && true && true then rest else None) (leb-above (2 ^ 63) moment low)
               ∙ ap (λ o. after_steps config (fed o) (fed_tasks o) steps) found
               ∙ ap (λ b. after_steps config (start held) (tasks_to_feed m b) steps) (holding-shown m old)
-              ∙ r.after ∙ ap Some (put-situation (max moment latest) m i (under_way new_base.loads) old new cs behind.frame.dropped held r.left refl at is_open)
+              ∙ after ∙ ap Some (put-situation (max moment latest) m i (under_way new_base.loads) old new cs behind.frame.dropped held r.left refl at is_open)
               ∙ ap (λ l. Some (sit (max moment latest) l (slice_set cs i (Here new)) behind.frame.dropped r.left)) (sym leaves);
           kept = k.kept;
           outputs = outputs-by cs i old new steps (is_some (tape base.tape)) at text own;
@@ -202,15 +206,15 @@ module _ {S T : Type 0} (view : S → Values) (tape : T → Option Taped) (base 
           parted =
               ap (λ o. list_all (is_parted before.frame.part_of) (accepted_values (placed_steps_in config (fed o) (fed_tasks o) steps))) found
               ∙ ap (λ b. list_all (is_parted before.frame.part_of) (accepted_values (placed_steps_in config (start held) (tasks_to_feed m b) steps))) (holding-shown m old)
-              ∙ r.parted;
+              ∙ mean.parted;
           timely =
               ap (λ o. are_timely config before.frame.made (fed o) (fed_tasks o) steps) found
               ∙ ap (λ b. are_timely config before.frame.made (start held) (tasks_to_feed m b) steps) (holding-shown m old)
-              ∙ r.timely;
+              ∙ mean.timely;
           bounded = subst (λ (c : Config). IsTrue (is_bounded c r.left)) config-stays (sound.bounded r.left r.stands);
-          draws = r.draws;
+          draws = mean.draws;
           ordered = λ places order plain agrees.
-              let a = r.ordered places order plain agrees in (
+              let a = leads-order (making_of before.frame) (start held) ends tasks steps before behind r.leads places order plain agrees in (
                 a.0,
                 subst (λ o. HaveKeys config (suc places) order (fed o) (fed_tasks o) steps) (sym found)
                     (subst (λ b. HaveKeys config (suc places) order (start held) (tasks_to_feed m b) steps) (sym (holding-shown m old)) a.1),

@@ -1,15 +1,12 @@
 -- A settled load's record, from its parts.
 use Rattle.std.proofs.Common.{max, refl, sym, ap, ◌∙◌, subst, arith, inl, ◌≡◌, ℕ, zero, suc, ◌+◌, ◌<◌, ◌^◌, Bool, true, false, not, ◌||◌, ◌==◌, List, [], ◌∷◌, ◌++◌, map, Option, Some, None, if◌then◌else◌, is_none, is_some, IsTrue, MatchOption}
-use Rattle.std.proofs.lemmas.List.{append-nil}
 use Rattle.std.proofs.lemmas.Option.{same_Some}
 use Rattle.std.specs.List.{find, flat_map}
 use Rattle.std.specs.Option.{option_map}
 use Rattle.audit_model.specs.Belongs.{refusal_of}
-use Rattle.audit_model.specs.Bytewise.{is_empty}
 use Rattle.audit_model.specs.Follows.{without_load}
 use Rattle.audit_model.specs.Places.{tasks_to_give_up}
 use Rattle.audit_model.specs.Situation.{HeldValue, Situation, connection_in}
-use Rattle.audit_model.specs.Steps.{Task}
 use Rattle.audit_model.specs.declared.command.Closing.{Closing}
 use Rattle.audit_model.specs.declared.config.Config.{Config}
 use Rattle.audit_model.specs.declared.event.Event.{Event}
@@ -19,21 +16,21 @@ use Rattle.audit_model.specs.declared.transcript.Note.{Note}
 use Rattle.audit_model.specs.declared.transcript.Record.{Record}
 use Rattle.audit_model.specs.declared.transcript.Step.{Step}
 use Rattle.cache_commands.specs.Loads.Pending.{SameTaken, loads_pending}
-use Rattle.cache_commands.specs.Order.{AgreesWith}
+use Rattle.cache_commands.specs.Order.{Unknown}
 use Rattle.cache_commands.specs.declared.loads.loads.Loads.{Loads}
 use Rattle.cache_commands.specs.declared.loads.standing.Standing.{Standing}
 use Rattle.cache_core.specs.Connections.Presence.{Gone, Here, Out, Presence, closing_of_presence, open_from, reply_text_of}
 use Rattle.cache_core.specs.Fed.{WantsMemory}
-use Rattle.cache_core.specs.Settling.{Happens, PartsUnknown, but_for, giving_up, known_of_loads, waiting_on}
+use Rattle.cache_core.specs.Settling.{Happens, but_for, giving_up, known_of_loads, waiting_on}
 use Rattle.cache_core.specs.State.{IsBetweenEvents, NamespaceState, at_number, known_of_state, situation_with, state_of}
 use Rattle.cache_core.specs.Turned.{RefusesBy, Turned, closing_behind, own_steps, reason_of, replies_to, with_record}
+use Rattle.cache_lines.proofs.leads.Leading.{leads-mean, leads-order}
 use Rattle.cache_lines.proofs.leads.Settling.{give-up}
 use Rattle.cache_lines.specs.Drawing.{identifiers_in}
 use Rattle.cache_lines.specs.Gathered.{adds, written_in}
 use Rattle.cache_lines.specs.Leads.Laws.{record_given_up}
-use Rattle.cache_lines.specs.Leads.Leads.{LeavesUnknown, TasksLead}
+use Rattle.cache_lines.specs.Leading.{TasksLead}
 use Rattle.cache_lines.specs.Making.{making_of}
-use Rattle.cache_lines.specs.Ordered.{OrdersSteps}
 use Rattle.cache_lines.specs.Tape.Taped.{IsAtRest, Taped, finishes, started, with_entry}
 use Rattle.cache_lines.specs.Waiting.{UnderWay, under_way}
 use Rattle.cache_lines.specs.declared.base.Base.{Base}
@@ -43,7 +40,7 @@ use Rattle.cache_store.specs.Values.{IsSoundStore, Values}
 use Rattle.audit_model.specs.Situation as model
 use Rattle.audit_model.specs.declared.input.ServiceError.TheVariants as error
 use Rattle.cache_commands.specs.declared.loads.standing.Standing.TheVariants as now_is
-use Rattle.cache_core.specs.Settled.{Running, Absent, Closed, Course, MovesCourse, Resting, course_at, course_in, course_of, closing_of_steps, middle_of}
+use Rattle.cache_core.specs.Settled.{Running, Absent, Closed, Course, MovesCourse, Parts, Resting, course_at, course_in, course_of, closing_of_steps, middle_of}
 use Rattle.cache_core.proofs.Sending.{sends-behind}
 use Rattle.cache_core.proofs.Orders.{order-turned}
 use Rattle.cache_core.proofs.Table.{found-first, listed_of, none-below, passed-over}
@@ -171,22 +168,11 @@ pub started-some : (n : ℕ) (tape begun : Option Taped) → begun ≡ option_ma
 started-some n None begun e = ap is_some e
 started-some n (Some t) begun e = ap is_some e
 
--- ---- what is known of the order of use
-
-pub orders-lost : (config : Config) (old new : Bool → List (List ℕ) → Type 0) (s : Situation) (tasks : List Task) (steps : List Step) → LeavesUnknown config s tasks steps → is_empty steps ≡ false → OrdersSteps config old new s tasks steps
-orders-lost config old new s tasks [] l some = let no : true ≡ false = some in cc
-orders-lost config old new s tasks (step ∷ steps) l some = λ places order plain agrees.
-    let x = l (suc places) order in (subst (AgreesWith new places) (sym x.0) tt, x.1)
-
-pub orders-none : (config : Config) (old new : Bool → List (List ℕ) → Type 0) (s : Situation) (tasks : List Task) (steps : List Step) → LeavesUnknown config s tasks steps → (is_empty steps ≡ true → new ≡ old) → OrdersSteps config old new s tasks steps
-orders-none config old new s tasks [] l same = λ places order plain agrees. (subst (λ used. AgreesWith used places order) (sym (same refl)) agrees, tt)
-orders-none config old new s tasks (step ∷ steps) l same = orders-lost config old new s tasks (step ∷ steps) l refl
-
 -- ---- a give-up
 
 module _ {S T : Type 0} (view : S → Values) (tape : T → Option Taped) (base new_base : Base S T) (left : Loads) (begun final : T) (latest now load moment room : ℕ) (cs ds : List Presence) (at_now : now ≡ max moment latest)
     (starts : tape begun ≡ option_map (started room) (tape base.tape)) (left_is : under_way left ≡ but_for load (under_way base.loads))
-    (parts : PartsUnknown view tape now (record { store = base.store; loads = left; tape = begun }) new_base cs ds (tasks_to_give_up (waiting_on load (under_way base.loads))))
+    (parts : Parts view tape now (record { store = base.store; loads = left; tape = begun }) new_base cs ds (tasks_to_give_up (waiting_on load (under_way base.loads))))
     (ended : tape final ≡ option_map (finishes (giving_up load moment) None []) (tape new_base.tape)) where
   abbrev config : Config
   config = (view base.store).frame.config
@@ -202,19 +188,18 @@ module _ {S T : Type 0} (view : S → Values) (tape : T → Option Taped) (base 
   turned-given rests sound admitted held stands =
       let making = making_of (view base.store).frame in
       let s = sit latest (under_way base.loads) cs (view base.store).frame.dropped held in
-      let x = parts.ran held stands in
-      let p = x.0 in
+      let p = parts.ran held stands in
       let steps = p.steps in
       let tasks = tasks_to_give_up (waiting_on load (under_way base.loads)) in
       let t = middle_of (view new_base.store) now (under_way new_base.loads) ds p.left in
-      let start = middle_of (view base.store) now (under_way left) cs held in
-      let a = identifiers_in (view base.store) in
-      let c = identifiers_in (view new_base.store) in
-      let begins : start ≡ without_load load moment s =
-      ap (λ n. middle_of (view base.store) n (under_way left) cs held) at_now ∙ ap (λ (l : UnderWay). middle_of (view base.store) (max moment latest) l cs held) left_is in
-      let leads : TasksLead config making (without_load load moment s) tasks steps t [] a c =
-      subst (λ w. TasksLead config making w tasks steps t [] a c) begins (subst (λ ts. TasksLead config making start ts steps t [] a c) (append-nil tasks) (p.leads [])) in
-      let settles = give-up config making s t load moment steps a c admitted leads x.1 in
+      let u = without_load load moment s in
+      let v = view base.store in
+      let w = view new_base.store in
+      let begins : middle_of v now (under_way left) cs held ≡ u =
+      ap (λ n. middle_of v n (under_way left) cs held) at_now ∙ ap (λ (l : UnderWay). middle_of v (max moment latest) l cs held) left_is in
+      let leads : TasksLead making u tasks steps t [] v w = subst (λ x. TasksLead making x tasks steps t [] v w) begins p.leads in
+      let x = leads 0 Unknown (λ plain. tt) in
+      let settles = give-up making 0 s t load moment steps (identifiers_in v) (identifiers_in w) Unknown x.0 admitted x.2 in
       let kept_same = started-some room (tape base.tape) (tape begun) starts in (
         record_given_up load moment steps,
         refl,
@@ -227,11 +212,11 @@ module _ {S T : Type 0} (view : S → Values) (tape : T → Option Taped) (base 
               subst (λ b. at_number [] (map reply_text_of ds) n ≡ at_number [] (map reply_text_of cs) n ++ (if b then [] else replies_to n steps)) kept_same (p.outputs n);
           notes = subst (λ b. (view new_base.store).untaken ≡ (view base.store).untaken ++ (if b then [] else flat_map (λ (step : Step). step.notices) steps)) kept_same p.notes;
           closings = closings-moved config s t (record_given_up load moment steps) cs ds refl refl (λ n. refl) p.moves;
-          parted = settles.parted;
-          timely = settles.timely;
+          parted = (leads-mean making u t tasks steps v w leads).parted;
+          timely = (leads-mean making u t tasks steps v w leads).timely;
           bounded = subst (λ (k : Config). IsTrue (is_bounded k p.left)) config-stays (sound.bounded p.left p.stands);
           draws = settles.draws;
-          ordered = orders-none config (view base.store).Used (view new_base.store).Used (without_load load moment s) tasks steps settles.ordered (λ e. ap (λ st. (view st).Used) (x.2 e));
+          ordered = leads-order making u t tasks steps v w leads;
         },
       )
 

@@ -18,11 +18,10 @@ use Rattle.cache_store.specs.Values.{Values}
 use Rattle.cache_commands.specs.Loads.Standings.{holds_line, waits_for_load}
 use Rattle.cache_commands.specs.declared.loads.loads.Loads.{Loads}
 use Rattle.cache_commands.specs.declared.loads.standing.Standing.{Standing}
-use Rattle.cache_lines.proofs.leads.Leading.{on, lines, no-lines, nothing}
-use Rattle.cache_lines.specs.Drawing.{identifiers_in}
+use Rattle.cache_lines.proofs.leads.Leading.{leads-framed, leads-mean, leads-no-lines, leads-nothing, leads-on}
 use Rattle.cache_lines.specs.Ended.{ends_silent, RanTasks}
 use Rattle.cache_lines.specs.Gathered.{Gathered, adds, gather, gathered, reply_in, stage, written_in}
-use Rattle.cache_lines.specs.Leads.Leads.{TasksLead, BeginsUnknown}
+use Rattle.cache_lines.specs.Leading.{TasksLead}
 use Rattle.cache_lines.specs.Lines.{ends_quit, set_in, with_drops}
 use Rattle.cache_lines.specs.Making.{Making, making_of}
 use Rattle.cache_lines.specs.Tape.Taped.{Taped}
@@ -185,12 +184,11 @@ module _ {S T : Type 0} (view : S → Values) (tape : T → Option Taped) (makin
         steps = steps;
         left = q.left;
         stands = q.stands;
-        leads = λ rest.
+        leads =
             let s = middle_of (view was.store) now (under_way was.loads) old held in
             let t = middle_of (view mid.store) now (under_way mid.loads) between p.left in
             let u = middle_of (view is.store) now (under_way is.loads) new q.left in
-            subst (λ ts. TasksLead making.config making s ts steps u rest (identifiers_in (view was.store)) (identifiers_in (view is.store))) (sym (append_assoc tasks more rest))
-            (on making.config making s t u (tasks ++ (more ++ rest)) (more ++ rest) rest p.steps q.steps (identifiers_in (view was.store)) (identifiers_in (view mid.store)) (identifiers_in (view is.store)) (p.leads (more ++ rest)) (q.leads rest));
+            leads-on making s t u (tasks ++ more) more [] p.steps q.steps (view was.store) (view mid.store) (view is.store) (leads-framed making s t tasks more p.steps (view was.store) (view mid.store) p.leads) q.leads;
         outputs = λ n.
             added-both b _ _ _ (replies_to n p.steps) (replies_to n q.steps) (replies_to n steps) (p.outputs n)
             (subst (λ k. at_number [] (map reply_text_of new) n ≡ at_number [] (map reply_text_of between) n ++ (if k then [] else replies_to n q.steps)) some (q.outputs n))
@@ -201,11 +199,6 @@ module _ {S T : Type 0} (view : S → Values) (tape : T → Option Taped) (makin
             (subst (λ k. (view is.store).untaken ≡ (view mid.store).untaken ++ (if k then [] else flat_map (λ (step : Step). step.notices) q.steps)) some q.notes) (flat-both (λ (step : Step). step.notices) p.steps q.steps);
         moves = λ n. subst (λ ss. MovesCourse making.config ss (course_at old n) (course_at new n)) (sym (own-both n p.steps q.steps)) (moves-on making.config (own_steps n p.steps) (own_steps n q.steps) (course_at old n) (course_at between n) (course_at new n) (p.moves n) (q.moves n));
       }
-
-  -- its steps are those of both
-  pub piece-on-steps : (p : Piece view tape making now was mid old between tasks held) (q : Piece view tape making now mid is between new more p.left) → (piece-on p q).steps ≡ p.steps ++ q.steps
-  unfolding piece-on
-  piece-on-steps p q = refl
 
 -- ---- a part in which one connection had steps
 
@@ -324,16 +317,12 @@ module _ {S T : Type 0} (view : S → Values) (tape : T → Option Taped) (now :
     steps = [];
     left = held;
     stands = stands;
-    leads = λ more. nothing frame_was.config frame_was (middle_of (view was.store) now (under_way was.loads) cs held) more (identifiers_in (view was.store));
+    leads = leads-nothing frame_was (middle_of (view was.store) now (under_way was.loads) cs held) [] (view was.store);
     outputs = λ n. none-more (is_some (tape was.tape)) (at_number [] (map reply_text_of cs) n);
     kept = adds-none (tape was.tape);
     notes = none-more (is_some (tape was.tape)) (view was.store).untaken;
     moves = λ n. moves-none frame_was.config (course_at cs n);
   }
-
-  pub none-begins : (config : Config) (cs : List Presence) (held : List HeldValue) (stands : (view was.store).Stands held) → BeginsUnknown config (piece-none cs held stands).steps
-  unfolding piece-none
-  none-begins config cs held stands = tt
 
   module _ (m i : ℕ) (cs ds : List Presence) (p : ReplacedAt cs ds i) (e : m ≡ suc i) (was_open : p.was.closing ≡ None) where
     -- the texts, where the steps are the connection's own
@@ -350,7 +339,7 @@ module _ {S T : Type 0} (view : S → Values) (tape : T → Option Taped) (now :
 
     -- a task of its `LOAD` that waited was done
     pub piece-step : (task : Task) → p.was.standing ≡ now_is.Waiting → StepRan now m task p.was p.is (seen_at view tape was cs i) (seen_at view tape is ds i) → (held : List HeldValue) → (view was.store).Stands held
-        → (q : Piece view tape frame_was now was is cs ds (task ∷ []) held) × BeginsUnknown frame_was.config q.steps × (is_empty q.steps ≡ false)
+        → Piece view tape frame_was now was is cs ds (task ∷ []) held
     piece-step task waited r held stands =
         let s = sit now (under_way was.loads) cs (view was.store).frame.dropped held in
         let x = r.ran s (record { at = refl; dropped = refl; stands = stands }) refl (found-open m i p.was cs e p.at was_open) in
@@ -360,20 +349,17 @@ module _ {S T : Type 0} (view : S → Values) (tape : T → Option Taped) (now :
         let target : put_in (with_under_way (under_way is.loads) (with_drops (view is.store).frame.dropped s)) x.left m p.is ≡ middle_of (view is.store) now (under_way is.loads) ds x.left =
         put-situation now m i (under_way is.loads) p.was p.is cs (view is.store).frame.dropped held x.left e p.at was_open
         ∙ ap (λ o. sit now (when_left (is_none o) m (under_way is.loads)) (slice_set cs i (Here p.is)) (view is.store).frame.dropped x.left) r.is_open
-        ∙ ap (λ ks. sit now (under_way is.loads) ks (view is.store).frame.dropped x.left) (sym p.set) in (
-          record {
-            steps = steps;
-            left = x.left;
-            stands = x.stands;
-            leads = λ more. subst (λ t. TasksLead frame_was.config frame_was s (task ∷ more) steps t more (identifiers_in (view was.store)) (identifiers_in (view is.store))) target (x.leads more);
-            outputs = texts-own steps g.text_is own;
-            kept = g.kept;
-            notes = g.untaken_is;
-            moves = moves-own steps own (moves-step frame_was.config steps p.was.closing p.is.closing p.was.standing p.is.standing was_open waited r.is_open x.calm refl);
-          },
-          x.unknown,
-          refl,
-        )
+        ∙ ap (λ ks. sit now (under_way is.loads) ks (view is.store).frame.dropped x.left) (sym p.set) in
+        record {
+          steps = steps;
+          left = x.left;
+          stands = x.stands;
+          leads = subst (λ t. TasksLead frame_was s (task ∷ []) steps t [] (view was.store) (view is.store)) target x.leads;
+          outputs = texts-own steps g.text_is own;
+          kept = g.kept;
+          notes = g.untaken_is;
+          moves = moves-own steps own (moves-step frame_was.config steps p.was.closing p.is.closing p.was.standing p.is.standing was_open waited r.is_open x.calm refl);
+        }
 
     -- its lines ran
     pub piece-lines : (left : Loads) (is_held : Bool) → p.was.standing ≡ now_is.Ready → FedRan now m p.was [] p.is is_held (seen_at view tape was cs i) (seen_at view tape is ds i) → under_way left ≡ when_left (is_none (closing_at ds i)) m (under_way is.loads)
@@ -388,21 +374,22 @@ module _ {S T : Type 0} (view : S → Values) (tape : T → Option Taped) (now :
         let ends : List HeldValue → Situation = λ rest. put_in (with_under_way (under_way is.loads) (with_drops dropping s)) rest m p.is in
         let before = stage (view was.store) (text_at cs i) (tape was.tape) in
         let behind = stage (view is.store) (text_at ds i) (tape is.tape) in
-        let ran : RanTasks frame_was s (RunLines m ∷ []) r.quit is_held r.silent ends before behind =
-        subst (λ ts. RanTasks frame_was s ts r.quit is_held r.silent ends before behind) tasks (subst (λ u. RanTasks frame_was u (tasks_to_feed m (holds_line p.was.standing)) r.quit is_held r.silent ends before behind) start x) in
+        let ran : RanTasks frame_was s (RunLines m ∷ []) [] r.quit is_held r.silent ends before behind =
+        subst (λ ts. RanTasks frame_was s ts [] r.quit is_held r.silent ends before behind) tasks (subst (λ u. RanTasks frame_was u (tasks_to_feed m (holds_line p.was.standing)) [] r.quit is_held r.silent ends before behind) start x) in
         let target : ends ran.left ≡ middle_of (view is.store) now (under_way left) ds ran.left =
         put-situation now m i (under_way is.loads) p.was p.is cs dropping held ran.left e p.at was_open
         ∙ ap (λ ks. sit now (when_left (is_none p.is.closing) m (under_way is.loads)) ks dropping ran.left) (sym p.set)
         ∙ ap (λ l. sit now l ds dropping ran.left) (sym (leaves ∙ ap (λ o. when_left (is_none o) m (under_way is.loads)) (closing-is ds i p.is (replaced-is cs ds i p)))) in
-        let after = ran.after ∙ ap Some target in
+        let leads = subst (λ t. TasksLead frame_was s (RunLines m ∷ []) ran.steps t [] (view was.store) (view is.store)) target ran.leads in
         let own : list_all (λ (step : Step). step.conn == suc i) ran.steps ≡ true =
-        subst (λ k. list_all (λ (step : Step). step.conn == k) ran.steps ≡ true) e (all-own frame_was.config m s (RunLines m ∷ []) ran.steps (middle_of (view is.store) now (under_way left) ds ran.left) (feed-own m false) after) in
+        subst (λ k. list_all (λ (step : Step). step.conn == k) ran.steps ≡ true) e (all-own frame_was.config m s (RunLines m ∷ []) ran.steps (middle_of (view is.store) now (under_way left) ds ran.left) (feed-own m false)
+        ((leads-mean frame_was s (middle_of (view is.store) now (under_way left) ds ran.left) (RunLines m ∷ []) ran.steps (view was.store) (view is.store) leads).follows refl)) in
         let g = gathered-apart (view was.store) (view is.store) ran.steps (tape was.tape) (tape is.tape) (text_at cs i) (text_at ds i) ran.gathered_is in
         record {
           steps = ran.steps;
           left = ran.left;
           stands = ran.stands;
-          leads = λ more. lines frame_was.config frame_was s (middle_of (view is.store) now (under_way left) ds ran.left) m ran.steps more (identifiers_in (view was.store)) (identifiers_in (view is.store)) after ran.parted ran.timely ran.draws;
+          leads = leads;
           outputs = texts-own ran.steps g.text_is own;
           kept = g.kept;
           notes = g.untaken_is;
@@ -421,7 +408,7 @@ module _ {S T : Type 0} (view : S → Values) (tape : T → Option Taped) (now :
         steps = [];
         left = held;
         stands = stands;
-        leads = λ more. no-lines frame_was.config frame_was s m more (identifiers_in (view was.store)) stops;
+        leads = leads-no-lines frame_was s m (view was.store) stops;
         outputs = none.outputs;
         kept = none.kept;
         notes = none.notes;

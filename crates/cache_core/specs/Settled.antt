@@ -10,10 +10,9 @@ use Rattle.audit_model.specs.declared.config.Config.{Config}
 use Rattle.audit_model.specs.declared.transcript.Step.{Step}
 use Rattle.cache_commands.specs.Right.{KeepsFrame}
 use Rattle.cache_commands.specs.declared.loads.standing.Standing.{Standing}
-use Rattle.cache_lines.specs.Drawing.{identifiers_in}
 use Rattle.cache_lines.specs.Ended.{ends_silent}
 use Rattle.cache_lines.specs.Gathered.{adds, written_in}
-use Rattle.cache_lines.specs.Leads.Leads.{TasksLead}
+use Rattle.cache_lines.specs.Leading.{TasksLead}
 use Rattle.cache_lines.specs.Lines.{ends_quit}
 use Rattle.cache_lines.specs.Making.{Making, making_of}
 use Rattle.cache_lines.specs.Tape.Taped.{Taped}
@@ -85,7 +84,7 @@ middle_of v now l cs held =
       dropped = v.frame.dropped;
     }
 
--- If these values were held, steps for these tasks ran, whatever is due after them. If a record is made, they are in it; otherwise their
+-- If these values were held, steps for these tasks ran to their end. If a record is made, they are in it; otherwise their
 -- replies and notes are appended to those that were not taken. Each connection went on by its own steps.
 pub record Piece {S T : Type 0} (view : S → Values) (tape : T → Option Taped) (making : Making)
     (now : ℕ) (was is : Base S T) (old new : List Presence) (tasks : List Task)
@@ -93,10 +92,9 @@ pub record Piece {S T : Type 0} (view : S → Values) (tape : T → Option Taped
   pub steps : List Step
   pub left : List HeldValue
   pub stands : (view is.store).Stands left
-  pub leads : (more : List Task) → TasksLead making.config making
-      (middle_of (view was.store) now (under_way was.loads) old held) (tasks ++ more)
-      steps (middle_of (view is.store) now (under_way is.loads) new left) more
-      (identifiers_in (view was.store)) (identifiers_in (view is.store))
+  pub leads : TasksLead making (middle_of (view was.store) now (under_way was.loads) old held) tasks
+      steps (middle_of (view is.store) now (under_way is.loads) new left) [] (view was.store)
+      (view is.store)
   pub outputs : (n : ℕ) → at_number [] (map reply_text_of new) n ≡ at_number []
       (map reply_text_of old) n ++ (if is_some (tape was.tape) then [] else replies_to n steps)
   pub kept : option_map written_in (tape is.tape)

@@ -4,10 +4,9 @@ use Rattle.std.specs.List.{filter, slice_get}
 use Rattle.std.specs.Option.{option_map, option_map_or}
 use Rattle.audit_laws.specs.Waiting.Tidy.{times_in}
 use Rattle.audit_model.specs.Belongs.{Known}
-use Rattle.audit_model.specs.Bytewise.{is_empty}
 use Rattle.audit_model.specs.Follows.{known_in}
 use Rattle.audit_model.specs.Replies.{outcome_text}
-use Rattle.audit_model.specs.Situation.{HeldValue, PendingLoad, Situation}
+use Rattle.audit_model.specs.Situation.{PendingLoad, Situation}
 use Rattle.audit_model.specs.Steps.{Task}
 use Rattle.audit_model.specs.declared.command.Closing.{Closing}
 use Rattle.audit_model.specs.declared.config.Config.{Config}
@@ -18,10 +17,7 @@ use Rattle.audit_model.specs.declared.transcript.Note.{Note}
 use Rattle.audit_model.specs.declared.transcript.Record.{Record}
 use Rattle.cache_commands.specs.Answered.{IsStored}
 use Rattle.cache_commands.specs.Loads.Pending.{SameTaken, load_numbered, loads_pending}
-use Rattle.cache_commands.specs.Right.{KeepsFrame}
 use Rattle.cache_commands.specs.declared.loads.standing.Standing.{Standing}
-use Rattle.cache_lines.specs.Leads.Leads.{BeginsUnknown}
-use Rattle.cache_lines.specs.Making.{making_of}
 use Rattle.cache_lines.specs.Tape.Taped.{IsAtRest, Taped, started}
 use Rattle.cache_lines.specs.Waiting.{UnderWay, under_way}
 use Rattle.cache_lines.specs.declared.base.Base.{Base}
@@ -33,7 +29,7 @@ use Rattle.cache_core.specs.Connections.Presence.{Gone, Here, Out, Presence}
 use Rattle.cache_commands.specs.declared.loads.loads.Loads.{Loads}
 use Rattle.cache_commands.specs.declared.loads.standing.Standing.TheVariants as now_is
 use Rattle.cache_core.specs.Fed.{ReplacedAt, seen_at}
-use Rattle.cache_core.specs.Settled.{Parts, Piece}
+use Rattle.cache_core.specs.Settled.{Parts}
 use Rattle.cache_core.specs.State.{NamespaceState, StateStandsFor}
 use Rattle.cache_core.specs.Turned.{IsSameNamespace, Turned}
 
@@ -179,23 +175,6 @@ module _ {S T : Type 0} (view : S → Values) (tape : T → Option Taped) where
       pub ran : FedRan now (index + 1) put.was [] put.is is_held (seen_at view tape old were index)
           (seen_at view tape new are index)
 
-  -- a part of a record that has a step, after the first of which nothing is known about the order of use
-  pub record Reruns (now : ℕ) (was is : Base S T) (old new : List Presence) (tasks : List Task) :
-      Type 0 where
-    pub ran : (held : List HeldValue) → (view was.store).Stands held
-        → (p : Piece view tape (making_of (view was.store).frame) now was is old new tasks held)
-        × BeginsUnknown (view was.store).frame.config p.steps × (is_empty p.steps ≡ false)
-    pub frame : KeepsFrame (view was.store).frame (view is.store).frame now
-
-  -- the same for one that may have no step, and then did nothing
-  pub record PartsUnknown (now : ℕ) (was is : Base S T) (old new : List Presence)
-      (tasks : List Task) : Type 0 where
-    pub ran : (held : List HeldValue) → (view was.store).Stands held
-        → (p : Piece view tape (making_of (view was.store).frame) now was is old new tasks held)
-        × BeginsUnknown (view was.store).frame.config p.steps
-        × (is_empty p.steps ≡ true → is.store ≡ was.store)
-    pub frame : KeepsFrame (view was.store).frame (view is.store).frame now
-
   -- ---- an answer's own step
 
   -- a load may be settled at this moment: no record is under way, and if records are kept no note waits outside them
@@ -225,17 +204,6 @@ module _ {S T : Type 0} (view : S → Values) (tape : T → Option Taped) where
     pub left : Loads
     pub left_is : under_way left ≡ but_for load (under_way old.loads)
     pub parts : Parts view tape now (record {
-      store = old.store;
-      loads = left;
-      tape = old.tape;
-    }) new were are (tasks (waiting_on load (under_way old.loads)))
-
-  -- the same, with nothing known about the order of use after the first step
-  pub record RunsAgain (now load : ℕ) (old new : Base S T) (were are : List Presence)
-      (tasks : List ℕ → List Task) : Type 0 where
-    pub left : Loads
-    pub left_is : under_way left ≡ but_for load (under_way old.loads)
-    pub parts : PartsUnknown now (record {
       store = old.store;
       loads = left;
       tape = old.tape;

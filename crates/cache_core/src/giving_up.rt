@@ -4,7 +4,7 @@ ghost use Rattle.std.specs.Option.{option_map};
 ghost use Rattle.audit_model.specs.Places.{tasks_to_give_up};
 ghost use Rattle.cache_core.specs.Rooms.{lines_for};
 ghost use Rattle.cache_core.specs.Settled.{IsAmid};
-ghost use Rattle.cache_core.specs.Settling.{AreWaiting, RunsAgain, waiting_on};
+ghost use Rattle.cache_core.specs.Settling.{AreWaiting, HandsOut, waiting_on};
 ghost use Rattle.cache_lines.specs.Waiting.{under_way};
 ghost use Rattle.cache_commands.specs.Loads.Pending.{SameTaken, load_numbered, loads_pending};
 ghost use Rattle.cache_lines.specs.Tape.Taped.{IsAtRest, started};
@@ -40,7 +40,7 @@ impl<S: Store, T: Tape> Interior<S, T> {
         requires under { is_some (load_numbered load (loads_pending self.old.base.loads)) ≡ true }
         requires waits { AreWaiting (S.view self.old.base.store).frame.config self.old.connections
             (waiting_on load (under_way self.old.base.loads)) }
-        ensures ran { RunsAgain S.view T.view now load self.old.base self.new.base
+        ensures ran { HandsOut S.view T.view now load self.old.base self.new.base
             self.old.connections self.new.connections tasks_to_give_up }
         ensures goes { SameTaken self.old.base.loads self.new.base.loads }
     {

@@ -241,7 +241,7 @@ impl<S: Store, T: Tape> Namespace<S, T> {
         })
     }
 
-    /// MovesCourse out what a connection is owed itself. Returns `NoConnection` if the connection was never opened; then nothing has changed.
+    /// Moves out what a connection is owed itself. Returns `NoConnection` if the connection was never opened; then nothing has changed.
     fn take_own(&mut self, number: u64) -> Result<Taken, ServiceError>
         ensures given { IfOk result (GivesOwn S.view self.old self.new number) }
         ensures refused { IsErr result ↔ (was_opened_in self.old number ≡ false) }

@@ -86,7 +86,7 @@ pub fn waits_at_place(connections: &Connections, index: usize) -> bool
     }
 }
 
-/// MovesCourse out what the connection at an index is owed. Of one that has closed little is kept.
+/// Moves out what the connection at an index is owed. Of one that has closed little is kept.
 pub fn take_at(alloc: Global, connections: &mut Connections, index: usize) -> Taken
     requires { index < length connections.old }
     ensures rest { IsTakenAt connections.old connections.new index }

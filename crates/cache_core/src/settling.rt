@@ -6,7 +6,7 @@ ghost use Rattle.audit_model.specs.Replies.{outcome_text};
 ghost use Rattle.audit_model.specs.Steps.{Deliver, RunAgain, RunLines};
 ghost use Rattle.cache_core.specs.Fed.{seen_at};
 ghost use Rattle.cache_core.specs.Settled.{HasSpareFor, IsAmid, Parts};
-ghost use Rattle.cache_core.specs.Settling.{AreThere, AreWaiting, CanBeTold, HaveReplyRoom, IsWaitingAt, LeavesOthers, LeavesRest, PartsUnknown, Reruns, ResumesAt, runs_at, runs_with};
+ghost use Rattle.cache_core.specs.Settling.{AreThere, AreWaiting, CanBeTold, HaveReplyRoom, IsWaitingAt, LeavesOthers, LeavesRest, ResumesAt, runs_at, runs_with};
 ghost use Rattle.cache_lines.specs.Bases.{CanRun};
 ghost use Rattle.cache_lines.specs.Ended.{spare_of};
 ghost use Rattle.cache_commands.specs.Loads.Pending.{SameTaken};
@@ -101,7 +101,7 @@ impl<S: Store, T: Tape> Interior<S, T> {
         requires inside { index < length self.old.connections }
         requires waits { IsWaitingAt (S.view self.old.base.store).frame.config self.old.connections
             (index + 1) }
-        ensures ran { Reruns S.view T.view now self.old.base self.new.base self.old.connections
+        ensures ran { Parts S.view T.view now self.old.base self.new.base self.old.connections
             self.new.connections (RunAgain (index + 1) ∷ []) }
         ensures amid { (lines : ℕ) → IsAmid S.view T.view now self.old.base self.old.connections
             (suc lines) → IsAmid S.view T.view now self.new.base self.new.connections lines }
@@ -121,7 +121,7 @@ impl<S: Store, T: Tape> Interior<S, T> {
         requires inside { index < length self.old.connections }
         requires waits { IsWaitingAt (S.view self.old.base.store).frame.config self.old.connections
             (index + 1) }
-        ensures ran { Reruns S.view T.view now self.old.base self.new.base self.old.connections
+        ensures ran { Parts S.view T.view now self.old.base self.new.base self.old.connections
             self.new.connections (RunAgain (index + 1) ∷ RunLines (index + 1) ∷ []) }
         ensures amid { (lines : ℕ) → IsAmid S.view T.view now self.old.base self.old.connections
             (suc (suc lines)) → IsAmid S.view T.view now self.new.base self.new.connections lines }
@@ -176,7 +176,7 @@ impl<S: Store, T: Tape> Interior<S, T> {
             (length waiting.now + length waiting.now) }
         requires waits { AreWaiting (S.view self.old.base.store).frame.config self.old.connections
             waiting.now }
-        ensures ran { PartsUnknown S.view T.view now self.old.base self.new.base
+        ensures ran { Parts S.view T.view now self.old.base self.new.base
             self.old.connections self.new.connections (tasks_to_give_up waiting.now) }
         ensures goes { SameTaken self.old.base.loads self.new.base.loads }
     {

@@ -8,7 +8,7 @@ use Rattle.audit_model.specs.Commands.{is_sync}
 use Rattle.audit_model.specs.Grammar.{Reading, reading}
 use Rattle.audit_model.specs.History.{accepts_values, Value}
 use Rattle.audit_model.specs.Replies.{Offer, offer_of, sum_with, taken_where, value_from}
-use Rattle.audit_model.specs.Situation.{Situation, view_in, live_at}
+use Rattle.audit_model.specs.Situation.{HeldValue, Situation, view_in, live_at}
 use Rattle.audit_model.specs.Steps.{action_by, effect_in}
 use Rattle.audit_model.specs.declared.config.Config.{Config}
 use Rattle.audit_model.specs.declared.transcript.Accepted.{Accepted}
@@ -16,20 +16,21 @@ use Rattle.audit_model.specs.declared.transcript.Note.{Note}
 use Rattle.audit_model.specs.declared.transcript.Step.{Step}
 use Rattle.audit_laws.specs.Leading.{is_parted}
 use Rattle.cache_store.specs.Promises.{Frame}
+use Rattle.cache_store.specs.Recency.{AreKeysOf}
 use Rattle.cache_store.specs.Running.{is_timely}
 use Rattle.cache_store.specs.Values.{GivesNote, IsSoundStore, Values}
 use Rattle.cache_commands.proofs.Ordering.{agrees-kept}
 use Rattle.cache_commands.specs.Answered.{key_written, IsAnswered}
 use Rattle.cache_commands.specs.Loading.{step_silent}
-use Rattle.cache_commands.specs.Order.{order_by}
+use Rattle.cache_commands.specs.Order.{AgreesWith, Order, Settled, Unknown, Used, order_by}
 use Rattle.cache_commands.specs.Ran.{MissesLive}
 use Rattle.cache_commands.specs.Right.{step_saying, KeepsFrame, held_when_run}
 use Rattle.cache_lines.proofs.Drawn.{step-drawn, step-kept}
 use Rattle.cache_lines.proofs.Gathering.{silent-gathered}
-use Rattle.cache_lines.proofs.Knowing.{keys-known}
 use Rattle.cache_lines.specs.Drawing.{identifiers_in}
 use Rattle.cache_lines.specs.Gathered.{HasNothingOutside, gather, gathered, stage}
 use Rattle.cache_lines.specs.Lines.{TouchesOnlyValues, says_quit}
+use Rattle.cache_lines.specs.Ordered.{HasKeys}
 use Rattle.cache_lines.specs.Ran.{RanLine, WaitsLine}
 use Rattle.cache_lines.specs.Tape.Taped.{Taped, drafts, ends, text_left}
 use Rattle.cache_lines.specs.Waiting.{UnderWay, load_sent_for, when_waiting}
@@ -83,6 +84,14 @@ parted-reading config part_of s (Err error) (Some a) h = refl
 pub synced-where : (b x : Bool) → (b ≡ true → x ≡ true) → (not b || x) ≡ true
 synced-where true x h = h refl
 synced-where false x h = refl
+
+-- a store's keys in their order of use are those held
+keys-known : (Recency : Bool → List (List ℕ) → Type 0) (Stands : List HeldValue → Type 0) (places : ℕ) (order : Order) (held : List HeldValue)
+    → ((values : List HeldValue) (keys : List (List ℕ)) → Stands values → Recency true keys → AreKeysOf values keys)
+    → AgreesWith Recency places order → Stands held → AgreesWith Recency places order × HasKeys order held
+keys-known Recency Stands places (Settled keys) held law agrees stands = (agrees, law held keys stands agrees.0)
+keys-known Recency Stands places (Used keys) held law agrees stands = (agrees, tt)
+keys-known Recency Stands places Unknown held law agrees stands = (agrees, tt)
 
 -- A line that was answered, and what was gathered of it.
 

@@ -49,14 +49,10 @@ step-kept config step a b c s k = record {
   used_up = λ e. let u = s.used_up e in record { part = u.part; is_part = u.is_part; first = u.first; number = u.number; thousand = u.thousand; stream = k.stream ∙ u.stream; each = u.each };
 }
 
--- one step more
-pub draws-more : (config : Config) (steps : List Step) (step : Step) (a b c : Identifiers) → StepsDraw config steps a b → StepDraws config step b c → StepsDraw config (steps ++ step ∷ []) a c
-draws-more config [] step a b c s t = record { before = b; behind = c; spends = s; step_draws = t; rest = spends-same c }
-draws-more config (x ∷ xs) step a b c s t = record { before = s.before; behind = s.behind; spends = s.spends; step_draws = s.step_draws; rest = draws-more config xs step s.behind b c s.rest t }
-
--- a step before others
-pub draws-first : (config : Config) (step : Step) (steps : List Step) (a b c : Identifiers) → StepDraws config step a b → StepsDraw config steps b c → StepsDraw config (step ∷ steps) a c
-draws-first config step steps a b c s t = record { before = a; behind = b; spends = spends-same a; step_draws = s; rest = t }
+-- some are drawn before such steps
+pub draws-kept : (config : Config) (steps : List Step) (a b c : Identifiers) → Spends a b → StepsDraw config steps b c → StepsDraw config steps a c
+draws-kept config [] a b c s t = spends-more a b c s t
+draws-kept config (step ∷ steps) a b c s t = (t.0, t.1, spends-more a b t.0 s t.2, t.3, t.4)
 
 -- a line that is held back draws none
 pub held-draws : (config : Config) (number : ℕ) (line : List ℕ) (a : Identifiers) → StepDraws config (step_held number line) a a

@@ -1,15 +1,10 @@
 -- A feed of a connection that holds a line back.
-use Rattle.std.proofs.Common.{refl, sym, ap, ◌∙◌, subst, ◌≡◌, ℕ, suc, ◌+◌, Bool, true, false, not, ◌&&◌, List, [], ◌∷◌, ◌++◌, Option, Some, None, if◌then◌else◌, Ok, is_none}
-use Rattle.std.proofs.lemmas.Bool.{and_from, eq-eqb}
-use Rattle.std.specs.List.{list_all}
-use Rattle.audit_laws.specs.Leading.{is_parted}
-use Rattle.audit_laws.specs.Placing.{placed_steps_in}
-use Rattle.audit_model.specs.Bytewise.{is_empty}
+use Rattle.std.proofs.Common.{refl, sym, ap, ◌∙◌, subst, ◌≡◌, ℕ, suc, ◌+◌, Bool, true, false, not, ◌&&◌, List, [], ◌∷◌, ◌++◌, Option, Some, None, Ok, is_none}
+use Rattle.std.proofs.lemmas.Bool.{eq-eqb}
 use Rattle.audit_model.specs.Changes.{after_step, all_held_after}
-use Rattle.audit_model.specs.Follows.{after_steps, line_in, placed_step_in}
+use Rattle.audit_model.specs.Follows.{line_in, placed_step_in}
 use Rattle.audit_model.specs.Grammar.{reading}
 use Rattle.audit_model.specs.History.{Running}
-use Rattle.audit_model.specs.Obeys.{accepted_values}
 use Rattle.audit_model.specs.Places.{tasks_to_feed}
 use Rattle.audit_model.specs.Situation.{Situation, HeldValue, live_at, view_in}
 use Rattle.audit_model.specs.Steps.{RunLines, RunHeld, action_by, effect_in, is_right}
@@ -19,26 +14,24 @@ use Rattle.audit_model.specs.declared.transcript.Accepted.{Accepted}
 use Rattle.audit_model.specs.declared.transcript.Note.{Note}
 use Rattle.audit_model.specs.declared.transcript.Step.{Step}
 use Rattle.cache_commands.specs.Loads.Pending.{number_to_send, when_joined, when_sent}
-use Rattle.cache_commands.specs.Order.{AgreesWith, order_by}
+use Rattle.cache_commands.specs.Order.{order_by}
 use Rattle.cache_commands.specs.Right.{held_when_run, placed_doing, step_saying}
 use Rattle.cache_lines.specs.Drawing.{identifiers_in}
 use Rattle.cache_lines.specs.Ended.{RanReady, RanTasks, ends_held, ends_silent, held_with}
 use Rattle.cache_lines.specs.Gathered.{LineStage, gather, gathered, stage}
-use Rattle.cache_lines.specs.Lines.{IsThere, are_timely, ends_quit, has_its_part, is_timely_after, ready, says_quit, set_in, situation_behind, with_drops}
+use Rattle.cache_lines.specs.Leading.{TasksLead, effect_for}
+use Rattle.cache_lines.specs.Lines.{IsThere, ends_quit, has_its_part, is_timely_after, ready, says_quit, set_in, situation_behind, with_drops}
 use Rattle.cache_lines.specs.Making.{Making}
-use Rattle.cache_lines.specs.Ordered.{HasKeys, HaveKeys}
 use Rattle.cache_lines.specs.Ran.{RanOne}
 use Rattle.cache_lines.specs.Tape.Taped.{Taped}
 use Rattle.cache_lines.specs.Waiting.{waiting_with, with_under_way}
 use Rattle.cache_lines.specs.Whole.{held_line}
 use Rattle.cache_store.specs.Promises.{no_deed}
 use Rattle.audit_model.specs.declared.command.Command.TheVariants as says
-use Rattle.cache_lines.proofs.Drawn.{draws-first, spends-same}
-use Rattle.cache_lines.proofs.LineRuns.{gather-more, timely-ended, stops-quit, after-held, right-in-turn}
-use Rattle.cache_lines.proofs.ReadyEnds.{after-waits, left_waiting, step_waits, stops-waiting, turn-right, waits-draws, waits-left, waits-right}
+use Rattle.cache_lines.proofs.LineRuns.{after-held, gather-more, has-ended, right-in-turn, stops-quit, timely-ended}
+use Rattle.cache_lines.proofs.ReadyEnds.{after-waits, left_waiting, step_waits, stops-waiting, turn-right, waits-draws, waits-left, waits-order, waits-right}
 use Rattle.cache_lines.proofs.Placing.{found-there}
-use Rattle.cache_lines.proofs.Knowing.{due_if}
-use Rattle.cache_lines.proofs.leads.Leading.{cons-parted}
+use Rattle.cache_lines.proofs.leads.Leading.{leads-on, leads-one, leads-to, none-due}
 
 -- a step before others, of which the last one is a `QUIT` or not
 starts-quit : (config : Config) (x : Step) (xs : List Step) (quit : Bool) → (not x.held && says_quit (reading config x.line)) ≡ false → ends_quit config xs ≡ quit → ends_quit config (x ∷ xs) ≡ quit
@@ -80,67 +73,61 @@ module _ (making : Making) (number : ℕ) (base : Situation) (held : List HeldVa
   starts x [] b e h = e ∙ h
   starts x (y ∷ ys) b e h = h
 
-  -- that command runs first, and lines behind it
+  -- that command runs first
+  released-leads : (quit : Bool) (old new : LineStage) → IsThere number base → (one : RanOne making number fed (held_line bytes) quit old new)
+      → TasksLead making fed (tasks_to_feed number true) (released one.reply one.accepted one.told ∷ [])
+      (situation_behind quit (with_drops new.values.frame.dropped base) (held_when_run making.config fed (action_by (reading making.config (held_line bytes))) (step_saying 0 [] one.reply one.accepted one.told)) (ready number (behind_lines 1 bytes ++ piece)))
+      (RunLines number ∷ []) old.values new.values
+  released-leads quit old new there one =
+      let config = making.config in
+      let step = released one.reply one.accepted one.told in
+      let effect = effect_for config fed (Some (RunHeld number)) step in
+      let from = with_drops new.values.frame.dropped base in
+      let left = held_when_run config fed (action_by (reading config (held_line bytes))) (step_saying 0 [] one.reply one.accepted one.told) in
+      let c = ready number (behind_lines 1 bytes ++ piece) in
+      leads-one making fed (situation_behind quit from left c) (RunHeld number) (tasks_to_feed number true) (RunLines number ∷ []) step old.values new.values refl
+      (right-released quit old new there one) (after-released quit old new there one) one.parted (timely-ended config making.made effect quit from left c one.timely) one.draws
+      (λ places order plain agrees.
+      let b = one.ordered places order plain agrees in
+      (b.0, has-ended (order_by (suc places) (reading config (held_line bytes)) order) quit from left c b.1))
+
+  -- and lines behind it
   pub feeds-held : (quit is_held is_silent : Bool) (target : List HeldValue → Situation) (old middle new : LineStage) → IsThere number base
       → (one : RanOne making number fed (held_line bytes) false old middle)
       → RanReady making number (with_drops middle.values.frame.dropped base) (held_when_run making.config fed (action_by (reading making.config (held_line bytes))) (step_saying 0 [] one.reply one.accepted one.told)) (behind_lines 1 bytes ++ piece) quit is_held is_silent target middle new
-      → RanTasks making fed (tasks_to_feed number true) quit is_held is_silent target old new
+      → RanTasks making fed (tasks_to_feed number true) [] quit is_held is_silent target old new
   feeds-held quit is_held is_silent target old middle new there one r =
-      let config = making.config in
       let step = released one.reply one.accepted one.told in
-      let effect = effect_in config (view_in config fed) (action_by (reading config (held_line bytes))) step in
-      let right = right-released false old middle there one in
-      let after = after-released false old middle there one in
+      let left = held_when_run making.config fed (action_by (reading making.config (held_line bytes))) (step_saying 0 [] one.reply one.accepted one.told) in
+      let mid = set_in (with_drops middle.values.frame.dropped base) left (ready number (behind_lines 1 bytes ++ piece)) in
       record {
         steps = step ∷ r.steps;
         left = r.left;
         stands = r.stands;
-        after =
-            ap (λ b. if b then after_steps config (after_step config fed (Some (RunHeld number)) step effect) (RunLines number ∷ []) r.steps else None) right
-            ∙ ap (λ x. after_steps config x (RunLines number ∷ []) r.steps) after ∙ r.after;
-        parted = cons-parted making.part_of effect.value _ one.parted (ap (λ x. list_all (is_parted making.part_of) (accepted_values (placed_steps_in config x (RunLines number ∷ []) r.steps))) after ∙ r.parted);
-        timely = and_from _ _ (ap (is_timely_after config making.made effect) after ∙ timely-ended config making.made effect false (with_drops middle.values.frame.dropped base) _ (ready number (behind_lines 1 bytes ++ piece)) one.timely) (ap (λ x. are_timely config making.made x (RunLines number ∷ []) r.steps) after ∙ r.timely);
+        leads = leads-on making fed mid (target r.left) (tasks_to_feed number true) (RunLines number ∷ []) [] (step ∷ []) r.steps old.values middle.values new.values (released-leads false old middle there one) r.leads;
         ends = starts step r.steps is_held refl r.ends;
-        quits = starts-quit config step r.steps quit one.says r.quits;
+        quits = starts-quit making.config step r.steps quit one.says r.quits;
         silent = starts-silent step r.steps is_silent refl r.silent;
-        draws = draws-first config step r.steps (identifiers_in old.values) (identifiers_in middle.values) (identifiers_in new.values) one.draws r.draws;
-        ordered = λ places order plain agrees.
-            let b = one.ordered places order plain agrees in
-            let next = order_by (suc places) (reading config (held_line bytes)) order in
-            let a = r.ordered places next plain b.0 in
-            (a.0, (subst (λ (x : Situation). HasKeys next x.held) (sym after) b.1, subst (λ x. HaveKeys config (suc places) next x (RunLines number ∷ []) r.steps) (sym after) a.1));
         gathered_is = r.gathered_is ∙ ap (λ g. gather g r.steps) one.gathered_is ∙ gather-more (gathered old) (step ∷ []) r.steps;
       }
 
   -- it is a `QUIT`, and nothing runs behind it
   pub feeds-quit : (rest : List ℕ) (old new : LineStage) → IsThere number base → RanOne making number fed (held_line bytes) true old new
-      → RanTasks making fed (tasks_to_feed number true) true false false (λ left. situation_behind true (with_drops new.values.frame.dropped base) left (ready number rest)) old new
+      → RanTasks making fed (tasks_to_feed number true) [] true false false (λ left. situation_behind true (with_drops new.values.frame.dropped base) left (ready number rest)) old new
   feeds-quit rest old new there one =
-      let config = making.config in
       let step = released one.reply one.accepted one.told in
-      let effect = effect_in config (view_in config fed) (action_by (reading config (held_line bytes))) step in
-      let left = held_when_run config fed (action_by (reading config (held_line bytes))) (step_saying 0 [] one.reply one.accepted one.told) in
-      let after = after-released true old new there one in
+      let left = held_when_run making.config fed (action_by (reading making.config (held_line bytes))) (step_saying 0 [] one.reply one.accepted one.told) in
       let from = with_drops new.values.frame.dropped base in
-      let last = situation_behind true from left (ready number (behind_lines 1 bytes ++ piece)) in
+      let c = ready number (behind_lines 1 bytes ++ piece) in
+      let last = situation_behind true from left c in
       record {
         steps = step ∷ [];
         left = left;
         stands = one.left;
-        after =
-            ap (λ b. if b then after_steps config (after_step config fed (Some (RunHeld number)) step effect) (RunLines number ∷ []) [] else None) (right-released true old new there one)
-            ∙ ap (λ x. after_steps config x (RunLines number ∷ []) []) after
-            ∙ ap (λ b. if is_empty (due_if b number) then Some last else None) (stops-quit from left number (ready number (behind_lines 1 bytes ++ piece)) refl);
-        parted = cons-parted making.part_of effect.value [] one.parted refl;
-        timely = and_from _ _ (ap (is_timely_after config making.made effect) after ∙ timely-ended config making.made effect true from left (ready number (behind_lines 1 bytes ++ piece)) one.timely) refl;
+        leads = leads-to making fed last (tasks_to_feed number true) (RunLines number ∷ []) [] (step ∷ []) old.values new.values (none-due last number [] (stops-quit from left number c refl)) (released-leads true old new there one);
         ends = refl;
         quits = one.says;
         silent = refl;
-        draws = draws-first config step [] (identifiers_in old.values) (identifiers_in new.values) (identifiers_in new.values) one.draws (spends-same (identifiers_in new.values));
-        ordered = λ places order plain agrees.
-            let b = one.ordered places order plain agrees in
-            let next = order_by (suc places) (reading config (held_line bytes)) order in
-            (b.0, (subst (λ (x : Situation). HasKeys next x.held) (sym after) b.1, tt));
         gathered_is = one.gathered_is;
       }
 
@@ -148,7 +135,7 @@ module _ (making : Making) (number : ℕ) (base : Situation) (held : List HeldVa
   pub feeds-waits : (key : List ℕ) (load : Option ℕ) (old : LineStage) (text : List ℕ) (tape : Option Taped) → IsThere number base → reading making.config (held_line bytes) ≡ Ok (says.Load key)
       → load ≡ number_to_send key base.sent base.pending → live_at making.config base.latest held key ≡ None → old.values.Stands (all_held_after making.config base.latest held no_deed [])
       → gathered (stage old.values text tape) ≡ gather (gathered old) (step_waits number (held_line bytes) load ∷ [])
-      → RanTasks making fed (tasks_to_feed number true) false false true
+      → RanTasks making fed (tasks_to_feed number true) [] false false true
       (λ left. set_in (with_under_way (record { sent = when_sent load base.sent; pending = when_joined number key load base.pending }) base) left (waiting_with number (held_line bytes) (behind_lines 1 bytes ++ piece) (1 + times))) old (stage old.values text tape)
   feeds-waits key load old text tape there reads is none stands gathers =
       let config = making.config in
@@ -158,32 +145,22 @@ module _ (making : Making) (number : ℕ) (base : Situation) (held : List HeldVa
       let step = step_waits number line load in
       let left = left_waiting config base held key in
       let joined = with_under_way (record { sent = when_sent load base.sent; pending = when_joined number key load base.pending }) base in
-      let right = turn-right config base held number c (RunHeld number) line (Running (says.Load key)) step there refl refl (ap action_by reads) (eq-eqb number number refl) (waits-right config base held number c key load refl is none) in
-      let after : after_step config fed (Some (RunHeld number)) step (effect_in config (view_in config fed) (action_by (reading config line)) step) ≡ set_in joined left (waiting_with number line behind (1 + times)) =
-      ap (λ r. after_step config fed (Some (RunHeld number)) step (effect_in config (view_in config fed) (action_by r) step)) reads
-      ∙ after-waits config base held left number c (waiting_with number line behind (1 + times)) (RunHeld number) key line load
-      (effect_in config (view_in config fed) (Running (says.Load key)) step) there refl is refl refl in
       let last = set_in joined left (waiting_with number line behind (1 + times)) in
-      let placed = placed_step_in config fed (Some (RunHeld number)) step in
       record {
         steps = step ∷ [];
         left = left;
         stands = waits-left config base held key old.values.Stands none stands;
-        after =
-            ap (λ b. if b then after_steps config (after_step config fed (Some (RunHeld number)) step placed.effect) (RunLines number ∷ []) [] else None) right
-            ∙ ap (λ x. after_steps config x (RunLines number ∷ []) []) after
-            ∙ ap (λ b. if is_empty (due_if b number) then Some last else None) (stops-waiting joined left number line behind (1 + times) there);
-        parted = cons-parted making.part_of placed.effect.value [] (ap (λ r. has_its_part making.part_of (effect_in config (view_in config fed) (action_by r) step)) reads) refl;
-        timely =
-            and_from _ _
-            (ap (λ r. is_timely_after config making.made (effect_in config (view_in config fed) (action_by r) step) (after_step config fed (Some (RunHeld number)) step (effect_in config (view_in config fed) (action_by r) step))) reads) refl;
+        leads = leads-to making fed last (tasks_to_feed number true) (RunLines number ∷ []) [] (step ∷ []) old.values old.values (none-due last number [] (stops-waiting joined left number line behind (1 + times) there))
+            (leads-one making fed last (RunHeld number) (tasks_to_feed number true) (RunLines number ∷ []) step old.values old.values refl
+            (turn-right config base held number c (RunHeld number) line (Running (says.Load key)) step there refl refl (ap action_by reads) (eq-eqb number number refl) (waits-right config base held number c key load refl is none))
+            (ap (λ r. after_step config fed (Some (RunHeld number)) step (effect_in config (view_in config fed) (action_by r) step)) reads
+            ∙ after-waits config base held left number c (waiting_with number line behind (1 + times)) (RunHeld number) key line load
+            (effect_in config (view_in config fed) (Running (says.Load key)) step) there refl is refl refl)
+            (ap (λ r. has_its_part making.part_of (effect_in config (view_in config fed) (action_by r) step)) reads)
+            (ap (λ r. is_timely_after config making.made (effect_in config (view_in config fed) (action_by r) step) last) reads)
+            (waits-draws config number line load (identifiers_in old.values)) (waits-order config old.values.Used number line key load last.held reads));
         ends = refl;
         quits = ap says_quit reads;
         silent = refl;
-        draws = draws-first config step [] (identifiers_in old.values) (identifiers_in old.values) (identifiers_in old.values) (waits-draws config number line load (identifiers_in old.values)) (spends-same (identifiers_in old.values));
-        ordered = λ places order plain agrees. (
-          subst (λ r. AgreesWith old.values.Used places (order_by (suc places) r order)) (sym reads) tt,
-          (subst (λ r. HasKeys (order_by (suc places) r order) (after_step config fed (Some (RunHeld number)) step placed.effect).held) (sym reads) tt, tt),
-        );
         gathered_is = gathers;
       }

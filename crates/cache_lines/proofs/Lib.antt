@@ -2,7 +2,6 @@ mod AnsweredLine
 pub mod Drawn
 pub mod Gathering
 pub mod HeldFeeds
-pub mod Knowing
 pub mod LineRuns
 mod NotesTaken
 pub mod Placing

@@ -1,49 +1,44 @@
 -- One line of a connection runs.
 use Rattle.std.proofs.Common.{arith, refl, ap, ◌∙◌, ◌≡◌, ℕ, Bool, true, false, ◌||◌, List, [], Option, Some, if◌then◌else◌, drop, sym, subst, append_assoc, suc, ◌+◌, not, ◌&&◌, ◌∷◌, ◌++◌, take, None, is_none, is_some, ◌==◌, map, unwrap_or}
 use Rattle.std.proofs.Math.Bool.{or-false}
-use Rattle.std.proofs.lemmas.Bool.{and_from, eq-eqb, and_parts}
+use Rattle.std.proofs.lemmas.Bool.{and_from, eq-eqb}
 use Rattle.std.proofs.lemmas.Grind.{flat_map-append}
 use Rattle.std.proofs.lemmas.List.{append-nil}
-use Rattle.std.proofs.lemmas.List.Folds.{list_all-append}
-use Rattle.std.specs.List.{flat_map, list_all, find, cons_option}
+use Rattle.std.specs.List.{flat_map, list_all, find}
 use Rattle.std.specs.Option.{option_map_or}
-use Rattle.audit_model.specs.Bytewise.{is_empty}
 use Rattle.audit_model.specs.Changes.{after_step, join_load, connection_after, all_held_after}
 use Rattle.audit_model.specs.Commands.{drops, quits, syncs}
-use Rattle.audit_model.specs.Follows.{line_in, placed_step_in, after_steps}
+use Rattle.audit_model.specs.Follows.{line_in, placed_step_in}
 use Rattle.audit_model.specs.Grammar.{reading}
 use Rattle.audit_model.specs.History.{Effect, Holding}
-use Rattle.audit_model.specs.Obeys.{accepted_values}
-use Rattle.audit_model.specs.Places.{first_due, left_after}
 use Rattle.audit_model.specs.Situation.{Situation, Connection, HeldValue, Ready, Held, view_in, connection_in, with_connection, is_overlong, is_ready, may_run_in, without_number, candidate_at}
-use Rattle.audit_model.specs.Steps.{Task, RunLines, RunHeld, action_by, effect_in, is_right, is_in_turn, is_held_rightly}
+use Rattle.audit_model.specs.Steps.{Task, RunLines, RunHeld, action_by, effect_in, is_right, is_in_turn, is_held_rightly, is_task_of, may_hold}
 use Rattle.audit_model.specs.Stream.{behind_lines, first_line, without_return}
 use Rattle.audit_model.specs.declared.config.Config.{Config}
 use Rattle.audit_model.specs.declared.transcript.Accepted.{Accepted}
 use Rattle.audit_model.specs.declared.transcript.Note.{Note}
 use Rattle.audit_model.specs.declared.transcript.Step.{Step}
-use Rattle.audit_laws.specs.Leading.{is_parted}
-use Rattle.audit_laws.specs.Placing.{placed_steps_in}
 use Rattle.audit_lines.proofs.Lines.{IsLine-first_line, IsLine-behind_lines, IsLine-not_long, IsPartial-first_line, IsPartial-not_long}
 use Rattle.audit_lines.specs.Next.{IsLine, IsPartial}
 use Rattle.cache_store.specs.Promises.{Frame, no_deed}
+use Rattle.cache_store.specs.Recency.{IsPlainLru}
 use Rattle.cache_store.specs.Running.{is_timely}
 use Rattle.cache_store.specs.Values.{Values}
 use Rattle.cache_commands.proofs.Answering.{same-refl, none_succeeded}
 use Rattle.cache_commands.specs.Answered.{Agrees}
-use Rattle.cache_commands.specs.Order.{AgreesWith, order_by}
+use Rattle.cache_commands.specs.Order.{AgreesWith, Order, order_by}
 use Rattle.cache_commands.specs.Right.{DoesRight, step_saying, placed_doing, held_when_run, KeepsFrame}
-use Rattle.cache_lines.proofs.Drawn.{draws-more, spends-same, held-draws}
-use Rattle.cache_lines.proofs.Knowing.{has-ended, order-behind-more, runs-keys-more, keys-in-turn, due_if}
+use Rattle.cache_lines.proofs.Drawn.{held-draws}
 use Rattle.cache_lines.proofs.Placing.{found-there, ended-again, numbered}
-use Rattle.cache_lines.proofs.leads.Leading.{cons-parted}
-use Rattle.cache_lines.specs.Drawing.{identifiers_in}
-use Rattle.cache_lines.specs.Ended.{ends_silent, RanReady, ends_held, line_in_front}
+use Rattle.cache_lines.proofs.leads.Leading.{leads-nothing, leads-on, leads-one, leads-to, none-due}
+use Rattle.cache_lines.specs.Drawing.{StepDraws, identifiers_in}
+use Rattle.cache_lines.specs.Ended.{RanReady, RanTasks, ends_held, ends_silent, line_in_front}
 use Rattle.cache_lines.specs.Gathered.{Gathered, HasNothingOutside, LineStage, gather, gathered, reply_in, stage}
-use Rattle.cache_lines.specs.Lines.{TouchesOnlyValues, IsThere, situation_behind, set_in, with_drops, RunsLines, ends_quit, has_its_part, is_timely_after, effect_of_step, ready, says_quit, ArePartedIn, are_timely, holding}
+use Rattle.cache_lines.specs.Leading.{TasksLead, effect_for}
+use Rattle.cache_lines.specs.Lines.{TouchesOnlyValues, IsThere, situation_behind, set_in, with_drops, ends_quit, has_its_part, is_timely_after, ready, says_quit, holding}
 use Rattle.cache_lines.specs.Making.{Making, making_of}
-use Rattle.cache_lines.specs.Ordered.{HasKeys, order_behind}
-use Rattle.cache_lines.specs.Ran.{RanOne, RanLines, RanLine}
+use Rattle.cache_lines.specs.Ordered.{HasKeys, order_behind_step}
+use Rattle.cache_lines.specs.Ran.{RanOne, RanLine}
 use Rattle.cache_lines.specs.Tape.Taped.{Taped, step_held}
 use Rattle.cache_lines.specs.Whole.{held_line}
 
@@ -141,20 +136,10 @@ fresh-gather g steps fresh = go g.kept fresh
 
 -- ---- runs of lines
 
-pub runs-more : (making : Making) (number : ℕ) (steps : List Step) (s t : Situation) (step : Step) (u : Situation)
-    → RunsLines making number s steps t → may_run_in t number ≡ true → is_right making.config (placed_step_in making.config t (Some (RunLines number)) step) ≡ true
-    → has_its_part making.part_of (effect_of_step making.config number t step) ≡ true
-    → is_timely_after making.config making.made (effect_of_step making.config number t step) (after_step making.config t (Some (RunLines number)) step (effect_of_step making.config number t step)) ≡ true
-    → after_step making.config t (Some (RunLines number)) step (effect_of_step making.config number t step) ≡ u
-    → RunsLines making number s (steps ++ step ∷ []) u
-runs-more making number [] s t step u runs may right parted timely after = (
-  subst (λ x. may_run_in x number ≡ true) runs may,
-  subst (λ x. is_right making.config (placed_step_in making.config x (Some (RunLines number)) step) ≡ true) runs right,
-  subst (λ x. has_its_part making.part_of (effect_of_step making.config number x step) ≡ true) runs parted,
-  subst (λ x. is_timely_after making.config making.made (effect_of_step making.config number x step) (after_step making.config x (Some (RunLines number)) step (effect_of_step making.config number x step)) ≡ true) runs timely,
-  sym after ∙ ap (λ x. after_step making.config x (Some (RunLines number)) step (effect_of_step making.config number x step)) runs,
-)
-runs-more making number (x ∷ xs) s t step u runs may right parted timely after = (runs.0, runs.1, runs.2, runs.3, runs-more making number xs _ t step u runs.4 may right parted timely after)
+-- what is known of the keys held, as it now is, or closed by a `QUIT`
+pub has-ended : (order : Order) (quit : Bool) (base : Situation) (left : List HeldValue) (c : Connection) → HasKeys order left → HasKeys order (situation_behind quit base left c).held
+has-ended order true base left c h = h
+has-ended order false base left c h = h
 
 -- what a step leaves is timely, as it now is or closed by a `QUIT`
 pub timely-ended : (config : Config) (made : ℕ) (effect : Effect) (quit : Bool) (base : Situation) (left : List HeldValue) (c : Connection) → (not (syncs effect) || list_all (is_timely config made base.latest) left) ≡ true
@@ -173,11 +158,10 @@ silent-more [] step = refl
 silent-more (x ∷ []) step = refl
 silent-more (x ∷ y ∷ xs) step = silent-more (y ∷ xs) step
 
--- steps that all have their replies
-pub silent-none : (steps : List Step) → list_all (λ step. is_some step.reply) steps ≡ true → ends_silent steps ≡ false
-silent-none [] all = refl
-silent-none (step ∷ []) all = grind arith
-silent-none (step ∷ next ∷ steps) all = silent-none (next ∷ steps) (and_parts (is_some step.reply) (list_all (λ (x : Step). is_some x.reply) (next ∷ steps)) all).1
+pub ends-more : (steps : List Step) (step : Step) → ends_held (steps ++ step ∷ []) ≡ step.held
+ends-more [] step = refl
+ends-more (x ∷ []) step = refl
+ends-more (x ∷ y ∷ xs) step = ends-more (y ∷ xs) step
 
 -- a connection with a whole line is not closed for a long one
 pub line-fits : (number : ℕ) (bytes : List ℕ) (n : ℕ) → IsLine bytes n → is_overlong (ready number bytes) ≡ false
@@ -197,8 +181,73 @@ line-due base held number bytes line n there at said =
     ap (line_in (Some (RunLines number))) (found-there base held number (ready number bytes) there (line-fits number bytes n at))
     ∙ IsLine-first_line bytes n at ∙ ap Some (sym said)
 
-all-more : (p : Step → Bool) (xs : List Step) (x : Step) → list_all p xs ≡ true → p x ≡ true → list_all p (xs ++ x ∷ []) ≡ true
-all-more p xs x all one = list_all-append p xs (x ∷ []) ∙ and_from (list_all p xs) (p x && true) all (and_from (p x) true one refl)
+-- ---- the tasks of lines
+
+-- a line may run, and lines stay due
+pub line-one : (making : Making) (s t : Situation) (number : ℕ) (step : Step) (a b : Values) → may_run_in s number ≡ true
+    → is_right making.config (placed_step_in making.config s (Some (RunLines number)) step) ≡ true → after_step making.config s (Some (RunLines number)) step (effect_for making.config s (Some (RunLines number)) step) ≡ t
+    → has_its_part making.part_of (effect_for making.config s (Some (RunLines number)) step) ≡ true → is_timely_after making.config making.made (effect_for making.config s (Some (RunLines number)) step) t ≡ true
+    → StepDraws making.config step (identifiers_in a) (identifiers_in b)
+    → ((places : ℕ) (order : Order) → IsPlainLru making.config places → AgreesWith a.Used places order
+    → AgreesWith b.Used places (order_behind_step making.config (suc places) order step) × HasKeys (order_behind_step making.config (suc places) order step) t.held)
+    → TasksLead making s (RunLines number ∷ []) (step ∷ []) t (RunLines number ∷ []) a b
+line-one making s t number step a b may right after parted timely draws keys =
+    leads-one making s t (RunLines number) (RunLines number ∷ []) [] step a b (ap (λ b. if b then RunLines number ∷ [] else []) may) right after parted timely draws keys
+
+-- a line that was answered
+pub line-leads : (making : Making) (number : ℕ) (base : Situation) (held : List HeldValue) (bytes line : List ℕ) (n : ℕ) (quit : Bool) (old new : LineStage)
+    → IsThere number base → IsLine bytes n → line ≡ without_return (take n bytes) → (one : RanOne making number (set_in base held (ready number bytes)) line quit old new)
+    → TasksLead making (set_in base held (ready number bytes)) (RunLines number ∷ []) (step_saying number line one.reply one.accepted one.told ∷ [])
+    (situation_behind quit (with_drops new.values.frame.dropped base) (held_when_run making.config (set_in base held (ready number bytes)) (action_by (reading making.config line)) (step_saying number line one.reply one.accepted one.told)) (ready number (behind_lines 1 bytes)))
+    (RunLines number ∷ []) old.values new.values
+line-leads making number base held bytes line n quit old new there at said one =
+    let config = making.config in
+    let s = set_in base held (ready number bytes) in
+    let step = step_saying number line one.reply one.accepted one.told in
+    let action = action_by (reading config line) in
+    let effect = effect_for config s (Some (RunLines number)) step in
+    let from = with_drops new.values.frame.dropped base in
+    let left = held_when_run config s action step in
+    let rest = ready number (behind_lines 1 bytes) in
+    line-one making s (situation_behind quit from left rest) number step old.values new.values (may-run base held number bytes n there at)
+    (subst (λ due. is_right config (placed_doing config s (Some (RunLines number)) due action step) ≡ true) (sym (line-due base held number bytes line n there at said))
+    (right-in-turn config s (RunLines number) number line one.reply one.accepted one.told one.right (eq-eqb number number refl)))
+    (after-line config base held number (ready number bytes) line one.reply one.accepted one.told quit there (line-fits number bytes n at) one.plain
+    ∙ ap (λ b. situation_behind quit (with_drops b base) left rest) (sym one.dropped_is))
+    one.parted (timely-ended config making.made effect quit from left rest one.timely) one.draws
+    (λ places order plain agrees.
+    let b = one.ordered places order plain agrees in
+    (b.0, has-ended (order_by (suc places) (reading config line) order) quit from left rest b.1))
+
+-- ---- one step more
+
+-- the same steps lead to a situation and tasks that can be said otherwise
+pub ran-to : (making : Making) (s : Situation) (tasks behind last : List Task) (quit is_held is_silent : Bool) (target next : List HeldValue → Situation) (old new : LineStage)
+    → (r : RanTasks making s tasks behind quit is_held is_silent target old new) → TasksLead making s tasks r.steps (next r.left) last old.values new.values → RanTasks making s tasks last quit is_held is_silent next old new
+ran-to making s tasks behind last quit is_held is_silent target next old new r leads =
+    record { steps = r.steps; left = r.left; stands = r.stands; leads = leads; ends = r.ends; quits = r.quits; silent = r.silent; gathered_is = r.gathered_is }
+
+-- a step behind those that are no last ones
+pub ran-then : (making : Making) (s : Situation) (tasks between behind : List Task) (quit : Bool) (target next : List HeldValue → Situation) (old middle new : LineStage) (step : Step) (left : List HeldValue)
+    → (r : RanTasks making s tasks between false false false target old middle) → (not step.held && says_quit (reading making.config step.line)) ≡ quit → new.values.Stands left
+    → TasksLead making (target r.left) between (step ∷ []) (next left) behind middle.values new.values → gathered new ≡ gather (gathered middle) (step ∷ [])
+    → RanTasks making s tasks behind quit step.held (is_none step.reply && not step.held) next old new
+ran-then making s tasks between behind quit target next old middle new step left r says stands leads gathers = record {
+  steps = r.steps ++ step ∷ [];
+  left = left;
+  stands = stands;
+  leads = leads-on making s (target r.left) (next left) tasks between behind r.steps (step ∷ []) old.values middle.values new.values r.leads leads;
+  ends = ends-more r.steps step;
+  quits = ends-quit-more making.config r.steps step quit says;
+  silent = silent-more r.steps step;
+  gathered_is = gathers ∙ ap (λ g. gather g (step ∷ [])) r.gathered_is ∙ gather-more (gathered old) r.steps (step ∷ []);
+}
+
+-- From this situation, with these values held and these bytes unread, lines of the connection ran until those bytes were left, or the last
+-- one was a `QUIT`, and what they left is the result.
+abbrev pub RanLines : (making : Making) (number : ℕ) (base : Situation) (held : List HeldValue) (bytes : List ℕ) (quit : Bool) (rest : List ℕ) (old new : LineStage) → Type 0
+RanLines making number base held bytes quit rest old new =
+    RanTasks making (set_in base held (ready number bytes)) (RunLines number ∷ []) (RunLines number ∷ []) quit false false (λ left. situation_behind quit (with_drops new.values.frame.dropped base) left (ready number rest)) old new
 
 -- one more line ran
 pub ran-more : (making : Making) (number : ℕ) (base : Situation) (held : List HeldValue) (bytes mid rest line : List ℕ) (n : ℕ) (quit : Bool) (old middle new : LineStage)
@@ -206,41 +255,14 @@ pub ran-more : (making : Making) (number : ℕ) (base : Situation) (held : List 
     → RanOne making number (set_in (with_drops middle.values.frame.dropped base) r.left (ready number mid)) line quit middle new
     → RanLines making number base held bytes quit rest old new
 ran-more making number base held bytes mid rest line n quit old middle new there r at said skips one =
-    let config = making.config in
     let from = with_drops middle.values.frame.dropped base in
     let s = set_in from r.left (ready number mid) in
     let step = step_saying number line one.reply one.accepted one.told in
-    let action = action_by (reading config line) in
-    let right : is_right config (placed_step_in config s (Some (RunLines number)) step) ≡ true =
-    subst (λ due. is_right config (placed_doing config s (Some (RunLines number)) due action step) ≡ true) (sym (line-due from r.left number mid line n there at said))
-    (right-in-turn config s (RunLines number) number line one.reply one.accepted one.told one.right (eq-eqb number number refl)) in
-    let effect = effect_of_step config number s step in
-    let after = after-line config from r.left number (ready number mid) line one.reply one.accepted one.told quit there (line-fits number mid n at) one.plain in
-    record {
-      steps = r.steps ++ step ∷ [];
-      left = held_when_run config s action step;
-      stands = one.left;
-      runs =
-          runs-more making number r.steps _ s step _ r.runs (may-run from r.left number mid n there at) right one.parted
-          (ap (is_timely_after config making.made effect) after ∙ timely-ended config making.made effect quit (with_drops (from.dropped || drops effect) from) (held_when_run config s action step) (ready number (behind_lines 1 mid)) one.timely)
-          (after
-          ∙ ap (λ b. situation_behind quit (with_drops b base) (held_when_run config s action step) (ready number (behind_lines 1 mid))) (sym one.dropped_is)
-          ∙ ended-rest quit (λ e. IsLine-behind_lines mid n at ∙ sym (skips e)) (held_when_run config s action step));
-      none_held = all-more (λ (x : Step). not x.held) r.steps step r.none_held refl;
-      replied = all-more (λ (x : Step). is_some x.reply) r.steps step r.replied refl;
-      quits = ends-quit-more config r.steps step quit one.says;
-      draws = draws-more config r.steps step (identifiers_in old.values) (identifiers_in middle.values) (identifiers_in new.values) r.draws one.draws;
-      ordered = λ places order plain agrees.
-          let a = r.ordered places order plain agrees in
-          let before = order_behind config (suc places) order r.steps in
-          let b = one.ordered places before plain a.0 in
-          let next = order_by (suc places) (reading config line) before in (
-            subst (AgreesWith new.values.Used places) (sym (order-behind-more config (suc places) order r.steps step)) b.0,
-            runs-keys-more making number (suc places) order r.steps _ s step r.runs a.1
-                (subst (λ (x : Situation). HasKeys next x.held) (sym after) (has-ended next quit (with_drops (from.dropped || drops effect) from) (held_when_run config s action step) (ready number (behind_lines 1 mid)) b.1)),
-          );
-      gathered_is = one.gathered_is ∙ ap (λ g. gather g (step ∷ [])) r.gathered_is ∙ gather-more (gathered old) r.steps (step ∷ []);
-    }
+    let left = held_when_run making.config s (action_by (reading making.config line)) step in
+    let lines : List Task = RunLines number ∷ [] in
+    ran-then making (set_in base held (ready number bytes)) lines lines lines quit _ _ old middle new step left r one.says one.left
+    (subst (λ t. TasksLead making s lines (step ∷ []) t lines middle.values new.values) (ended-rest quit (λ e. IsLine-behind_lines mid n at ∙ sym (skips e)) left) (line-leads making number from r.left mid line n quit middle new there at said one))
+    one.gathered_is
   where
     ended-rest : (quit : Bool) → (quit ≡ false → behind_lines 1 mid ≡ rest) → (left : List HeldValue)
         → situation_behind quit (with_drops new.values.frame.dropped base) left (ready number (behind_lines 1 mid)) ≡ situation_behind quit (with_drops new.values.frame.dropped base) left (ready number rest)
@@ -251,7 +273,18 @@ ran-more making number base held bytes mid rest line n quit old middle new there
 pub ran-none : (making : Making) (number : ℕ) (base : Situation) (held : List HeldValue) (bytes : List ℕ) (old : LineStage)
     → old.values.Stands held → base.dropped ≡ old.values.frame.dropped → RanLines making number base held bytes false bytes old old
 ran-none making number base held bytes old m same =
-    record { steps = []; left = held; stands = m; runs = ap (λ b. set_in (with_drops b base) held (ready number bytes)) (sym same); none_held = refl; replied = refl; quits = refl; draws = spends-same (identifiers_in old.values); ordered = λ places order plain agrees. (agrees, tt); gathered_is = sym (gather-none (gathered old)) }
+    let s = set_in base held (ready number bytes) in
+    let lines : List Task = RunLines number ∷ [] in
+    record {
+      steps = [];
+      left = held;
+      stands = m;
+      leads = subst (λ b. TasksLead making s lines [] (set_in (with_drops b base) held (ready number bytes)) lines old.values old.values) same (leads-nothing making s lines old.values);
+      ends = refl;
+      quits = refl;
+      silent = refl;
+      gathered_is = sym (gather-none (gathered old));
+    }
 
 -- a line that was refused changed nothing but what room there is
 pub ran-kept : (making : Making) (number : ℕ) (base : Situation) (held : List HeldValue) (bytes rest : List ℕ) (quit : Bool) (old : LineStage) (values : Values) (middle_text new_text : List ℕ) (middle_tape new_tape : Option Taped)
@@ -259,7 +292,7 @@ pub ran-kept : (making : Making) (number : ℕ) (base : Situation) (held : List 
     → gathered (stage values new_text new_tape) ≡ gathered (stage values middle_text middle_tape)
     → RanLines making number base held bytes quit rest old (stage values new_text new_tape)
 ran-kept making number base held bytes rest quit old values middle_text new_text middle_tape new_tape r same =
-    record { steps = r.steps; left = r.left; stands = r.stands; runs = r.runs; none_held = r.none_held; replied = r.replied; quits = r.quits; draws = r.draws; ordered = r.ordered; gathered_is = same ∙ r.gathered_is }
+    record { steps = r.steps; left = r.left; stands = r.stands; leads = r.leads; ends = r.ends; quits = r.quits; silent = r.silent; gathered_is = same ∙ r.gathered_is }
 
 -- Lines run one after another until they stop.
 
@@ -283,33 +316,6 @@ line-next now number bytes used n quit rest old middle new frame ran at line ski
     (subst (λ (m : Making). RanOne m number t (line_in_front mid n) quit middle new) (ap making_of frame.rest) (line.ran t (record { at = agrees.at; dropped = refl; stands = r.stands })))
 
 -- Lines of a connection that is ready, to their end.
-
--- lines that ran until none may
-pub runs-end : (making : Making) (number : ℕ) (steps : List Step) (s t : Situation) → RunsLines making number s steps t → may_run_in t number ≡ false
-    → after_steps making.config s (RunLines number ∷ []) steps ≡ Some t
-runs-end making number [] s t runs stops =
-    ap (λ b. if is_empty (due_if b number) then Some s else None) (subst (λ x. may_run_in x number ≡ false) runs stops) ∙ ap Some (sym runs)
-runs-end making number (step ∷ steps) s t runs stops =
-    ap (λ b. let now_due = due_if b number in let placed = placed_step_in making.config s (first_due now_due) step in
-    if is_right making.config placed then after_steps making.config (after_step making.config s placed.task step placed.effect) (left_after now_due) steps else None) runs.0
-    ∙ ap (λ b. if b then after_steps making.config (after_step making.config s (Some (RunLines number)) step (effect_of_step making.config number s step)) (RunLines number ∷ []) steps else None) runs.1
-    ∙ runs-end making number steps _ t runs.4 stops
-
--- the values that such lines accept stand in their parts
-pub runs-parted : (making : Making) (number : ℕ) (steps : List Step) (s t : Situation) → RunsLines making number s steps t → ArePartedIn making.config making.part_of s (RunLines number ∷ []) steps
-runs-parted making number [] s t runs = refl
-runs-parted making number (step ∷ steps) s t runs =
-    ap (λ b. let now_due = due_if b number in let placed = placed_step_in making.config s (first_due now_due) step in
-    list_all (is_parted making.part_of) (cons_option placed.effect.value (accepted_values (placed_steps_in making.config (after_step making.config s placed.task step placed.effect) (left_after now_due) steps)))) runs.0
-    ∙ cons-parted making.part_of (effect_of_step making.config number s step).value _ runs.2 (runs-parted making number steps _ t runs.4)
-
--- and each `SYNC` among them leaves timely values
-pub runs-timely : (making : Making) (number : ℕ) (steps : List Step) (s t : Situation) → RunsLines making number s steps t → are_timely making.config making.made s (RunLines number ∷ []) steps ≡ true
-runs-timely making number [] s t runs = refl
-runs-timely making number (step ∷ steps) s t runs =
-    ap (λ b. let now_due = due_if b number in let placed = placed_step_in making.config s (first_due now_due) step in let u = after_step making.config s placed.task step placed.effect in
-    is_timely_after making.config making.made placed.effect u && are_timely making.config making.made u (left_after now_due) steps) runs.0
-    ∙ and_from _ _ runs.3 (runs-timely making number steps _ t runs.4)
 
 -- ---- where lines stop
 
@@ -339,44 +345,34 @@ stops-quit base left number c is =
 
 -- ---- a command held back
 
-right-held : (config : Config) (s : Situation) (number : ℕ) (line : List ℕ)
-    → is_right config (placed_doing config s (Some (RunLines number)) (Some line) Holding (step_held number line)) ≡ true
-right-held config s number line =
-    let placed = placed_doing config s (Some (RunLines number)) (Some line) Holding (step_held number line) in
-    and_from _ true (and_from _ true (and_from _ _ (and_from _ true (and_from _ true (and_from _ true (and_from _ _ (and_from (is_in_turn placed) true (eq-eqb number number refl) refl) (same-refl line)) refl) refl) refl)
+-- the step that holds a line back is right, for lines and for a `LOAD` that runs again
+pub right-held : (config : Config) (s : Situation) (task : Task) (number : ℕ) (line : List ℕ) → is_task_of number (Some task) ≡ true → may_hold (Some task) Holding ≡ true
+    → is_right config (placed_doing config s (Some task) (Some line) Holding (step_held number line)) ≡ true
+right-held config s task number line turn may =
+    let placed = placed_doing config s (Some task) (Some line) Holding (step_held number line) in
+    and_from _ true (and_from _ true (and_from _ _ (and_from _ true (and_from _ true (and_from _ true (and_from _ _ (and_from (is_in_turn placed) (is_held_rightly placed) turn may) (same-refl line)) refl) refl) refl)
     (none_succeeded (map (candidate_at config s.latest) s.held ++ []))) refl) refl
 
 -- a line of those that may run is held back
-pub runs-held : (making : Making) (base : Situation) (number : ℕ) (s : Situation) (steps : List Step) (left : List HeldValue) (rest line : List ℕ) (n : ℕ)
+pub held-leads : (making : Making) (base : Situation) (number : ℕ) (left : List HeldValue) (rest line : List ℕ) (n : ℕ) (v : Values)
     → IsThere number base → IsLine rest n → line ≡ without_return (take n rest)
-    → RunsLines making number s steps (set_in base left (ready number rest))
-    → RunsLines making number s (steps ++ step_held number line ∷ []) (set_in base (all_held_after making.config base.latest left no_deed []) (holding number line (behind_lines 1 rest)))
-runs-held making base number s steps left rest line n there at said runs =
+    → TasksLead making (set_in base left (ready number rest)) (RunLines number ∷ []) (step_held number line ∷ [])
+    (set_in base (all_held_after making.config base.latest left no_deed []) (holding number line (behind_lines 1 rest))) [] v v
+held-leads making base number left rest line n v there at said =
+    let config = making.config in
     let t = set_in base left (ready number rest) in
     let step = step_held number line in
-    let after = all_held_after making.config base.latest left no_deed [] in
-    runs-more making number steps s t step _ runs (may-run base left number rest n there at)
-    (subst (λ d. is_right making.config (placed_doing making.config t (Some (RunLines number)) d Holding step) ≡ true) (sym (line-due base left number rest line n there at said)) (right-held making.config t number line))
-    refl refl
-    (placed-again base left after number (ready number rest) (holding number line (behind_lines 1 rest)) (effect_in making.config (view_in making.config t) Holding step)
-    (connection_after (Some (RunLines number)) step (effect_in making.config (view_in making.config t) Holding step)) false there (line-fits number rest n at) refl (λ s. refl) refl
-    ∙ ap (λ b. set_in (with_drops b base) after (holding number line (behind_lines 1 rest))) (or-false base.dropped))
-
--- ---- how steps end
-
-ends-none : (steps : List Step) → list_all (λ step. not step.held) steps ≡ true → ends_held steps ≡ false
-ends-none [] all = refl
-ends-none (step ∷ []) all = grind arith
-ends-none (step ∷ next ∷ steps) all = ends-none (next ∷ steps) (and-right (not step.held) (list_all (λ (x : Step). not x.held) (next ∷ steps)) all)
-  where
-    and-right : (a b : Bool) → (a && b) ≡ true → b ≡ true
-    and-right true b e = e
-    and-right false b e = let h : false ≡ true = e in cc
-
-ends-held : (steps : List Step) (number : ℕ) (line : List ℕ) → ends_held (steps ++ step_held number line ∷ []) ≡ true
-ends-held [] number line = refl
-ends-held (step ∷ []) number line = refl
-ends-held (step ∷ next ∷ steps) number line = ends-held (next ∷ steps) number line
+    let after = all_held_after config base.latest left no_deed [] in
+    let c = holding number line (behind_lines 1 rest) in
+    let effect = effect_in config (view_in config t) Holding step in
+    leads-to making t (set_in base after c) (RunLines number ∷ []) (RunLines number ∷ []) [] (step ∷ []) v v
+    (none-due (set_in base after c) number [] (stops-held base after number line (behind_lines 1 rest) there))
+    (line-one making t (set_in base after c) number step v v (may-run base left number rest n there at)
+    (subst (λ d. is_right config (placed_doing config t (Some (RunLines number)) d Holding step) ≡ true) (sym (line-due base left number rest line n there at said))
+    (right-held config t (RunLines number) number line (eq-eqb number number refl) refl))
+    (placed-again base left after number (ready number rest) c effect (connection_after (Some (RunLines number)) step effect) false there (line-fits number rest n at) refl (λ s. refl) refl
+    ∙ ap (λ b. set_in (with_drops b base) after c) (or-false base.dropped))
+    refl refl (held-draws config number line (identifiers_in v)) (λ places order plain agrees. (tt, tt)))
 
 -- ---- lines of a connection that is ready
 
@@ -384,22 +380,11 @@ ends-held (step ∷ next ∷ steps) number line = ends-held (next ∷ steps) num
 pub ready-stopped : (making : Making) (number : ℕ) (base : Situation) (held : List HeldValue) (bytes : List ℕ) (quit : Bool) (rest : List ℕ) (old new : LineStage)
     → (r : RanLines making number base held bytes quit rest old new) → may_run_in (situation_behind quit (with_drops new.values.frame.dropped base) r.left (ready number rest)) number ≡ false
     → RanReady making number base held bytes quit false false (λ left. situation_behind quit (with_drops new.values.frame.dropped base) left (ready number rest)) old new
-ready-stopped making number base held bytes quit rest old new r stops = record {
-  steps = r.steps;
-  left = r.left;
-  stands = r.stands;
-  after = runs-end making number r.steps _ _ r.runs stops;
-  parted = runs-parted making number r.steps _ _ r.runs;
-  timely = runs-timely making number r.steps _ _ r.runs;
-  ends = ends-none r.steps r.none_held;
-  quits = r.quits;
-  silent = silent-none r.steps r.replied;
-  draws = r.draws;
-  ordered = λ places order plain agrees.
-      let a = r.ordered places order plain agrees in
-      (a.0, keys-in-turn making number (suc places) order r.steps _ _ r.runs a.1);
-  gathered_is = r.gathered_is;
-}
+ready-stopped making number base held bytes quit rest old new r stops =
+    let s = set_in base held (ready number bytes) in
+    let target : List HeldValue → Situation = λ left. situation_behind quit (with_drops new.values.frame.dropped base) left (ready number rest) in
+    let lines : List Task = RunLines number ∷ [] in
+    ran-to making s lines lines [] quit false false target target old new r (leads-to making s (target r.left) lines lines [] r.steps old.values new.values (none-due (target r.left) number [] stops) r.leads)
 
 -- lines ran until memory was wanted for one
 pub ready-held : (making : Making) (number : ℕ) (base : Situation) (held : List HeldValue) (bytes rest line : List ℕ) (n : ℕ) (old middle : LineStage) (text : List ℕ) (tape : Option Taped)
@@ -407,29 +392,12 @@ pub ready-held : (making : Making) (number : ℕ) (base : Situation) (held : Lis
     → middle.values.Stands (all_held_after making.config base.latest r.left no_deed []) → gathered (stage middle.values text tape) ≡ gather (gathered middle) (step_held number line ∷ [])
     → RanReady making number base held bytes false true false (λ left. set_in (with_drops middle.values.frame.dropped base) left (holding number (held_line rest) (behind_lines 1 rest))) old (stage middle.values text tape)
 ready-held making number base held bytes rest line n old middle text tape there r at said stands gathers =
-    let config = making.config in
     let from = with_drops middle.values.frame.dropped base in
-    let left = all_held_after config base.latest r.left no_deed [] in
-    let runs = runs-held making from number _ r.steps r.left rest line n there at said r.runs in
-    let drawing = identifiers_in middle.values in
-    record {
-      steps = r.steps ++ step_held number line ∷ [];
-      left = left;
-      stands = stands;
-      after =
-          runs-end making number (r.steps ++ step_held number line ∷ []) _ _ runs (stops-held from left number line (behind_lines 1 rest) there)
-          ∙ ap (λ l. Some (set_in from left (holding number l (behind_lines 1 rest)))) (said ∙ sym (ap (λ o. unwrap_or o []) (IsLine-first_line rest n at)));
-      parted = runs-parted making number (r.steps ++ step_held number line ∷ []) _ _ runs;
-      timely = runs-timely making number (r.steps ++ step_held number line ∷ []) _ _ runs;
-      ends = ends-held r.steps number line;
-      quits = ends-quit-more config r.steps (step_held number line) false refl;
-      silent = silent-more r.steps (step_held number line);
-      draws = draws-more config r.steps (step_held number line) (identifiers_in old.values) drawing drawing r.draws (held-draws config number line drawing);
-      ordered = λ places order plain agrees.
-          let a = r.ordered places order plain agrees in (
-            subst (AgreesWith middle.values.Used places) (sym (order-behind-more config (suc places) order r.steps (step_held number line))) tt,
-            keys-in-turn making number (suc places) order (r.steps ++ step_held number line ∷ []) _ _ runs
-                (runs-keys-more making number (suc places) order r.steps _ (set_in from r.left (ready number rest)) (step_held number line) r.runs a.1 tt),
-          );
-      gathered_is = gathers ∙ ap (λ g. gather g (step_held number line ∷ [])) r.gathered_is ∙ gather-more (gathered old) r.steps (step_held number line ∷ []);
-    }
+    let step = step_held number line in
+    let left = all_held_after making.config base.latest r.left no_deed [] in
+    let lines : List Task = RunLines number ∷ [] in
+    ran-then making (set_in base held (ready number bytes)) lines lines [] false _ _ old middle (stage middle.values text tape) step left r refl stands
+    (subst (λ l. TasksLead making (set_in from r.left (ready number rest)) lines (step ∷ []) (set_in from left (holding number l (behind_lines 1 rest))) [] middle.values middle.values)
+    (said ∙ sym (ap (λ o. unwrap_or o []) (IsLine-first_line rest n at)))
+    (held-leads making from number r.left rest line n middle.values there at said))
+    gathers

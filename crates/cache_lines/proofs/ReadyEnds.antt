@@ -1,5 +1,5 @@
 -- Lines that end with a `LOAD` that begins to wait.
-use Rattle.std.proofs.Common.{arith, refl, ap, ◌∙◌, subst, sym, ◌≡◌, ℕ, suc, Bool, true, false, ◌||◌, List, [], map, Option, Some, None, if◌then◌else◌, Ok, is_some, take, ◌++◌, ◌∷◌, true≢false, drop, unwrap_or}
+use Rattle.std.proofs.Common.{arith, refl, ap, ◌∙◌, subst, sym, ◌≡◌, ℕ, suc, Bool, true, false, ◌||◌, List, [], map, Option, Some, None, if◌then◌else◌, Ok, is_some, take, ◌∷◌, true≢false, drop, unwrap_or}
 use Rattle.std.proofs.Math.Bool.{or-false}
 use Rattle.std.proofs.lemmas.Bool.{and_from, eq-eqb, and_parts}
 use Rattle.std.specs.Option.{option_map_or}
@@ -17,27 +17,28 @@ use Rattle.audit_model.specs.declared.transcript.Step.{Step}
 use Rattle.audit_lines.proofs.Lines.{IsLine-first_line, long_from}
 use Rattle.audit_lines.specs.Next.{IsLine}
 use Rattle.cache_store.specs.Promises.{no_deed, Frame}
+use Rattle.cache_store.specs.Recency.{IsPlainLru}
 use Rattle.cache_store.specs.Values.{IsSoundStore, Values}
 use Rattle.cache_commands.proofs.Answering.{same-refl}
 use Rattle.cache_commands.proofs.Drawn.{draws-none}
 use Rattle.cache_commands.specs.Answered.{says_drop, Agrees}
 use Rattle.cache_commands.specs.Loading.{step_silent}
 use Rattle.cache_commands.specs.Loads.Pending.{number_to_send, when_joined, when_sent}
-use Rattle.cache_commands.specs.Order.{AgreesWith, order_by}
+use Rattle.cache_commands.specs.Order.{AgreesWith, Order, order_by}
 use Rattle.cache_commands.specs.Right.{DoesRight, placed_doing, KeepsFrame}
-use Rattle.cache_lines.proofs.Drawn.{draws-more}
-use Rattle.cache_lines.proofs.Knowing.{keys-in-turn, order-behind-more, runs-keys-more}
-use Rattle.cache_lines.proofs.LineRuns.{find-dropped, ends-quit-more, gather-more, line-fits, may-run, runs-more, silent-more, runs-end, runs-parted, runs-timely, fresh-gather, gather-none, ran-kept, ready-held, ready-stopped, stops-long, stops-partial, stops-quit, RanTo, frames-more, line-next}
+use Rattle.cache_lines.proofs.LineRuns.{RanLines, RanTo, find-dropped, frames-more, fresh-gather, gather-none, line-fits, line-next, line-one, may-run, ran-kept, ran-then, ready-held, ready-stopped, stops-long, stops-partial, stops-quit}
 use Rattle.cache_lines.proofs.Placing.{dropped-swapped, found-there, numbered, swap, swapped-again}
 use Rattle.cache_lines.proofs.WholeLines.{has-line}
+use Rattle.cache_lines.proofs.leads.Leading.{leads-to, none-due}
 use Rattle.cache_lines.specs.Bases.{Seen}
 use Rattle.cache_lines.specs.Drawing.{Identifiers, StepDraws, identifiers_in}
-use Rattle.cache_lines.specs.Ended.{RanReady, ends_held, RunsReady, AddsSteps, StopsBy, ends_by_quit, line_in_front}
+use Rattle.cache_lines.specs.Ended.{RanReady, RunsReady, AddsSteps, StopsBy, ends_by_quit, line_in_front}
 use Rattle.cache_lines.specs.Gathered.{LineStage, gather, gathered, stage, HasNothingOutside}
-use Rattle.cache_lines.specs.Lines.{IsThere, RunsLines, ready, set_in, with_drops, has_its_part, is_timely_after, effect_of_step, says_quit, holding, situation_behind}
+use Rattle.cache_lines.specs.Leading.{TasksLead}
+use Rattle.cache_lines.specs.Lines.{IsThere, ready, set_in, with_drops, has_its_part, is_timely_after, says_quit, holding, situation_behind}
 use Rattle.cache_lines.specs.Making.{Making, making_of}
-use Rattle.cache_lines.specs.Ordered.{HasKeys, order_behind}
-use Rattle.cache_lines.specs.Ran.{RanLines, RanLine, WaitsLine}
+use Rattle.cache_lines.specs.Ordered.{HasKeys, order_behind_step}
+use Rattle.cache_lines.specs.Ran.{RanLine, WaitsLine}
 use Rattle.cache_lines.specs.Tape.Taped.{Taped, step_held}
 use Rattle.cache_lines.specs.Waiting.{waiting_with, with_loads, with_under_way, UnderWay, load_sent_for, loads_in, when_waiting}
 use Rattle.cache_lines.specs.Whole.{held_line}
@@ -184,6 +185,13 @@ waits-draws config number line load a = record {
   used_up = λ e. let no : false ≡ true = (and_parts (says_drop (reading config line)) false e).1 in cc;
 }
 
+-- nothing is known after it about the order of use
+pub waits-order : (config : Config) (Used : Bool → List (List ℕ) → Type 0) (number : ℕ) (line key : List ℕ) (load : Option ℕ) (held : List HeldValue) → reading config line ≡ Ok (says.Load key)
+    → (places : ℕ) (order : Order) → IsPlainLru config places → AgreesWith Used places order
+    → AgreesWith Used places (order_behind_step config (suc places) order (step_waits number line load)) × HasKeys (order_behind_step config (suc places) order (step_waits number line load)) held
+waits-order config Used number line key load held reads = λ places order plain agrees.
+    subst (λ r. AgreesWith Used places (order_by (suc places) r order) × HasKeys (order_by (suc places) r order) held) (sym reads) (tt, tt)
+
 -- the values that it leaves held
 abbrev pub left_waiting : Config → Situation → List HeldValue → List ℕ → List HeldValue
 left_waiting config base held key = all_held_after config base.latest held (record no_deed { uses = Some key }) []
@@ -194,29 +202,29 @@ waits-left config base held key Stands none stands = subst Stands (sym (loading.
 
 -- ---- lines, of which the last one is such a `LOAD`
 
-pub runs-waits : (making : Making) (base : Situation) (number : ℕ) (s : Situation) (steps : List Step) (left : List HeldValue) (rest line key : List ℕ) (n : ℕ) (load : Option ℕ)
+pub waits-lead : (making : Making) (base : Situation) (number : ℕ) (left : List HeldValue) (rest line key : List ℕ) (n : ℕ) (load : Option ℕ) (v : Values)
     → IsThere number base → IsLine rest n → line ≡ without_return (take n rest) → reading making.config line ≡ Ok (says.Load key)
     → load ≡ number_to_send key base.sent base.pending → live_at making.config base.latest left key ≡ None
-    → RunsLines making number s steps (set_in base left (ready number rest))
-    → RunsLines making number s (steps ++ step_waits number line load ∷ [])
-    (set_in (with_under_way (record { sent = when_sent load base.sent; pending = when_joined number key load base.pending }) base) (left_waiting making.config base left key) (waiting_with number line (behind_lines 1 rest) 1))
-runs-waits making base number s steps left rest line key n load there at said reads is none runs =
+    → TasksLead making (set_in base left (ready number rest)) (RunLines number ∷ []) (step_waits number line load ∷ [])
+    (set_in (with_under_way (record { sent = when_sent load base.sent; pending = when_joined number key load base.pending }) base) (left_waiting making.config base left key) (waiting_with number line (behind_lines 1 rest) 1)) [] v v
+waits-lead making base number left rest line key n load v there at said reads is none =
+    let config = making.config in
     let t = set_in base left (ready number rest) in
     let step = step_waits number line load in
     let fits = line-fits number rest n at in
-    let effect = effect_in making.config (view_in making.config t) (Running (says.Load key)) step in
-    runs-more making number steps s t step _ runs (may-run base left number rest n there at)
-    (turn-right making.config base left number (ready number rest) (RunLines number) line (Running (says.Load key)) step there fits (IsLine-first_line rest n at ∙ ap Some (sym said)) (ap action_by reads) (eq-eqb number number refl)
-    (waits-right making.config base left number (ready number rest) key load fits is none))
-    (ap (λ r. has_its_part making.part_of (effect_in making.config (view_in making.config t) (action_by r) step)) reads)
-    (ap (λ r. is_timely_after making.config making.made (effect_in making.config (view_in making.config t) (action_by r) step) (after_step making.config t (Some (RunLines number)) step (effect_in making.config (view_in making.config t) (action_by r) step))) reads)
-    (ap (λ r. after_step making.config t (Some (RunLines number)) step (effect_in making.config (view_in making.config t) (action_by r) step)) reads
-    ∙ after-waits making.config base left (left_waiting making.config base left key) number (ready number rest) (waiting_with number line (behind_lines 1 rest) 1) (RunLines number) key line load effect there fits is refl refl)
-
-ends-more : (steps : List Step) (step : Step) → ends_held (steps ++ step ∷ []) ≡ step.held
-ends-more [] step = refl
-ends-more (x ∷ []) step = refl
-ends-more (x ∷ y ∷ xs) step = ends-more (y ∷ xs) step
+    let effect = effect_in config (view_in config t) (Running (says.Load key)) step in
+    let joining = with_under_way (record { sent = when_sent load base.sent; pending = when_joined number key load base.pending }) base in
+    let behind = left_waiting config base left key in
+    let u = set_in joining behind (waiting_with number line (behind_lines 1 rest) 1) in
+    leads-to making t u (RunLines number ∷ []) (RunLines number ∷ []) [] (step ∷ []) v v (none-due u number [] (stops-waiting joining behind number line (behind_lines 1 rest) 1 there))
+    (line-one making t u number step v v (may-run base left number rest n there at)
+    (turn-right config base left number (ready number rest) (RunLines number) line (Running (says.Load key)) step there fits (IsLine-first_line rest n at ∙ ap Some (sym said)) (ap action_by reads) (eq-eqb number number refl)
+    (waits-right config base left number (ready number rest) key load fits is none))
+    (ap (λ r. after_step config t (Some (RunLines number)) step (effect_in config (view_in config t) (action_by r) step)) reads
+    ∙ after-waits config base left behind number (ready number rest) (waiting_with number line (behind_lines 1 rest) 1) (RunLines number) key line load effect there fits is refl refl)
+    (ap (λ r. has_its_part making.part_of (effect_in config (view_in config t) (action_by r) step)) reads)
+    (ap (λ r. is_timely_after config making.made (effect_in config (view_in config t) (action_by r) step) u) reads)
+    (waits-draws config number line load (identifiers_in v)) (waits-order config v.Used number line key load u.held reads))
 
 pub ready-waits : (making : Making) (number : ℕ) (base : Situation) (held : List HeldValue) (bytes rest line key : List ℕ) (n : ℕ) (load : Option ℕ) (old middle : LineStage) (text : List ℕ) (tape : Option Taped)
     → IsThere number base → (r : RanLines making number base held bytes false rest old middle) → IsLine rest n → line ≡ without_return (take n rest) → reading making.config line ≡ Ok (says.Load key)
@@ -225,34 +233,14 @@ pub ready-waits : (making : Making) (number : ℕ) (base : Situation) (held : Li
     → RanReady making number base held bytes false false true
     (λ left. set_in (with_under_way (record { sent = when_sent load base.sent; pending = when_joined number key load base.pending }) (with_drops middle.values.frame.dropped base)) left (waiting_with number line (behind_lines 1 rest) 1)) old (stage middle.values text tape)
 ready-waits making number base held bytes rest line key n load old middle text tape there r at said reads is none stands gathers =
-    let config = making.config in
     let from = with_drops middle.values.frame.dropped base in
     let step = step_waits number line load in
-    let left = left_waiting config base r.left key in
-    let joined = with_under_way (record { sent = when_sent load base.sent; pending = when_joined number key load base.pending }) from in
-    let runs = runs-waits making from number _ r.steps r.left rest line key n load there at said reads is none r.runs in
-    let drawing = identifiers_in middle.values in
-    record {
-      steps = r.steps ++ step ∷ [];
-      left = left;
-      stands = waits-left config base r.left key middle.values.Stands none stands;
-      after = runs-end making number (r.steps ++ step ∷ []) _ _ runs (stops-waiting joined left number line (behind_lines 1 rest) 1 there);
-      parted = runs-parted making number (r.steps ++ step ∷ []) _ _ runs;
-      timely = runs-timely making number (r.steps ++ step ∷ []) _ _ runs;
-      ends = ends-more r.steps step;
-      quits = ends-quit-more config r.steps step false (ap says_quit reads);
-      silent = silent-more r.steps step;
-      draws = draws-more config r.steps step (identifiers_in old.values) drawing drawing r.draws (waits-draws config number line load drawing);
-      ordered = λ places order plain agrees.
-          let a = r.ordered places order plain agrees in
-          let before = order_behind config (suc places) order r.steps in (
-            subst (AgreesWith middle.values.Used places) (sym (order-behind-more config (suc places) order r.steps step ∙ ap (λ x. order_by (suc places) x before) reads)) tt,
-            keys-in-turn making number (suc places) order (r.steps ++ step ∷ []) _ _ runs
-                (runs-keys-more making number (suc places) order r.steps _ (set_in from r.left (ready number rest)) step r.runs a.1
-                (subst (λ x. HasKeys (order_by (suc places) x before) (after_step config (set_in from r.left (ready number rest)) (Some (RunLines number)) step (effect_of_step config number (set_in from r.left (ready number rest)) step)).held) (sym reads) tt)),
-          );
-      gathered_is = gathers ∙ ap (λ g. gather g (step ∷ [])) r.gathered_is ∙ gather-more (gathered old) r.steps (step ∷ []);
-    }
+    let left = left_waiting making.config base r.left key in
+    let lines : List Task = RunLines number ∷ [] in
+    ran-then making (set_in base held (ready number bytes)) lines lines [] false _ _ old middle (stage middle.values text tape) step left r (ap says_quit reads)
+    (waits-left making.config base r.left key middle.values.Stands none stands)
+    (waits-lead making from number r.left rest line key n load middle.values there at said reads is none)
+    gathers
 
 -- How the lines of a connection that is ready end.
 

@@ -39,17 +39,9 @@ pub record StepDraws (config : Config) (step : Step) (old new : Identifiers) : T
   pub used_up : refuses_id config step ≡ true
       → AreUsedUp (part_count config) old.stream new.stream old.registered
 
--- a step draws after some were drawn, and others draw after it
-pub record DrawsThen (config : Config) (step : Step) (Rest : Identifiers → Identifiers → Type 0)
-    (old new : Identifiers) : Type 0 where
-  pub before : Identifiers
-  pub behind : Identifiers
-  pub spends : Spends old before
-  pub step_draws : StepDraws config step before behind
-  pub rest : Rest behind new
-
 -- the steps draw identifiers one after another; what is drawn for a line that is held back registers none
 abbrev pub StepsDraw : Config → List Step → Identifiers → Identifiers → Type 0
 StepsDraw config [] old new = Spends old new
 StepsDraw config (step ∷ steps) old new =
-    DrawsThen config step (λ a b. StepsDraw config steps a b) old new
+    (before : Identifiers) × (behind : Identifiers) × Spends old before
+    × StepDraws config step before behind × StepsDraw config steps behind new

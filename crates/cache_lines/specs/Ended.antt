@@ -1,7 +1,6 @@
 -- Where lines stop.
-use Rattle.std.specs.Prelude.{◌≡◌, ℕ, ◌<◌, Bool, true, false, List, [], ◌∷◌, length, take, Result, Ok, Err, ◌++◌, not, ◌&&◌, Option, Some, IsTrue, is_none, unwrap_or}
+use Rattle.std.specs.Prelude.{◌≡◌, ℕ, ◌<◌, Bool, true, false, List, [], ◌∷◌, length, take, Result, Ok, Err, ◌++◌, not, ◌&&◌, Option, IsTrue, is_none, unwrap_or}
 use Rattle.audit_model.specs.Bytewise.{cut_at}
-use Rattle.audit_model.specs.Follows.{after_steps}
 use Rattle.audit_model.specs.Situation.{Situation, Connection, HeldValue}
 use Rattle.audit_model.specs.Steps.{Task, RunLines}
 use Rattle.audit_model.specs.Stream.{without_return, behind_lines}
@@ -10,11 +9,10 @@ use Rattle.audit_lines.specs.Next.{IsLine, IsPartial}
 use Rattle.cache_commands.specs.Answered.{Agrees}
 use Rattle.cache_commands.specs.Right.{KeepsFrame}
 use Rattle.cache_lines.specs.Bases.{Seen}
-use Rattle.cache_lines.specs.Drawing.{StepsDraw, identifiers_in}
 use Rattle.cache_lines.specs.Gathered.{gather, gathered, HasNothingOutside, LineStage, spare_in}
-use Rattle.cache_lines.specs.Lines.{ArePartedIn, IsThere, are_timely, ends_quit, holding, ready, set_in, situation_behind, with_drops}
+use Rattle.cache_lines.specs.Leading.{TasksLead}
+use Rattle.cache_lines.specs.Lines.{IsThere, ends_quit, holding, ready, set_in, situation_behind, with_drops}
 use Rattle.cache_lines.specs.Making.{Making, making_of}
-use Rattle.cache_lines.specs.Ordered.{OrdersSteps}
 use Rattle.cache_lines.specs.Ran.{RunsAs}
 use Rattle.cache_lines.specs.Tape.Taped.{step_held, Taped}
 use Rattle.cache_lines.specs.Waiting.{holding_load, loads_in, waiting_with, with_under_way}
@@ -104,22 +102,18 @@ left_by number at.Held times rest = holding number (held_line rest) (behind_line
 left_by number at.Waits times rest = waiting_with number (held_line rest) (behind_lines 1 rest) times
 left_by number at.Quit times rest = ready number rest
 
--- Steps ran from this situation, all that these tasks made due; the last one may be held back, a `QUIT`, or a `LOAD` that waits. What they
--- leave stands for this situation.
-pub record RanTasks (making : Making) (s : Situation) (tasks : List Task)
+-- Steps ran from this situation for these tasks, of which those are left; the last one may be held back, a `QUIT`, or a `LOAD` that waits.
+-- What they leave stands for this situation.
+pub record RanTasks (making : Making) (s : Situation) (tasks behind : List Task)
     (quit is_held is_silent : Bool) (target : List HeldValue → Situation) (old new : LineStage) :
     Type 0 where
   pub steps : List Step
   pub left : List HeldValue
   pub stands : new.values.Stands left
-  pub after : after_steps making.config s tasks steps ≡ Some (target left)
-  pub parted : ArePartedIn making.config making.part_of s tasks steps
-  pub timely : IsTrue (are_timely making.config making.made s tasks steps)
+  pub leads : TasksLead making s tasks steps (target left) behind old.values new.values
   pub ends : ends_held steps ≡ is_held
   pub quits : ends_quit making.config steps ≡ quit
   pub silent : ends_silent steps ≡ is_silent
-  pub draws : StepsDraw making.config steps (identifiers_in old.values) (identifiers_in new.values)
-  pub ordered : OrdersSteps making.config old.values.Used new.values.Used s tasks steps
   pub gathered_is : gathered new ≡ gather (gathered old) steps
 
 -- lines of a connection that is ready ran
@@ -127,7 +121,7 @@ abbrev pub RanReady : (making : Making) (number : ℕ) (base : Situation) (held 
     (bytes : List ℕ) (quit is_held is_silent : Bool) (target : List HeldValue → Situation)
     (old new : LineStage) → Type 0
 RanReady making number base held bytes quit is_held is_silent target old new =
-    RanTasks making (set_in base held (ready number bytes)) (RunLines number ∷ []) quit is_held
+    RanTasks making (set_in base held (ready number bytes)) (RunLines number ∷ []) [] quit is_held
     is_silent target old new
 
 -- Less than a line is left, or more than a line may have; or a line that is held back, or a `LOAD` that waits; or a `QUIT` ran.

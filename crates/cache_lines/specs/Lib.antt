@@ -4,6 +4,7 @@ pub mod Bases
 pub mod Drawing
 pub mod Ended
 pub mod Gathered
+pub mod Leading
 pub mod Lines
 pub mod Making
 pub mod Ordered

@@ -1,24 +1,21 @@
 -- A connection's lines, run one after another.
-use Rattle.std.specs.Prelude.{◌≡◌, ℕ, Bool, false, true, not, ◌&&◌, ◌||◌, List, [], ◌∷◌, Some, Ok, IsTrue, is_some, if◌then◌else◌}
+use Rattle.std.specs.Prelude.{◌≡◌, ℕ, Bool, false, true, not, ◌&&◌, ◌||◌, List, [], ◌∷◌, Ok, IsTrue, is_some, if◌then◌else◌}
 use Rattle.std.specs.List.{list_all}
 use Rattle.std.specs.Option.{option_map_or}
 use Rattle.audit_laws.specs.Leading.{is_parted}
-use Rattle.audit_laws.specs.Placing.{placed_steps_in}
 use Rattle.audit_model.specs.Changes.{after_step, join_load}
 use Rattle.audit_model.specs.Commands.{quits, syncs}
 use Rattle.audit_model.specs.Follows.{placed_step_in}
 use Rattle.audit_model.specs.Grammar.{Reading, reading}
 use Rattle.audit_model.specs.History.{Effect}
-use Rattle.audit_model.specs.Obeys.{accepted_values}
 use Rattle.audit_model.specs.Places.{due, first_due, left_after}
 use Rattle.audit_model.specs.Situation.{Situation, Connection, HeldValue, Ready, Held, connection_in, may_run_in, with_connection, without_connection}
-use Rattle.audit_model.specs.Steps.{Task, RunLines, is_right}
+use Rattle.audit_model.specs.Steps.{Task}
 use Rattle.audit_model.specs.Stream.{is_held}
 use Rattle.audit_model.specs.declared.config.Config.{Config}
 use Rattle.audit_model.specs.declared.transcript.Step.{Step}
 use Rattle.cache_store.specs.Running.{is_timely}
 use Rattle.audit_model.specs.declared.command.Command.TheVariants as says
-use Rattle.cache_lines.specs.Making.{Making}
 
 -- a connection that runs lines, with these bytes unread
 abbrev pub ready : ℕ → List ℕ → Connection
@@ -48,17 +45,9 @@ situation_behind quit base held connection =
 abbrev pub IsThere : ℕ → Situation → Type 0
 IsThere number s = IsTrue (is_some (connection_in number s))
 
-abbrev pub effect_of_step : Config → ℕ → Situation → Step → Effect
-effect_of_step config number s step = (placed_step_in config s (Some (RunLines number)) step).effect
-
 -- the value that the step accepts, if any, is in the part of its key
 abbrev pub has_its_part : (List ℕ → ℕ) → Effect → Bool
 has_its_part part_of effect = option_map_or (is_parted part_of) effect.value true
-
--- each value that these steps accept is in the part of its key
-abbrev pub ArePartedIn : Config → (List ℕ → ℕ) → Situation → List Task → List Step → Type 0
-ArePartedIn config part_of s tasks steps =
-    IsTrue (list_all (is_parted part_of) (accepted_values (placed_steps_in config s tasks steps)))
 
 -- a `SYNC` leaves no value that is covered or long dead
 abbrev pub is_timely_after : Config → ℕ → Effect → Situation → Bool
@@ -74,20 +63,6 @@ are_timely config made s tasks (step ∷ steps) =
     let t = after_step config s placed.task step placed.effect in
     is_timely_after config made placed.effect t
     && are_timely config made t (left_after now_due) steps
-
--- these steps of the connection's lines ran, each in its turn and right, each value in the part of its key, and each `SYNC` left timely
--- values
-abbrev pub RunsLines : Making → ℕ → Situation → List Step → Situation → Type 0
-RunsLines making number s [] t = t ≡ s
-RunsLines making number s (step ∷ steps) t =
-    IsTrue (may_run_in s number) × IsTrue
-    (is_right making.config (placed_step_in making.config s (Some (RunLines number)) step))
-    × IsTrue (has_its_part making.part_of (effect_of_step making.config number s step))
-    × IsTrue (is_timely_after making.config making.made (effect_of_step making.config number s step)
-    (after_step making.config s (Some (RunLines number)) step
-    (effect_of_step making.config number s step)))
-    × RunsLines making number (after_step making.config s (Some (RunLines number)) step
-    (effect_of_step making.config number s step)) steps t
 
 -- a step that does something only to values, and may close its connection; it joins no load
 pub record TouchesOnlyValues (effect : Effect) (quit : Bool) : Type 0 where

@@ -1,16 +1,15 @@
 -- The order of use of keys, step by step.
-use Rattle.std.specs.Prelude.{ℕ, suc, Bool, List, [], ◌∷◌, Some, if◌then◌else◌}
+use Rattle.std.specs.Prelude.{ℕ, suc, Bool, List, [], ◌∷◌, if◌then◌else◌}
 use Rattle.audit_model.specs.Changes.{after_step}
 use Rattle.audit_model.specs.Follows.{placed_step_in}
 use Rattle.audit_model.specs.Grammar.{reading}
 use Rattle.audit_model.specs.Places.{due, first_due, left_after}
 use Rattle.audit_model.specs.Situation.{Situation, HeldValue, may_run_in}
-use Rattle.audit_model.specs.Steps.{Task, RunLines}
+use Rattle.audit_model.specs.Steps.{Task}
 use Rattle.audit_model.specs.declared.config.Config.{Config}
 use Rattle.audit_model.specs.declared.transcript.Step.{Step}
 use Rattle.cache_commands.specs.Order.{Order, Settled, Unknown, AgreesWith, order_by}
 use Rattle.cache_store.specs.Recency.{AreKeysOf, IsPlainLru}
-use Rattle.cache_lines.specs.Lines.{effect_of_step}
 
 -- a step ran; nothing is known behind one that is held back
 abbrev pub order_behind_step : Config → ℕ → Order → Step → Order
@@ -38,14 +37,6 @@ HaveKeys config n order s tasks (step ∷ steps) =
     HasKeys (order_behind_step config n order step) t.held
     × HaveKeys config n (order_behind_step config n order step) t (left_after now_due) steps
 
--- the same for the lines of a connection
-abbrev pub HaveKeysBehind : Config → ℕ → ℕ → Order → Situation → List Step → Type 0
-HaveKeysBehind config number n order s [] = Unit {0}
-HaveKeysBehind config number n order s (step ∷ steps) =
-    let t = after_step config s (Some (RunLines number)) step (effect_of_step config number s step) in
-    HasKeys (order_behind_step config n order step) t.held
-    × HaveKeysBehind config number n (order_behind_step config n order step) t steps
-
 -- If a store under LRU agreed with what was known, it agrees with what is known after these steps, and after each of them exactly the keys
 -- that are known are held.
 abbrev pub OrdersSteps : Config → (old new : Bool → List (List ℕ) → Type 0) → Situation → List Task
@@ -54,10 +45,3 @@ OrdersSteps config old new s tasks steps =
     (places : ℕ) (order : Order) → IsPlainLru config places → AgreesWith old places order
     → AgreesWith new places (order_behind config (suc places) order steps)
     × HaveKeys config (suc places) order s tasks steps
-
-abbrev pub OrdersLines : Config → ℕ → (old new : Bool → List (List ℕ) → Type 0) → Situation
-    → List Step → Type 0
-OrdersLines config number old new s steps =
-    (places : ℕ) (order : Order) → IsPlainLru config places → AgreesWith old places order
-    → AgreesWith new places (order_behind config (suc places) order steps)
-    × HaveKeysBehind config number (suc places) order s steps

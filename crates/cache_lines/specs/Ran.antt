@@ -1,5 +1,5 @@
 -- What lines did.
-use Rattle.std.specs.Prelude.{◌≡◌, ℕ, suc, Bool, true, false, not, ◌||◌, List, [], ◌∷◌, Option, Ok, None, IsTrue, is_some}
+use Rattle.std.specs.Prelude.{◌≡◌, ℕ, suc, Bool, true, false, not, ◌||◌, List, [], ◌∷◌, Option, Ok, None, IsTrue}
 use Rattle.std.specs.List.{list_all}
 use Rattle.audit_model.specs.Commands.{is_sync}
 use Rattle.audit_model.specs.Grammar.{reading}
@@ -8,7 +8,6 @@ use Rattle.audit_model.specs.Steps.{action_by, effect_in}
 use Rattle.audit_model.specs.declared.config.Config.{Config}
 use Rattle.audit_model.specs.declared.transcript.Accepted.{Accepted}
 use Rattle.audit_model.specs.declared.transcript.Note.{Note}
-use Rattle.audit_model.specs.declared.transcript.Step.{Step}
 use Rattle.cache_commands.specs.Answered.{Agrees}
 use Rattle.cache_commands.specs.Loading.{step_silent}
 use Rattle.cache_commands.specs.Order.{Order, AgreesWith, order_by}
@@ -17,12 +16,12 @@ use Rattle.cache_store.specs.Recency.{IsPlainLru}
 use Rattle.cache_store.specs.Running.{is_timely}
 use Rattle.audit_model.specs.declared.command.Command.TheVariants as says
 use Rattle.cache_lines.specs.Bases.{Seen}
-use Rattle.cache_lines.specs.Drawing.{StepDraws, StepsDraw, identifiers_in}
+use Rattle.cache_lines.specs.Drawing.{StepDraws, identifiers_in}
 use Rattle.cache_lines.specs.Gathered.{HasNothingOutside, LineStage, gather, gathered}
-use Rattle.cache_lines.specs.Lines.{TouchesOnlyValues, RunsLines, ends_quit, has_its_part, ready, says_quit, set_in, situation_behind, with_drops}
+use Rattle.cache_lines.specs.Lines.{TouchesOnlyValues, has_its_part, says_quit}
 use Rattle.cache_lines.specs.Making.{Making, making_of}
 use Rattle.cache_lines.specs.Waiting.{load_sent_for, when_waiting}
-use Rattle.cache_lines.specs.Ordered.{HasKeys, OrdersLines}
+use Rattle.cache_lines.specs.Ordered.{HasKeys}
 use Rattle.cache_lines.specs.declared.running.LineOutcome.{LineOutcome}
 use Rattle.cache_lines.specs.declared.running.LineOutcome.TheVariants.{Stays, Quits, Waits}
 
@@ -92,20 +91,3 @@ abbrev pub begins_to_wait : LineOutcome → Bool
 begins_to_wait Stays = false
 begins_to_wait Quits = false
 begins_to_wait Waits = true
-
--- From this situation, with these values held and these bytes unread, lines of the connection ran until those bytes were left, or the last
--- one was a `QUIT`, and what they left is the result.
-pub record RanLines (making : Making) (number : ℕ) (base : Situation) (held : List HeldValue)
-    (bytes : List ℕ) (quit : Bool) (rest : List ℕ) (old new : LineStage) : Type 0 where
-  pub steps : List Step
-  pub left : List HeldValue
-  pub stands : new.values.Stands left
-  pub runs : RunsLines making number (set_in base held (ready number bytes)) steps
-      (situation_behind quit (with_drops new.values.frame.dropped base) left (ready number rest))
-  pub none_held : IsTrue (list_all (λ step. not step.held) steps)
-  pub replied : IsTrue (list_all (λ step. is_some step.reply) steps)
-  pub quits : ends_quit making.config steps ≡ quit
-  pub draws : StepsDraw making.config steps (identifiers_in old.values) (identifiers_in new.values)
-  pub ordered : OrdersLines making.config number old.values.Used new.values.Used
-      (set_in base held (ready number bytes)) steps
-  pub gathered_is : gathered new ≡ gather (gathered old) steps

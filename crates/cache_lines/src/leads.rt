@@ -1,11 +1,13 @@
 //! What a settled load's waiters get, in order: the laws of answers and give-ups. Each function here does nothing: its contract is the law.
-ghost use Rattle.cache_lines.specs.Leads.Laws.{AbandonedLeads, AnswerSettles, AnswerTidy, AnsweredLeads, DeliveredLeads, GiveUpSettles, GiveUpTidy, HeldBackLeads, StepsLeadOn, LinesLead, NoLinesLead, NothingLeads, ToldWaits, WaitsAgainLeads};
+ghost use Rattle.cache_lines.specs.Leads.Laws.{AbandonedLeads, AnswerSettles, AnswerTidy, AnsweredLeads, DeliveredLeads, GiveUpSettles, GiveUpTidy, HeldBackLeads, StepsLeadOn, LinesLead, NoLinesLead, NothingLeads, StepsKeepTidy, ToldWaits, WaitsAgainLeads};
 ghost use Rattle.cache_lines.specs.Leads.Waiters.{RecordsWaitForLoads};
 
-/// No step leads nowhere else, and steps lead on from where others led.
+/// No step leads nowhere else, and steps lead on from where others led. Each connection that still has to be told of its load waits, once, as
+/// it did before them.
 pub fn steps_lead_on()
     ensures nothing { NothingLeads }
     ensures on { StepsLeadOn }
+    ensures tidy { StepsKeepTidy }
 {}
 
 /// Each connection that waited for a load that is settled is still to be told, once, and waits when its turn comes.
@@ -28,7 +30,7 @@ pub fn run_again_leads()
     ensures abandoned { AbandonedLeads }
 {}
 
-/// A connection's lines run with other tasks after them as they do alone, and none runs if none may.
+/// Steps run with other tasks after theirs as they do alone, and no line runs if none may.
 pub fn lines_lead()
     ensures some { LinesLead }
     ensures none { NoLinesLead }

@@ -1,6 +1,5 @@
 -- A piece for a connection, as its lines run.
-use Rattle.std.proofs.Common.{refl, sym, ap, ◌∙◌, subst, inr, ◌≡◌, ℕ, ◌+◌, Bool, true, false, not, ◌||◌, ◌≤◌, List, [], ◌∷◌, ◌++◌, Option, Some, None, if◌then◌else◌}
-use Rattle.audit_model.specs.Bytewise.{is_empty}
+use Rattle.std.proofs.Common.{refl, sym, ap, ◌∙◌, subst, inr, ◌≡◌, ℕ, ◌+◌, Bool, true, false, not, ◌||◌, ◌≤◌, List, [], ◌∷◌, ◌++◌, Option, Some, None}
 use Rattle.audit_model.specs.Grammar.{reading}
 use Rattle.audit_model.specs.Places.{tasks_to_feed}
 use Rattle.audit_model.specs.Situation.{HeldValue, Situation, live_at}
@@ -16,13 +15,13 @@ use Rattle.cache_core.specs.Connection.Fed.{FedRan, LinesLeft, LooksAsBefore, Ta
 use Rattle.cache_core.specs.Connection.Fits.{ClosesFor, FitsStanding, RunsOn}
 use Rattle.cache_core.specs.Connection.Parts.{put_parts, standing_as}
 use Rattle.cache_core.specs.Connection.Shown.{put_in, shown_connection, with_piece}
-use Rattle.cache_lines.proofs.Drawn.{spends-same}
-use Rattle.cache_lines.proofs.LineRuns.{fresh-gather, gather-none, frames-more}
+use Rattle.cache_lines.proofs.LineRuns.{fresh-gather, gather-none, frames-more, ran-to}
 use Rattle.cache_lines.proofs.WholeLines.{behind-more, held-more}
+use Rattle.cache_lines.proofs.leads.Leading.{leads-no-lines}
 use Rattle.cache_lines.specs.Bases.{Seen}
-use Rattle.cache_lines.specs.Drawing.{identifiers_in}
 use Rattle.cache_lines.specs.Ended.{RanReady, RanTasks, RunsReady, held_with}
 use Rattle.cache_lines.specs.Gathered.{HasNothingOutside, LineStage, gather, gathered, stage}
+use Rattle.cache_lines.specs.Leading.{TasksLead}
 use Rattle.cache_lines.specs.Lines.{IsThere, ready, set_in, situation_behind, with_drops}
 use Rattle.cache_lines.specs.Making.{Making, making_of}
 use Rattle.cache_lines.specs.Ran.{RanLine, WaitsLine}
@@ -35,7 +34,6 @@ use Rattle.cache_lines.specs.Ended.{holds_back, ends_waiting, ends_by_quit}
 use Rattle.cache_lines.proofs.HeldFeeds.{feeds-held, feeds-quit, feeds-waits}
 use Rattle.cache_lines.proofs.ReadyEnds.{stops-waiting, idle-by, joined}
 use Rattle.cache_core.specs.declared.connection.connection.Connection.{Connection}
-use Rattle.cache_lines.proofs.Knowing.{due_if}
 
 -- ---- a connection whose `LOAD` waits, or that holds a line back
 
@@ -55,29 +53,17 @@ waits-with number standing times bytes piece e whole =
 
 -- such steps ran, and the situation that they leave can be said so too
 pub tasks-to : (making : Making) (s : Situation) (tasks : List Task) (quit is_held is_silent : Bool) (target next : List HeldValue → Situation) (old new : LineStage)
-    → RanTasks making s tasks quit is_held is_silent target old new → ((left : List HeldValue) → target left ≡ next left)
-    → RanTasks making s tasks quit is_held is_silent next old new
-tasks-to making s tasks quit is_held is_silent target next old new r puts = record {
-  steps = r.steps;
-  left = r.left;
-  stands = r.stands;
-  after = r.after ∙ ap Some (puts r.left);
-  parted = r.parted;
-  timely = r.timely;
-  ends = r.ends;
-  quits = r.quits;
-  silent = r.silent;
-  draws = r.draws;
-  ordered = r.ordered;
-  gathered_is = r.gathered_is;
-}
+    → RanTasks making s tasks [] quit is_held is_silent target old new → ((left : List HeldValue) → target left ≡ next left)
+    → RanTasks making s tasks [] quit is_held is_silent next old new
+tasks-to making s tasks quit is_held is_silent target next old new r puts =
+    ran-to making s tasks [] [] quit is_held is_silent target next old new r (subst (λ t. TasksLead making s tasks r.steps t [] old.values new.values) (puts r.left) r.leads)
 
 -- ---- what lines did to their connection
 
 -- steps of its feed ran, by how it stood
 fed-so : (now_is number : ℕ) (old new : Connection) (piece : List ℕ) (quit is_held silent : Bool) (was is : Seen) (standing : Standing) → old.standing ≡ standing
     → ((s : Situation) → Agrees was.stage.values now_is s → IsThere number s → loads_in s ≡ was.loads
-    → RanTasks (making_of was.stage.values.frame) (set_in s s.held (with_piece piece (standing_as number standing old.waited old.unread.bytes))) (tasks_to_feed number (holds_line standing)) quit is_held silent
+    → RanTasks (making_of was.stage.values.frame) (set_in s s.held (with_piece piece (standing_as number standing old.waited old.unread.bytes))) (tasks_to_feed number (holds_line standing)) [] quit is_held silent
     (λ left. put_in (with_under_way is.loads (with_drops is.stage.values.frame.dropped s)) left number new) was.stage is.stage)
     → ClosesFor (closing_by (waits_for_load standing) quit silent) new.closing → RunsOn new.closing new.standing quit silent → KeepsFrame was.stage.values.frame is.stage.values.frame now_is → HasNothingOutside (gathered is.stage)
     → FedRan now_is number old piece new is_held was is
@@ -85,7 +71,7 @@ fed-so now_is number old new piece quit is_held silent was is standing e ran clo
   quit = quit;
   silent = silent;
   ran = λ s agrees there loads.
-      subst (λ st. RanTasks (making_of was.stage.values.frame) (set_in s s.held (with_piece piece (standing_as number st old.waited old.unread.bytes))) (tasks_to_feed number (holds_line st)) quit is_held silent
+      subst (λ st. RanTasks (making_of was.stage.values.frame) (set_in s s.held (with_piece piece (standing_as number st old.waited old.unread.bytes))) (tasks_to_feed number (holds_line st)) [] quit is_held silent
       (λ left. put_in (with_under_way is.loads (with_drops is.stage.values.frame.dropped s)) left number new) was.stage is.stage) (sym e) (ran s agrees there loads);
   closing = subst (λ st. ClosesFor (closing_by (waits_for_load st) quit silent) new.closing) (sym e) closes;
   runs = runs;
@@ -107,7 +93,7 @@ fed-ready now_is number old new piece is_held was is e l held =
     let base = with_under_way is.loads (with_drops is.stage.values.frame.dropped s) in
     let start = set_in s s.held (ready number (old.unread.bytes ++ piece)) in
     let target : List HeldValue → Situation = λ left. put_in base left number new in
-    subst (λ h. RanTasks making start (RunLines number ∷ []) quit h silent target was.stage is.stage) (sym (held ∙ l.held))
+    subst (λ h. RanTasks making start (RunLines number ∷ []) [] quit h silent target was.stage is.stage) (sym (held ∙ l.held))
     (tasks-to making start (RunLines number ∷ []) quit (holds_back l.end) silent _ target was.stage is.stage (r.ran s agrees there loads) (λ left. l.put base left number)))
     l.closing l.runs r.frame r.fresh
 
@@ -153,7 +139,7 @@ module _ (now_is number : ℕ) (old new : Connection) (piece : List ℕ) (was is
       (r.ran from (record { at = agrees.at; dropped = refl; stands = one.left }) there (under ∙ sym same)) (λ left. l.put (base_then s) left number) in
       let lines : RanReady making number (with_drops dropped s) values behind quit is_held silent (target s) mid.stage is.stage =
       subst (λ (m : Making). RanReady m number (with_drops dropped s) values behind quit is_held silent (target s) mid.stage is.stage) (ap making_of line.frame.rest)
-      (subst (λ h. RanTasks made start (RunLines number ∷ []) quit h silent (target s) mid.stage is.stage) (sym (held ∙ l.held)) ran) in
+      (subst (λ h. RanTasks made start (RunLines number ∷ []) [] quit h silent (target s) mid.stage is.stage) (sym (held ∙ l.held)) ran) in
       feeds-held making number s s.held old.waited bytes piece quit is_held silent (target s) was.stage mid.stage is.stage there one lines)
       l.closing l.runs (frames-more was.stage.values.frame mid.stage.values.frame is.stage.values.frame now_is line.frame r.frame) r.fresh
 
@@ -164,7 +150,7 @@ module _ (now_is number : ℕ) (old new : Connection) (piece : List ℕ) (was is
       fed-so now_is number old new piece true false false was is now.Held e
       (λ s agrees there under.
       let one = line.ran (fed s) (record { at = agrees.at; dropped = agrees.dropped; stands = agrees.stands }) in
-      let ran = subst (λ u. RanTasks making (fed s) (tasks_to_feed number true) true false false (λ left. situation_behind true (with_under_way u (with_drops dropped s)) left (ready number [])) was.stage is.stage) (under ∙ sym same)
+      let ran = subst (λ u. RanTasks making (fed s) (tasks_to_feed number true) [] true false false (λ left. situation_behind true (with_under_way u (with_drops dropped s)) left (ready number [])) was.stage is.stage) (under ∙ sym same)
       (feeds-quit making number s s.held old.waited bytes piece [] was.stage is.stage there one) in
       tasks-to making (fed s) (tasks_to_feed number true) true false false _ (target s) was.stage is.stage ran (λ left. ap (λ o. put_parts (base_then s) left number o new.standing new.waited new.unread.bytes) (sym closes)))
       (inr closes) (λ a b. let no : Some by.Quit ≡ None = sym closes ∙ a in absurd (cc)) line.frame line.fresh
@@ -218,19 +204,15 @@ fed-waiting now_is number old new piece was e took in_time fresh =
       steps = [];
       left = s.held;
       stands = agrees.stands;
-      after =
-          ap (λ b. if is_empty (due_if b number) then Some start else None) (stops-waiting s s.held number (held_line old.unread.bytes) (behind_lines 1 old.unread.bytes ++ piece) old.waited there)
-          ∙ ap (λ st. Some (set_in s s.held (with_piece piece (standing_as number st old.waited old.unread.bytes)))) (sym e)
-          ∙ ap Some (took.put s s.held number)
-          ∙ ap (λ d. Some (put_in (with_drops d s) s.held number new)) agrees.dropped
-          ∙ ap (λ u. Some (put_in (with_under_way u (with_drops was.stage.values.frame.dropped s)) s.held number new)) loads;
-      parted = refl;
-      timely = refl;
+      leads = subst (λ t. TasksLead (making_of was.stage.values.frame) start (RunLines number ∷ []) [] t [] was.stage.values was.stage.values)
+          (ap (λ st. set_in s s.held (with_piece piece (standing_as number st old.waited old.unread.bytes))) (sym e)
+          ∙ took.put s s.held number
+          ∙ ap (λ d. put_in (with_drops d s) s.held number new) agrees.dropped
+          ∙ ap (λ u. put_in (with_under_way u (with_drops was.stage.values.frame.dropped s)) s.held number new) loads)
+          (leads-no-lines (making_of was.stage.values.frame) start number was.stage.values (stops-waiting s s.held number (held_line old.unread.bytes) (behind_lines 1 old.unread.bytes ++ piece) old.waited there));
       ends = refl;
       quits = refl;
       silent = refl;
-      draws = spends-same (identifiers_in was.stage.values);
-      ordered = λ places order plain a. (a, tt);
       gathered_is = sym (gather-none (gathered was.stage));
     })
     took.closing (λ a b. (refl, refl)) (record { rest = refl; latest = in_time }) fresh
@@ -247,8 +229,8 @@ fed-from now_is number old mid new piece is_held was is same f =
       silent = f.silent;
       ran = λ s agrees there loads.
           let target : List HeldValue → Situation = λ left. put_in (with_under_way is.loads (with_drops is.stage.values.frame.dropped s)) left number new in
-          subst (λ c. RanTasks (making_of was.stage.values.frame) (set_in s s.held (with_piece piece c)) (tasks_to_feed number (holds_line old.standing)) f.quit is_held f.silent target was.stage is.stage) shows
-          (subst (λ st. RanTasks (making_of was.stage.values.frame) (set_in s s.held (with_piece piece (shown_connection number mid))) (tasks_to_feed number (holds_line st)) f.quit is_held f.silent target was.stage is.stage) same.standing (f.ran s agrees there loads));
+          subst (λ c. RanTasks (making_of was.stage.values.frame) (set_in s s.held (with_piece piece c)) (tasks_to_feed number (holds_line old.standing)) [] f.quit is_held f.silent target was.stage is.stage) shows
+          (subst (λ st. RanTasks (making_of was.stage.values.frame) (set_in s s.held (with_piece piece (shown_connection number mid))) (tasks_to_feed number (holds_line st)) [] f.quit is_held f.silent target was.stage is.stage) same.standing (f.ran s agrees there loads));
       closing = subst (λ st. ClosesFor (closing_by (waits_for_load st) f.quit f.silent) new.closing) same.standing f.closing;
       runs = f.runs;
       frame = f.frame;

@@ -28,13 +28,12 @@ use Rattle.cache_core.specs.Connection.Fed.{EndsCalm, StepRan}
 use Rattle.cache_core.specs.Connection.Fits.{FitsStanding}
 use Rattle.cache_core.specs.Connection.Parts.{standing_as}
 use Rattle.cache_core.specs.Connection.Shown.{put_in, shown_connection}
-use Rattle.cache_lines.proofs.Drawn.{draws-first}
 use Rattle.cache_lines.proofs.LineRuns.{fresh-gather}
 use Rattle.cache_lines.proofs.leads.Settling.{abandoned, answered, delivered, held_back, waits_again}
 use Rattle.cache_lines.specs.Bases.{Seen}
-use Rattle.cache_lines.specs.Drawing.{Identifiers, StepDraws, identifiers_in}
+use Rattle.cache_lines.specs.Drawing.{StepDraws, identifiers_in}
 use Rattle.cache_lines.specs.Gathered.{HasNothingOutside, gather, gathered, stage}
-use Rattle.cache_lines.specs.Leads.Leads.{TasksLead}
+use Rattle.cache_lines.specs.Leading.{StepsLead, point}
 use Rattle.cache_lines.specs.Lines.{ready, says_quit, set_in, with_drops}
 use Rattle.cache_lines.specs.Making.{Making, making_of}
 use Rattle.cache_lines.specs.Ordered.{order_behind_step}
@@ -65,17 +64,6 @@ said-gathered v text new_text reply line n None new fresh said left =
 said-gathered v text new_text reply line n (Some t) new fresh said left =
     ap (λ x. gathered (stage v new_text x)) said ∙ ap (λ x. gathered (stage v x (Some (spends (step_saying n line (text ++ reply) None []) t)))) (left ∙ sym fresh.0)
     ∙ ap (λ x. gathered (stage v text (Some (spends (step_saying n line (x ++ reply) None []) t)))) fresh.0
-
--- ---- draws
-
-spent-none : (config : Config) (making : Making) (s t : Situation) (tasks left : List Task) (step : Step) (a b : Identifiers) → StepDraws config step a b → TasksLead config making s tasks (step ∷ []) t left b b → TasksLead config making s tasks (step ∷ []) t left a b
-spent-none config making s t tasks left step a b drawn l = record {
-  after = l.after;
-  parted = l.parted;
-  timely = l.timely;
-  draws = λ more last h. draws-first config step more a b last drawn h;
-  tidy = l.tidy;
-}
 
 -- ---- the connection then
 
@@ -138,21 +126,24 @@ module _ (now_is n : ℕ) (old new : Connection) (was is : Seen) (waited : old.s
   stayed-ran : (task : Task) (step : Step) (x : model.Connection)
       → ((s : Situation) → was.stage.values.Stands s.held → connection_in n s ≡ Some (waiting_with n line rest old.waited)
       → (left : List HeldValue) × was.stage.values.Stands left
-      × ((tasks : List Task) → TasksLead config making s (task ∷ tasks) (step ∷ []) (set_in s left x) tasks (identifiers_in was.stage.values) (identifiers_in was.stage.values)))
+      × ((places : ℕ) (order : Order) → StepsLead making places (point s (identifiers_in was.stage.values) order) (task ∷ []) (step ∷ []) (point (set_in s left x) (identifiers_in was.stage.values) Unknown) []))
       → step.conn ≡ n → new.closing ≡ None → shown_connection n new ≡ x → gathered is.stage ≡ gather (gathered was.stage) (step ∷ []) → is.loads ≡ was.loads → is.stage.values ≡ was.stage.values
-      → ((places : ℕ) (order : Order) → order_behind_step config places order step ≡ Unknown) → (new.standing ≡ now.Ready → EndsCalm config (step ∷ [])) → StepRan now_is n task old new was is
-  stayed-ran task step x does own is_open shows gathers loads same unknown calm = subst (λ v. StepRan now_is n task old new was (record { stage = stage v is.stage.text is.stage.tape; loads = is.loads })) (sym same) (record {
+      → (new.standing ≡ now.Ready → EndsCalm config (step ∷ [])) → StepRan now_is n task old new was is
+  stayed-ran task step x does own is_open shows gathers loads same calm = subst (λ v. StepRan now_is n task old new was (record { stage = stage v is.stage.text is.stage.tape; loads = is.loads })) (sym same) (record {
     ran = λ s agrees under found.
         let d = does s agrees.stands (found-waiting s n old found waited) in
         record {
           step = step;
           left = d.0;
           stands = d.1;
-          leads = λ tasks. subst (λ t. TasksLead config making s (task ∷ tasks) (step ∷ []) t tasks (identifiers_in was.stage.values) (identifiers_in was.stage.values))
-              (sym (put-alike s d.0 n new x is.loads was.stage.values.frame.dropped is_open shows (loads ∙ sym under) (sym agrees.dropped))) (d.2 tasks);
+          leads = λ places order agreed. (
+            Unknown,
+            λ plain. tt,
+            subst (λ t. StepsLead making places (point s (identifiers_in was.stage.values) order) (task ∷ []) (step ∷ []) (point t (identifiers_in was.stage.values) Unknown) [])
+                (sym (put-alike s d.0 n new x is.loads was.stage.values.frame.dropped is_open shows (loads ∙ sym under) (sym agrees.dropped))) (d.2 places order),
+          );
           own = own;
           gathered_is = ap (λ v. gathered (stage v is.stage.text is.stage.tape)) (sym same) ∙ gathers;
-          unknown = unknown;
           calm = calm;
         };
     is_open = is_open;
@@ -168,9 +159,12 @@ module _ (now_is n : ℕ) (old new : Connection) (was is : Seen) (waited : old.s
       let step = step_saying n line (codes "ERR abandoned\n") None [] in
       stayed-ran (RunAgain n) step (ready n rest)
       (λ s stands found.
-      let x = abandons config s was.stage.values.Stands (sound.idle s.held s.latest stands) in
-      (all_held_after config s.latest s.held no_deed [], x.left, λ tasks. abandoned config making s n line rest old.waited tasks (identifiers_in was.stage.values) found last x.right))
-      refl is_open (shown-ready n new rest runs bytes) gathers loads same (load-unknown config step key refl reads) (λ e. load-calm config n line key (codes "ERR abandoned\n") [] reads)
+      let x = abandons config s was.stage.values.Stands (sound.idle s.held s.latest stands) in (
+        all_held_after config s.latest s.held no_deed [],
+        x.left,
+        λ places order. abandoned making places s n line rest old.waited [] (identifiers_in was.stage.values) order found last x.right (load-unknown config step key refl reads (suc places) order),
+      ))
+      refl is_open (shown-ready n new rest runs bytes) gathers loads same (λ e. load-calm config n line key (codes "ERR abandoned\n") [] reads)
 
   -- it was handed the outcome
   pub delivered-ran : (outcome : Outcome) (key : List ℕ) → reading config line ≡ Ok (says.Load key) → new.closing ≡ None → new.standing ≡ now.Ready → new.unread.bytes ≡ rest
@@ -180,9 +174,12 @@ module _ (now_is n : ℕ) (old new : Connection) (was is : Seen) (waited : old.s
       let step = step_saying n line (outcome_text outcome) None [] in
       stayed-ran (Deliver n outcome) step (ready n rest)
       (λ s stands found.
-      let x = delivers config s outcome was.stage.values.Stands (sound.idle s.held s.latest stands) in
-      (all_held_after config s.latest s.held no_deed [], x.left, λ tasks. delivered config making s n line rest old.waited outcome tasks (identifiers_in was.stage.values) found x.right))
-      refl is_open (shown-ready n new rest runs bytes) gathers loads same (load-unknown config step key refl reads) (λ e. load-calm config n line key (outcome_text outcome) [] reads)
+      let x = delivers config s outcome was.stage.values.Stands (sound.idle s.held s.latest stands) in (
+        all_held_after config s.latest s.held no_deed [],
+        x.left,
+        λ places order. delivered making places s n line rest old.waited outcome [] (identifiers_in was.stage.values) order found x.right (load-unknown config step key refl reads (suc places) order),
+      ))
+      refl is_open (shown-ready n new rest runs bytes) gathers loads same (λ e. load-calm config n line key (outcome_text outcome) [] reads)
 
   -- it is held back
   pub held-ran : nat_le 200 old.waited ≡ false → new.closing ≡ None → new.standing ≡ now.Held → new.unread.bytes ≡ old.unread.bytes → new.waited ≡ old.waited
@@ -190,8 +187,8 @@ module _ (now_is n : ℕ) (old new : Connection) (was is : Seen) (waited : old.s
   held-ran few is_open holds bytes times gathers loads same =
       stayed-ran (RunAgain n) (step_held n line) (holding_load n line rest old.waited)
       (λ s stands found.
-      (all_held_after config s.latest s.held no_deed [], sound.idle s.held s.latest stands, λ tasks. held_back config making s n line rest old.waited tasks (identifiers_in was.stage.values) found few))
-      refl is_open (shown-held n new old.unread.bytes old.waited holds bytes times) gathers loads same (λ places order. refl)
+      (all_held_after config s.latest s.held no_deed [], sound.idle s.held s.latest stands, λ places order. held_back making places s n line rest old.waited [] (identifiers_in was.stage.values) order found few))
+      refl is_open (shown-held n new old.unread.bytes old.waited holds bytes times) gathers loads same
       (λ e. let no : now.Held ≡ now.Ready = sym holds ∙ e in cc)
 
   -- it waits again
@@ -205,19 +202,23 @@ module _ (now_is n : ℕ) (old new : Connection) (was is : Seen) (waited : old.s
         let step = step_silent n line (load_sent_for x.key was.loads) None [] in
         let left = held_when_run config s (Running (says.Load x.key)) (step_waiting config s x.key 0 []) in
         let under_sent : number_to_send x.key s.sent s.pending ≡ load_sent_for x.key was.loads = ap (load_sent_for x.key) under in
+        let ids = identifiers_in was.stage.values in
         record {
           step = step;
           left = left;
           stands = y.left;
-          leads = λ tasks. subst (λ l. TasksLead config making s (RunAgain n ∷ tasks) (step_silent n line l None [] ∷ []) (put_in (with_under_way is.loads (with_drops was.stage.values.frame.dropped s)) left n new) tasks (identifiers_in was.stage.values) (identifiers_in was.stage.values)) under_sent
-              (subst (λ t. TasksLead config making s (RunAgain n ∷ tasks) (step_silent n line (number_to_send x.key s.sent s.pending) None [] ∷ []) t tasks (identifiers_in was.stage.values) (identifiers_in was.stage.values))
-              (sym (put-is (with_under_way is.loads (with_drops was.stage.values.frame.dropped s)) left n new (waiting_with n line rest (suc old.waited)) is_open (shown-waiting n new old.unread.bytes (suc old.waited) still bytes times)
-              ∙ ap (λ (u : UnderWay). set_in (with_under_way u (with_drops was.stage.values.frame.dropped s)) left (waiting_with n line rest (suc old.waited))) (loads ∙ ap (when_waiting n x.key) (sym under))
-              ∙ ap (λ d. set_in (with_under_way (when_waiting n x.key (loads_in s)) (with_drops d s)) left (waiting_with n line rest (suc old.waited))) (sym agrees.dropped)))
-              (waits_again config making s n line rest x.key old.waited tasks (identifiers_in was.stage.values) (found-waiting s n old found waited) few x.reads none y.right));
+          leads = λ places order agreed. (
+            Unknown,
+            λ plain. tt,
+            subst (λ l. StepsLead making places (point s ids order) (RunAgain n ∷ []) (step_silent n line l None [] ∷ []) (point (put_in (with_under_way is.loads (with_drops was.stage.values.frame.dropped s)) left n new) ids Unknown) []) under_sent
+                (subst (λ t. StepsLead making places (point s ids order) (RunAgain n ∷ []) (step_silent n line (number_to_send x.key s.sent s.pending) None [] ∷ []) (point t ids Unknown) [])
+                (sym (put-is (with_under_way is.loads (with_drops was.stage.values.frame.dropped s)) left n new (waiting_with n line rest (suc old.waited)) is_open (shown-waiting n new old.unread.bytes (suc old.waited) still bytes times)
+                ∙ ap (λ (u : UnderWay). set_in (with_under_way u (with_drops was.stage.values.frame.dropped s)) left (waiting_with n line rest (suc old.waited))) (loads ∙ ap (when_waiting n x.key) (sym under))
+                ∙ ap (λ d. set_in (with_under_way (when_waiting n x.key (loads_in s)) (with_drops d s)) left (waiting_with n line rest (suc old.waited))) (sym agrees.dropped)))
+                (waits_again making places s n line rest x.key old.waited [] ids order (found-waiting s n old found waited) few x.reads none y.right)),
+          );
           own = refl;
           gathered_is = ap (λ v. gathered (stage v is.stage.text is.stage.tape)) (sym same) ∙ gathers;
-          unknown = load-unknown config step x.key refl x.reads;
           calm = λ e. let no : now.Waiting ≡ now.Ready = sym still ∙ e in cc;
         };
     is_open = is_open;
@@ -244,13 +245,15 @@ module _ (now_is n : ℕ) (old new : Connection) (was is : Seen) (waited : old.s
           step = step;
           left = left;
           stands = stands;
-          leads = λ tasks. spent-none config making s _ (RunAgain n ∷ tasks) tasks step (identifiers_in was.stage.values) (identifiers_in is.stage.values) draws
-              (subst (λ t. TasksLead config making s (RunAgain n ∷ tasks) (step ∷ []) t tasks (identifiers_in is.stage.values) (identifiers_in is.stage.values))
-              (sym (put-alike s left n new (ready n rest) is.loads is.stage.values.frame.dropped is_open (shown-ready n new rest runs bytes) (loads ∙ sym under) (drops ∙ or-false s.dropped)))
-              (answered config making s n line rest key x.reply old.waited x.told tasks (identifiers_in is.stage.values) (found-waiting s n old found waited) few reads right));
+          leads = λ places order agreed. (
+            Unknown,
+            λ plain. tt,
+            subst (λ t. StepsLead making places (point s (identifiers_in was.stage.values) order) (RunAgain n ∷ []) (step ∷ []) (point t (identifiers_in is.stage.values) Unknown) [])
+                (sym (put-alike s left n new (ready n rest) is.loads is.stage.values.frame.dropped is_open (shown-ready n new rest runs bytes) (loads ∙ sym under) (drops ∙ or-false s.dropped)))
+                (answered making places s n line rest key x.reply old.waited x.told [] (identifiers_in was.stage.values) (identifiers_in is.stage.values) order (found-waiting s n old found waited) few reads right draws),
+          );
           own = refl;
           gathered_is = x.gathered_is ∙ ap (λ (o : Option Accepted). gather (gathered was.stage) (step_saying n line x.reply o x.told ∷ [])) none;
-          unknown = load-unknown config step key refl reads;
           calm = λ e. load-calm config n line key x.reply x.told reads;
         };
     is_open = is_open;

@@ -12,17 +12,14 @@ use Rattle.audit_model.specs.declared.transcript.Step.{Step}
 use Rattle.cache_store.specs.Values.{Values}
 use Rattle.cache_commands.specs.Answered.{Agrees}
 use Rattle.cache_commands.specs.Loads.Standings.{holds_line, waits_for_load}
-use Rattle.cache_commands.specs.Order.{Order, Unknown}
 use Rattle.cache_commands.specs.Right.{KeepsFrame, step_saying}
 use Rattle.cache_commands.specs.declared.loads.standing.Standing.{Standing}
 use Rattle.cache_lines.specs.Bases.{Seen, seen_on}
-use Rattle.cache_lines.specs.Drawing.{identifiers_in}
 use Rattle.cache_lines.specs.Ended.{ends_silent, RanTasks, RunsReady, left_by, ends_by_quit, holds_back, ends_waiting}
 use Rattle.cache_lines.specs.Gathered.{HasNothingOutside, gather, gathered}
-use Rattle.cache_lines.specs.Leads.Leads.{TasksLead}
+use Rattle.cache_lines.specs.Leading.{TasksLead}
 use Rattle.cache_lines.specs.Lines.{ends_quit, with_drops, IsThere, set_in, situation_behind}
 use Rattle.cache_lines.specs.Making.{Making, making_of}
-use Rattle.cache_lines.specs.Ordered.{order_behind_step}
 use Rattle.cache_lines.specs.Tape.Taped.{Taped, spends, text_left}
 use Rattle.cache_lines.specs.Waiting.{is_load, loads_in, with_under_way}
 use Rattle.cache_lines.specs.Whole.{held_line}
@@ -56,19 +53,17 @@ pub record IsReplied (reply : List ℕ) (number : ℕ) (tape new_tape : Option T
   pub standing : new.standing ≡ now_is.Ready
   pub closing : new.closing ≡ old.closing
 
--- The task of a connection's waiting `LOAD` was done in this situation, in one step, which leads on; nothing is known after it about the
--- order of use.
+-- the task of a connection's waiting `LOAD` was done in this situation, in one step
 pub record RanStep (making : Making) (s : Situation) (number : ℕ) (task : Task) (new : Connection)
     (was is : Seen) : Type 0 where
   pub step : Step
   pub left : List HeldValue
   pub stands : is.stage.values.Stands left
-  pub leads : (tasks : List Task) → TasksLead making.config making s (task ∷ tasks) (step ∷ [])
+  pub leads : TasksLead making s (task ∷ []) (step ∷ [])
       (put_in (with_under_way is.loads (with_drops is.stage.values.frame.dropped s)) left number
-      new) tasks (identifiers_in was.stage.values) (identifiers_in is.stage.values)
+      new) [] was.stage.values is.stage.values
   pub own : step.conn ≡ number
   pub gathered_is : gathered is.stage ≡ gather (gathered was.stage) (step ∷ [])
-  pub unknown : (n : ℕ) (order : Order) → order_behind_step making.config n order step ≡ Unknown
   pub calm : new.standing ≡ now_is.Ready → EndsCalm making.config (step ∷ [])
 
 -- this happened in each situation that the values and the loads stood for
@@ -97,7 +92,7 @@ pub record FedRan (now number : ℕ) (old : Connection) (piece : List ℕ) (new 
       → loads_in s ≡ was.loads
       → RanTasks (making_of was.stage.values.frame)
       (set_in s s.held (with_piece piece (shown_connection number old)))
-      (tasks_to_feed number (holds_line old.standing)) quit is_held silent
+      (tasks_to_feed number (holds_line old.standing)) [] quit is_held silent
       (λ left. put_in (with_under_way is.loads (with_drops is.stage.values.frame.dropped s)) left
       number new) was.stage is.stage
   pub closing : ClosesFor (closing_by (waits_for_load old.standing) quit silent) new.closing

@@ -22,7 +22,7 @@ pub struct Taken {
     pub waits: bool,
 }
 
-/// MovesCourse an output out, and leaves room for the reply to the `LOAD` that waits.
+/// Moves an output out, and leaves room for the reply to the `LOAD` that waits.
 fn take_keeping_room(alloc: Global, output: &mut ReplyBuffer) -> Vec<u8>
     requires { IsRoomy output.old }
     ensures room { IsRoomy output.new }
@@ -36,7 +36,7 @@ fn take_keeping_room(alloc: Global, output: &mut ReplyBuffer) -> Vec<u8>
     mem::replace(&mut output.text, fresh)
 }
 
-/// MovesCourse out the replies of a connection.
+/// Moves out the replies of a connection.
 fn take_text(alloc: Global, connection: &mut Connection) -> Vec<u8>
     ensures rest { IsTakenFrom connection.old connection.new }
     ensures taken { result.items ≡ connection.old.output.text.items }
@@ -47,7 +47,7 @@ fn take_text(alloc: Global, connection: &mut Connection) -> Vec<u8>
     mem::replace(&mut connection.output.text, Vec::new(alloc))
 }
 
-/// MovesCourse out what a connection is owed.
+/// Moves out what a connection is owed.
 pub fn take_owed(alloc: Global, connection: &mut Connection) -> Taken
     ensures rest { IsTakenFrom connection.old connection.new }
     ensures replies { result.replies.items ≡ connection.old.output.text.items }

@@ -127,7 +127,7 @@ impl Connections {
         resident.connection = Some(connection);
     }
 
-    /// MovesCourse out what the connection at an index is owed. The call allocates nothing.
+    /// Moves out what the connection at an index is owed. The call allocates nothing.
     pub fn take_owed(&mut self, alloc: Global, index: usize) -> Taken
         requires { index < length self.old }
         ensures { TakesOwedAt self.old self.new index result }

@@ -60,7 +60,7 @@ pub fn gone_for(resident: &Resident) -> Option<Closing>
     }
 }
 
-/// MovesCourse out what the connection of a resident is owed; nothing while it is out.
+/// Moves out what the connection of a resident is owed; nothing while it is out.
 pub fn take_held(alloc: Global, resident: &mut Resident) -> Taken
     ensures place { resident.new.place ≡ resident.old.place }
     ensures left { IsLeftOf (held_or_out resident.old.connection)

@@ -1,7 +1,8 @@
 -- What one piece of the record of a settled load leads to, and what all of them lead to.
 use Rattle.std.specs.Prelude.{◌≡◌, ℕ, suc, nat_le, true, false, List, [], ◌∷◌, ◌++◌, map, Option, Some, None, Ok, codes, IsTrue}
+use Rattle.audit_laws.proofs.waiting.Records.{has_no_held}
 use Rattle.audit_laws.specs.Waiting.Tidy.{Tidy}
-use Rattle.audit_model.specs.Follows.{after_steps, known_in, without_load}
+use Rattle.audit_model.specs.Follows.{known_in, without_load}
 use Rattle.audit_model.specs.Grammar.{reading}
 use Rattle.audit_model.specs.History.{Running, Delivering, Abandoning, Storing, Holding}
 use Rattle.audit_model.specs.Obeys.{has_right_own_value}
@@ -16,31 +17,42 @@ use Rattle.audit_model.specs.declared.transcript.Record.{Record}
 use Rattle.audit_model.specs.declared.transcript.Step.{Step}
 use Rattle.cache_commands.specs.Loading.{step_silent, step_waiting}
 use Rattle.cache_commands.specs.Loads.Pending.{number_to_send, when_joined, when_sent}
+use Rattle.cache_commands.specs.Order.{Order, Unknown}
 use Rattle.cache_commands.specs.Right.{DoesRight, held_when_run, step_saying}
 use Rattle.audit_model.specs.Belongs.{refusal_of}
 use Rattle.audit_model.specs.Replies.{outcome_text}
 use Rattle.audit_model.specs.declared.command.Command.TheVariants as says
 use Rattle.audit_model.specs.declared.event.Event.TheVariants as event
-use Rattle.cache_lines.specs.Drawing.{Identifiers, StepsDraw}
-use Rattle.cache_lines.specs.Lines.{ArePartedIn, are_timely, has_its_part, ready, set_in}
+use Rattle.cache_lines.specs.Drawing.{Identifiers, StepDraws}
+use Rattle.cache_lines.specs.Leading.{Point, StepsLead, point}
+use Rattle.cache_lines.specs.Lines.{has_its_part, ready, set_in}
 use Rattle.cache_lines.specs.Tape.Taped.{step_held}
 use Rattle.cache_lines.specs.Making.{Making}
 use Rattle.cache_lines.specs.Waiting.{holding_load, waiting_with, with_loads}
-use Rattle.cache_lines.specs.Leads.Leads.{BeginsUnknown, TasksLead, SettlingLeads, still_told}
+use Rattle.cache_lines.specs.Leads.Leads.{SettlingLeads, still_told}
+use Rattle.cache_lines.specs.Ordered.{order_behind_step}
+use Rattle.cache_store.specs.Identifiers.{KeepsIdentifiers}
 
 -- no step leads nowhere else
 abbrev pub NothingLeads : Type 0
 NothingLeads =
-    (config : Config) (making : Making) (s : Situation) (tasks : List Task) (drawn : Identifiers)
-    → TasksLead config making s tasks [] s tasks drawn drawn
+    (making : Making) (places : ℕ) (a : Point) (tasks : List Task)
+    → StepsLead making places a tasks [] a tasks
 
 -- steps lead on from where others led
 abbrev pub StepsLeadOn : Type 0
 StepsLeadOn =
-    (config : Config) (making : Making) (s t u : Situation) (tasks left last : List Task)
-    (steps more : List Step) (a b c : Identifiers)
-    → TasksLead config making s tasks steps t left a b → TasksLead config making t left more u last
-    b c → TasksLead config making s tasks (steps ++ more) u last a c
+    (making : Making) (places : ℕ) (a b c : Point) (tasks left last : List Task)
+    (steps more : List Step)
+    → StepsLead making places a tasks steps b left → StepsLead making places b left more c last
+    → StepsLead making places a tasks (steps ++ more) c last
+
+-- each connection that still has to be told of its load waits, once, as it did before the steps
+abbrev pub StepsKeepTidy : Type 0
+StepsKeepTidy =
+    (making : Making) (places : ℕ) (a b : Point) (tasks left : List Task) (steps : List Step)
+    → StepsLead making places a tasks steps b left → IsTrue (has_no_held tasks)
+    → Tidy (still_told tasks) a.situation → Tidy (still_told left) b.situation
 
 -- a connection whose turn it is to be told waits, and no other one is told in its place
 abbrev pub ToldWaits : Type 0
@@ -61,82 +73,92 @@ GiveUpTidy =
     (load moment : ℕ) (s : Situation) → Tidy [] s
     → Tidy (still_told (tasks_to_give_up (waiting_in load s))) (without_load load moment s)
 
--- a waiting `LOAD` receives the outcome: its connection runs lines again
+-- A waiting `LOAD` receives the outcome: its connection runs lines again. Here and below, nothing is known after the step about the order
+-- of use.
 abbrev pub DeliveredLeads : Type 0
 DeliveredLeads =
-    (config : Config) (making : Making) (s : Situation) (n : ℕ) (line bytes : List ℕ) (times : ℕ)
-    (outcome : Outcome) (tasks : List Task) (drawn : Identifiers)
+    (making : Making) (places : ℕ) (s : Situation) (n : ℕ) (line bytes : List ℕ) (times : ℕ)
+    (outcome : Outcome) (tasks : List Task) (drawn : Identifiers) (order : Order)
     → connection_in n s ≡ Some (waiting_with n line bytes times)
-    → DoesRight config s (Delivering outcome) (step_saying 0 [] (outcome_text outcome) None [])
-    → TasksLead config making s (Deliver n outcome ∷ tasks)
+    → DoesRight making.config s (Delivering outcome)
+    (step_saying 0 [] (outcome_text outcome) None [])
+    → order_behind_step making.config (suc places) order
+    (step_saying n line (outcome_text outcome) None []) ≡ Unknown
+    → StepsLead making places (point s drawn order) (Deliver n outcome ∷ tasks)
     (step_saying n line (outcome_text outcome) None [] ∷ [])
-    (set_in s (held_when_run config s (Delivering outcome)
-    (step_saying 0 [] (outcome_text outcome) None [])) (ready n bytes)) tasks drawn drawn
+    (point (set_in s (held_when_run making.config s (Delivering outcome)
+    (step_saying 0 [] (outcome_text outcome) None [])) (ready n bytes)) drawn Unknown) tasks
 
 -- a `LOAD` that is given up for the 200th time is abandoned
 abbrev pub AbandonedLeads : Type 0
 AbandonedLeads =
-    (config : Config) (making : Making) (s : Situation) (n : ℕ) (line bytes : List ℕ) (times : ℕ)
-    (tasks : List Task) (drawn : Identifiers)
+    (making : Making) (places : ℕ) (s : Situation) (n : ℕ) (line bytes : List ℕ) (times : ℕ)
+    (tasks : List Task) (drawn : Identifiers) (order : Order)
     → connection_in n s ≡ Some (waiting_with n line bytes times) → nat_le 200 times ≡ true
-    → DoesRight config s Abandoning (step_saying 0 [] (codes "ERR abandoned\n") None [])
-    → TasksLead config making s (RunAgain n ∷ tasks)
+    → DoesRight making.config s Abandoning (step_saying 0 [] (codes "ERR abandoned\n") None [])
+    → order_behind_step making.config (suc places) order
+    (step_saying n line (codes "ERR abandoned\n") None []) ≡ Unknown
+    → StepsLead making places (point s drawn order) (RunAgain n ∷ tasks)
     (step_saying n line (codes "ERR abandoned\n") None [] ∷ [])
-    (set_in s (held_when_run config s Abandoning
-    (step_saying 0 [] (codes "ERR abandoned\n") None [])) (ready n bytes)) tasks drawn drawn
+    (point (set_in s (held_when_run making.config s Abandoning
+    (step_saying 0 [] (codes "ERR abandoned\n") None [])) (ready n bytes)) drawn Unknown) tasks
 
 -- a `LOAD` that is given up and finds a live value is answered
 abbrev pub AnsweredLeads : Type 0
 AnsweredLeads =
-    (config : Config) (making : Making) (s : Situation) (n : ℕ) (line bytes key reply : List ℕ)
-    (times : ℕ) (told : List Note) (tasks : List Task) (drawn : Identifiers)
+    (making : Making) (places : ℕ) (s : Situation) (n : ℕ) (line bytes key reply : List ℕ)
+    (times : ℕ) (told : List Note) (tasks : List Task) (drawn drawing : Identifiers)
+    (order : Order)
     → connection_in n s ≡ Some (waiting_with n line bytes times) → nat_le 200 times ≡ false
-    → reading config line ≡ Ok (says.Load key)
-    → DoesRight config s (Running (says.Load key)) (step_saying 0 [] reply None told)
-    → TasksLead config making s (RunAgain n ∷ tasks) (step_saying n line reply None told ∷ [])
-    (set_in s (held_when_run config s (Running (says.Load key)) (step_saying 0 [] reply None told))
-    (ready n bytes)) tasks drawn drawn
+    → reading making.config line ≡ Ok (says.Load key)
+    → DoesRight making.config s (Running (says.Load key)) (step_saying 0 [] reply None told)
+    → StepDraws making.config (step_saying n line reply None told) drawn drawing
+    → StepsLead making places (point s drawn order) (RunAgain n ∷ tasks)
+    (step_saying n line reply None told ∷ [])
+    (point (set_in s (held_when_run making.config s (Running (says.Load key))
+    (step_saying 0 [] reply None told)) (ready n bytes)) drawing Unknown) tasks
 
 -- a `LOAD` that is given up and finds none waits once more: it joins the load of its key, or sends the next one
 abbrev pub WaitsAgainLeads : Type 0
 WaitsAgainLeads =
-    (config : Config) (making : Making) (s : Situation) (n : ℕ) (line bytes key : List ℕ)
-    (times : ℕ) (tasks : List Task) (drawn : Identifiers)
+    (making : Making) (places : ℕ) (s : Situation) (n : ℕ) (line bytes key : List ℕ)
+    (times : ℕ) (tasks : List Task) (drawn : Identifiers) (order : Order)
     → connection_in n s ≡ Some (waiting_with n line bytes times) → nat_le 200 times ≡ false
-    → reading config line ≡ Ok (says.Load key) → live_at config s.latest s.held key ≡ None
-    → DoesRight config s (Running (says.Load key)) (step_waiting config s key 0 [])
+    → reading making.config line ≡ Ok (says.Load key)
+    → live_at making.config s.latest s.held key ≡ None
+    → DoesRight making.config s (Running (says.Load key)) (step_waiting making.config s key 0 [])
     → (let number = number_to_send key s.sent s.pending in
-    TasksLead config making s (RunAgain n ∷ tasks) (step_silent n line number None [] ∷ [])
+    StepsLead making places (point s drawn order) (RunAgain n ∷ tasks)
+    (step_silent n line number None [] ∷ [])
+    (point
     (set_in (with_loads (when_sent number s.sent) (when_joined n key number s.pending) s)
-    (held_when_run config s (Running (says.Load key)) (step_waiting config s key 0 []))
-    (waiting_with n line bytes (suc times))) tasks drawn drawn)
+    (held_when_run making.config s (Running (says.Load key))
+    (step_waiting making.config s key 0 [])) (waiting_with n line bytes (suc times))) drawn Unknown)
+    tasks)
 
 -- a `LOAD` that is given up, and for which memory is lacking, is held back; how often it waited stays
 abbrev pub HeldBackLeads : Type 0
 HeldBackLeads =
-    (config : Config) (making : Making) (s : Situation) (n : ℕ) (line bytes : List ℕ) (times : ℕ)
-    (tasks : List Task) (drawn : Identifiers)
+    (making : Making) (places : ℕ) (s : Situation) (n : ℕ) (line bytes : List ℕ) (times : ℕ)
+    (tasks : List Task) (drawn : Identifiers) (order : Order)
     → connection_in n s ≡ Some (waiting_with n line bytes times) → nat_le 200 times ≡ false
-    → TasksLead config making s (RunAgain n ∷ tasks) (step_held n line ∷ [])
-    (set_in s (held_when_run config s Holding (step_held n line)) (holding_load n line bytes times))
-    tasks drawn drawn
+    → StepsLead making places (point s drawn order) (RunAgain n ∷ tasks) (step_held n line ∷ [])
+    (point (set_in s (held_when_run making.config s Holding (step_held n line))
+    (holding_load n line bytes times)) drawn Unknown) tasks
 
--- a connection's lines run, as they do alone
+-- steps that leave no task lead on to those that stand behind theirs
 abbrev pub LinesLead : Type 0
 LinesLead =
-    (config : Config) (making : Making) (s t : Situation) (n : ℕ) (steps : List Step)
-    (tasks : List Task) (drawn drawing : Identifiers)
-    → after_steps config s (RunLines n ∷ []) steps ≡ Some t → ArePartedIn config making.part_of s
-    (RunLines n ∷ []) steps → IsTrue (are_timely config making.made s (RunLines n ∷ []) steps)
-    → StepsDraw config steps drawn drawing
-    → TasksLead config making s (RunLines n ∷ tasks) steps t tasks drawn drawing
+    (making : Making) (places : ℕ) (a b : Point) (tasks more : List Task) (steps : List Step)
+    → StepsLead making places a tasks steps b []
+    → StepsLead making places a (tasks ++ more) steps b more
 
 -- a connection of which no line may run has no step
 abbrev pub NoLinesLead : Type 0
 NoLinesLead =
-    (config : Config) (making : Making) (s : Situation) (n : ℕ)
-    (tasks : List Task) (drawn : Identifiers) → may_run_in s n ≡ false
-    → TasksLead config making s (RunLines n ∷ tasks) [] s tasks drawn drawn
+    (making : Making) (places : ℕ) (a : Point) (n : ℕ) (tasks : List Task)
+    → may_run_in a.situation n ≡ false
+    → StepsLead making places a (RunLines n ∷ tasks) [] a tasks
 
 -- the record of an answer, whose value was accepted or not, with what this reported
 abbrev pub record_answered : ℕ → Outcome → ℕ → Option Accepted → List Note → List Step → Record
@@ -170,33 +192,36 @@ when_stored config s key outcome accepted told =
 -- connection run in the same order. From these pieces its record follows.
 abbrev pub AnswerSettles : Type 0
 AnswerSettles =
-    (config : Config) (making : Making) (s t : Situation) (load moment : ℕ) (key : List ℕ)
+    (making : Making) (places : ℕ) (s t : Situation) (load moment : ℕ) (key : List ℕ)
     (outcome : Outcome) (accepted : Option Accepted) (told : List Note) (steps : List Step)
-    (drawn drawing : Identifiers)
-    → refusal_of config (known_in s) (event.Answer load outcome (record {
+    (drawn kept drawing : Identifiers) (order behind : Order)
+    → refusal_of making.config (known_in s) (event.Answer load outcome (record {
       nanos = moment;
     })) ≡ None → key_in load s ≡ Some key
     → has_right_own_value (record_answered load outcome moment accepted told steps) ≡ true
-    → DoesRight config (without_load load moment s) (Storing (Some key) outcome)
+    → DoesRight making.config (without_load load moment s) (Storing (Some key) outcome)
     (step_silent 0 [] None accepted told)
     → IsTrue
-    (has_its_part making.part_of (effect_in config (view_in config (without_load load moment s))
+    (has_its_part making.part_of
+    (effect_in making.config (view_in making.config (without_load load moment s))
     (Storing (Some key) outcome) (step_silent 0 [] None accepted told)))
-    → TasksLead config making
-    (when_stored config (without_load load moment s) key outcome accepted told)
+    → KeepsIdentifiers drawn.stream kept.stream drawn.registered kept.registered
+    → StepsLead making places
+    (point (when_stored making.config (without_load load moment s) key outcome accepted told) kept
+    Unknown)
     (map (λ conn. Deliver conn outcome) (waiting_in load s) ++ map RunLines (waiting_in load s))
-    steps t [] drawn drawing
-    → SettlingLeads config making s (record_answered load outcome moment accepted told steps) t
-    drawn drawing
+    steps (point t drawing behind) []
+    → SettlingLeads making places s (record_answered load outcome moment accepted told steps) t
+    drawn drawing order behind
 
 -- A give-up that is not refused: each waiting `LOAD` runs again in order, each followed by its connection's lines. From these pieces its
 -- record follows.
 abbrev pub GiveUpSettles : Type 0
 GiveUpSettles =
-    (config : Config) (making : Making) (s t : Situation) (load moment : ℕ) (steps : List Step)
-    (drawn drawing : Identifiers)
-    → refusal_of config (known_in s) (event.GiveUp load (record { nanos = moment })) ≡ None
-    → TasksLead config making (without_load load moment s) (tasks_to_give_up (waiting_in load s))
-    steps t [] drawn drawing
-    → BeginsUnknown config steps
-    → SettlingLeads config making s (record_given_up load moment steps) t drawn drawing
+    (making : Making) (places : ℕ) (s t : Situation) (load moment : ℕ) (steps : List Step)
+    (drawn drawing : Identifiers) (order behind : Order)
+    → refusal_of making.config (known_in s) (event.GiveUp load (record { nanos = moment })) ≡ None
+    → StepsLead making places (point (without_load load moment s) drawn order)
+    (tasks_to_give_up (waiting_in load s)) steps (point t drawing behind) []
+    → SettlingLeads making places s (record_given_up load moment steps) t drawn drawing order
+    behind

@@ -1,5 +1,5 @@
-use Rattle.cache_lines.proofs.leads.Leading.{lines, no-lines}
+use Rattle.cache_lines.proofs.leads.Leading.{framed, no-lines}
 use Rattle.cache_lines.proofs.leads.lines_lead.Goals as goal
 
 pub returns : goal.returns
-returns c = record { some = lines; none = no-lines }
+returns c = record { some = framed; none = no-lines }

@@ -4,16 +4,16 @@ use Rattle.audit_model.specs.Places.{tasks_to_give_up}
 use Rattle.audit_model.specs.Steps.{RunAgain, RunLines, Task}
 use Rattle.audit_model.specs.declared.config.Config.{Config}
 use Rattle.cache_commands.proofs.Taking.{taken-on, taken-same}
-use Rattle.cache_core.specs.Settled.{IsAmid}
-use Rattle.cache_core.specs.Settling.{AreWaiting, IsWaitingAt, PartsUnknown, Reruns}
+use Rattle.cache_core.specs.Settled.{IsAmid, Parts}
+use Rattle.cache_core.specs.Settling.{AreWaiting, IsWaitingAt}
 use Rattle.cache_store.specs.Promises.{Frame}
-use Rattle.cache_core.proofs.Amid.{unknown-none, unknown-on, amid-all, amid-two, give-up-more, there-number}
+use Rattle.cache_core.proofs.Amid.{parts-none, parts-on, amid-all, amid-two, give-up-more, there-number}
 use Rattle.cache_core.proofs.Touched.{first-waits, next-waits, left-wait, rest-next, waits-above, waits-inside, waits-numbered}
 use Rattle.cache_core.proofs.interior.Interior.give_up_all.Goals as goal
 
 pub loop-number-init : goal.loop-number-init
 loop-number-init g c = record {
-  ran = unknown-none g.S.Store.view g.T.Tape.view c.args.now c.args.self.now.base c.args.self.now.connections c.requires.amid.in_time.0;
+  ran = parts-none g.S.Store.view g.T.Tape.view c.args.now c.args.self.now.base c.args.self.now.connections c.requires.amid.in_time.0;
   amid = λ lines amid. amid;
   waits = c.requires.waits;
   count = refl;
@@ -55,10 +55,10 @@ loop-number-preserved g c =
     let waits = subst (AreWaiting config mid) next i.waits in
     let first = first-waits config mid n rest waits in
     let number : n - 1 + 1 ≡ n = there-number n (waits-above config mid n first) in
-    let one = subst (λ (k : ℕ). Reruns g.S.Store.view g.T.Tape.view c.args.now c.loop-number.self.base c.give_up_at.new.self.base mid c.give_up_at.new.self.connections (RunAgain k ∷ RunLines k ∷ [])) number c.give_up_at.ensures.ran in
+    let one = subst (λ (k : ℕ). Parts g.S.Store.view g.T.Tape.view c.args.now c.loop-number.self.base c.give_up_at.new.self.base mid c.give_up_at.new.self.connections (RunAgain k ∷ RunLines k ∷ [])) number c.give_up_at.ensures.ran in
     record {
-      ran = subst (λ (ts : List Task). PartsUnknown g.S.Store.view g.T.Tape.view c.args.now c.args.self.now.base c.give_up_at.new.self.base c.args.self.now.connections c.give_up_at.new.self.connections ts) (sym (give-up-more ns at c.loop-number-test.true))
-          (unknown-on g.S.Store.view g.T.Tape.view c.args.now c.args.self.now.base c.loop-number.self.base c.give_up_at.new.self.base c.args.self.now.connections mid c.give_up_at.new.self.connections (tasks_to_give_up (take at ns)) (RunAgain n ∷ RunLines n ∷ []) i.ran one);
+      ran = subst (λ (ts : List Task). Parts g.S.Store.view g.T.Tape.view c.args.now c.args.self.now.base c.give_up_at.new.self.base c.args.self.now.connections c.give_up_at.new.self.connections ts) (sym (give-up-more ns at c.loop-number-test.true))
+          (parts-on g.S.Store.view g.T.Tape.view c.args.now c.args.self.now.base c.loop-number.self.base c.give_up_at.new.self.base c.args.self.now.connections mid c.give_up_at.new.self.connections (tasks_to_give_up (take at ns)) (RunAgain n ∷ RunLines n ∷ []) i.ran one);
       amid = λ lines amid.
           let h = i.amid lines amid in
           c.give_up_at.ensures.amid (length rest + length rest + lines) (subst (λ k. IsAmid g.S.Store.view g.T.Tape.view c.args.now c.loop-number.self.base mid k) (let e = ap length next in omega (arith, e)) h);
@@ -71,4 +71,4 @@ pub returns-clause-ran : goal.returns-clause-ran
 returns-clause-ran g c =
     let at = c.loop-number.number-index in
     let ns = c.args.waiting.now in
-    subst (λ (xs : List ℕ). PartsUnknown g.S.Store.view g.T.Tape.view c.args.now c.args.self.now.base c.loop-number.self.base c.args.self.now.connections c.loop-number.self.connections (tasks_to_give_up xs)) (take_all at ns c.loop-number-test.false) c.loop-number.invariant.ran
+    subst (λ (xs : List ℕ). Parts g.S.Store.view g.T.Tape.view c.args.now c.args.self.now.base c.loop-number.self.base c.args.self.now.connections c.loop-number.self.connections (tasks_to_give_up xs)) (take_all at ns c.loop-number-test.false) c.loop-number.invariant.ran

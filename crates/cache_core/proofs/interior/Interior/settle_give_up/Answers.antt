@@ -1,6 +1,7 @@
 use Rattle.std.proofs.Common.{sym, ap, ◌∙◌, subst, arith, ℕ, List, length}
 use Rattle.audit_model.specs.Places.{tasks_to_give_up}
-use Rattle.cache_core.specs.Settling.{AreWaiting, PartsUnknown}
+use Rattle.cache_core.specs.Settling.{AreWaiting}
+use Rattle.cache_core.specs.Settled.{Parts}
 use Rattle.cache_lines.specs.Waiting.{under_way}
 use Rattle.cache_core.proofs.Admitted.{amid-loads, left-but, waiting-is}
 use Rattle.cache_core.proofs.interior.Interior.settle_give_up.Goals as goal
@@ -23,5 +24,5 @@ returns-clause-ran g c =
     record {
       left = c.settle.new.self;
       left_is = left-but c.args.load base.loads c.settle.new.self c.in-Some.ensures.sent c.in-Some.ensures.pending;
-      parts = subst (λ (xs : List ℕ). PartsUnknown g.S.Store.view g.T.Tape.view c.args.now (record { store = base.store; loads = c.settle.new.self; tape = base.tape }) c.give_up_all.new.self.base c.args.self.now.connections c.give_up_all.new.self.connections (tasks_to_give_up xs)) is c.give_up_all.ensures.ran;
+      parts = subst (λ (xs : List ℕ). Parts g.S.Store.view g.T.Tape.view c.args.now (record { store = base.store; loads = c.settle.new.self; tape = base.tape }) c.give_up_all.new.self.base c.args.self.now.connections c.give_up_all.new.self.connections (tasks_to_give_up xs)) is c.give_up_all.ensures.ran;
     }

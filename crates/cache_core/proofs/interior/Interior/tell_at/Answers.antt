@@ -1,7 +1,7 @@
 use Rattle.std.proofs.Common.{ap, arith, ℕ, suc}
 use Rattle.audit_model.specs.Steps.{Deliver}
 use Rattle.cache_core.specs.Settled.{IsAmid}
-use Rattle.cache_core.proofs.Amid.{amid-least, can-run-of, only-parts, room-some, stepped, taken-stays, waits-here, waits-is}
+use Rattle.cache_core.proofs.Amid.{amid-least, can-run-of, room-some, stepped, taken-stays, waits-here, waits-is}
 use Rattle.cache_core.proofs.Spots.{out-at, replaced}
 use Rattle.cache_core.proofs.Touched.{leaves-others}
 use Rattle.cache_core.proofs.interior.Interior.tell_at.Goals as goal
@@ -32,7 +32,7 @@ returns g c =
     stepped g.S.Store.view g.T.Tape.view now old.base c.deliver.new.base old.connections c.put.new.self c.number_at-number.result c.args.index p (λ k. Deliver k c.args.outcome.now) _ c.number_at-number.ensures w c.sound.ensures
     (c.deliver.ensures.ran now (can-run-of g.S.Store.view g.T.Tape.view now old.base old.connections c.args.index c.take-connection.result taken c.requires.inside amid)) c.deliver.ensures.spare in
     record {
-      ran = λ now amid. only-parts g.S.Store.view g.T.Tape.view now old.base c.deliver.new.base old.connections _ _ (step now amid).ran;
+      ran = λ now amid. (step now amid).ran;
       amid = λ now lines amid. (step now (amid-least g.S.Store.view g.T.Tape.view now old.base old.connections (suc lines) 1 (omega arith) amid)).amid lines amid;
       spare = c.deliver.ensures.further;
       rest = record {

@@ -4,7 +4,7 @@ use Rattle.audit_model.specs.Belongs.{refusal_of}
 use Rattle.audit_model.specs.Places.{tasks_to_give_up}
 use Rattle.cache_commands.specs.Loads.Pending.{SameTaken, load_numbered, loads_pending}
 use Rattle.cache_core.specs.Settled.{IsAmid}
-use Rattle.cache_core.specs.Settling.{AreWaiting, Happens, RunsAgain, giving_up, waiting_on}
+use Rattle.cache_core.specs.Settling.{AreWaiting, Happens, HandsOut, giving_up, waiting_on}
 use Rattle.cache_core.specs.State.{NamespaceState, known_of_state, state_of}
 use Rattle.cache_core.specs.Turned.{RefusesBy}
 use Rattle.cache_lines.specs.Tape.Taped.{finishes}
@@ -64,7 +64,7 @@ finish-requires g c =
     let tape = g.T.Tape.view in
     let room = length (waiting_on c.args.load (under_way c.self.inside.interior.base.loads)) + length (waiting_on c.args.load (under_way c.self.inside.interior.base.loads)) in
     let sound = subst (λ (b : Base _ _). IsSoundStore (g.S.Store.view b.store)) (sym c.begin_give_up.ensures.rest) c.sound.ensures in
-    let p = (c.settle_give_up.ensures.ran.parts.ran sound.some sound.stands).0 in
+    let p = c.settle_give_up.ensures.ran.parts.ran sound.some sound.stands in
     written-begun p.steps (tape c.begin_give_up.new.base.tape) (tape c.settle_give_up.new.self.base.tape) p.kept (started-begun room (tape c.self.inside.interior.base.tape) (tape c.begin_give_up.new.base.tape) c.in-Ok.ensures.begun)
 
 pub returns-clause-turned : goal.returns-clause-turned
@@ -80,7 +80,7 @@ returns-clause-turned g c =
     let room = length (waiting_on load (under_way base.loads)) + length (waiting_on load (under_way base.loads)) in
     let now = c.max-now.result in
     let new_base = c.settle_give_up.new.self.base in
-    let r = subst (λ (b : Base _ _). RunsAgain view tape now load b new_base inside.interior.connections c.settle_give_up.new.self.connections tasks_to_give_up) c.begin_give_up.ensures.rest c.settle_give_up.ensures.ran in
+    let r = subst (λ (b : Base _ _). HandsOut view tape now load b new_base inside.interior.connections c.settle_give_up.new.self.connections tasks_to_give_up) c.begin_give_up.ensures.rest c.settle_give_up.ensures.ran in
     let goes = subst (λ (b : Base _ _). SameTaken b.loads new_base.loads) c.begin_give_up.ensures.rest c.settle_give_up.ensures.goes in
     let x = happens-given view tape base new_base r.left c.begin_give_up.new.base.tape c.finish.new.self inside.latest now load moment room inside.interior.connections c.settle_give_up.new.self.connections c.max-now.ensures c.in-Ok.ensures.begun r.left_is r.parts
     (c.finish.ensures ∙ ap (λ ns. option_map (finishes (giving_up load moment) None ns) (tape new_base.tape)) c.new.ensures)
@@ -98,7 +98,7 @@ invariant_of-self-2 g c =
     let a = given-admitted (view base.store).frame.config (loads_pending base.loads) load moment admitted in
     let room = length (waiting_on load (under_way base.loads)) + length (waiting_on load (under_way base.loads)) in
     let new_base = c.settle_give_up.new.self.base in
-    let r = subst (λ (b : Base _ _). RunsAgain view g.T.Tape.view c.max-now.result load b new_base inside.interior.connections c.settle_give_up.new.self.connections tasks_to_give_up) c.begin_give_up.ensures.rest c.settle_give_up.ensures.ran in
+    let r = subst (λ (b : Base _ _). HandsOut view g.T.Tape.view c.max-now.result load b new_base inside.interior.connections c.settle_give_up.new.self.connections tasks_to_give_up) c.begin_give_up.ensures.rest c.settle_give_up.ensures.ran in
     let goes = subst (λ (b : Base _ _). SameTaken b.loads new_base.loads) c.begin_give_up.ensures.rest c.settle_give_up.ensures.goes in
     let at_now = c.max-now.ensures in
     let x = happens-given view g.T.Tape.view base new_base r.left c.begin_give_up.new.base.tape c.finish.new.self inside.latest c.max-now.result load moment room inside.interior.connections c.settle_give_up.new.self.connections at_now c.in-Ok.ensures.begun r.left_is r.parts
