@@ -6,14 +6,15 @@ ghost use Rattle.cache_serve.specs.Asked.{give_up_input};
 ghost use Rattle.cache_serve.specs.Cutting.{IsShortPiece};
 ghost use Rattle.cache_serve.specs.Sitting.{Closes, Comes, Drops, DropsBy, DropsOne, GivesDue, Opens, SeatRests, SeatTakes, Settles, TakesIfGiven, closes-behind, none-short, tally, used-later};
 ghost use Rattle.cache_shared.specs.Events.{HasLateMoment, IsUnfitAnswer, is_of_outcome};
+ghost use Rattle.cache_shared.specs.Intakes.{input_in};
 ghost use Rattle.cache_shared.specs.Looked.{Owes};
 
 use crate::cutting::{length_of_cut, lines_after};
 use crate::devices::Teller;
 use crate::pausing::pause;
-use audit_model::{Bytes, Conn, Input, Instant, LoadId, Note, Outcome, Seq, ServiceError};
+use audit_model::{Bytes, Conn, Input, Instant, LoadId, Note, Outcome, ServiceError};
 use cache_run::{Given, Host, Loader, RunError};
-use cache_shared::{Seat, Seating, Shareable, SharedService};
+use cache_shared::{Intake, Seat, Seating, Shareable, SharedService};
 use cache_spaces::{Output, Owed};
 use std::alloc::{AllocError, Global};
 use std::sync::Wait;
@@ -26,7 +27,6 @@ const NOTES_AT_ONCE: usize = 64;
 #[derive(Drop)]
 pub struct Sitting<'a, L: Seating, C: Shareable, T: Teller, R: Wait> {
     rt: &'a R,
-    alloc: Global,
     shared: &'a SharedService<L, C>,
     teller: &'a mut T,
     notes: Vec<Note>,
@@ -48,7 +48,6 @@ impl<'a, L: Seating, C: Shareable, T: Teller, R: Wait> Sitting<'a, L, C, T, R> {
         let room = if teller.is_told() { NOTES_AT_ONCE } else { 0 };
         Ok(Sitting {
             rt,
-            alloc,
             shared,
             teller,
             notes: Vec::with_capacity(alloc, room)?,
@@ -86,26 +85,29 @@ impl<'a, L: Seating, C: Shareable, T: Teller, R: Wait> Sitting<'a, L, C, T, R> {
         Given { held, owed }
     }
 
-    /// Takes an input, and gives what the connection is owed afterwards, in one hold of the lock; then notes are reported.
+    /// Has an intake taken, and gives what the connection is owed afterwards, in one hold of the lock; then notes are reported.
     fn ask(
         &mut self,
         seat: &mut Seat<L>,
         conn: Conn,
-        input: Input,
+        intake: Intake<'_>,
         wants_loads: bool,
     ) -> Result<Given, ServiceError>
-        ensures taken { OnOk result (SeatTakes C.KEEPS input (tally seat.old) (tally seat.new)) }
+        ensures taken { OnOk result
+            (SeatTakes C.KEEPS (input_in intake.entry) (tally seat.old) (tally seat.new)) }
         ensures given { IfOk result (GivesDue L.configs C.spaces C.untaken conn wants_loads) }
         ensures rests { OnErr result (SeatRests (tally seat.old) (tally seat.new)) }
-        ensures late { IfErr result (λ e. e ≡ ServiceError.Moment → HasLateMoment input) }
-        ensures unfit { IfErr result (λ e. is_of_outcome e ≡ true → IsUnfitAnswer input) }
+        ensures late { IfErr result
+            (λ e. e ≡ ServiceError.Moment → HasLateMoment (input_in intake.entry)) }
+        ensures unfit { IfErr result
+            (λ e. is_of_outcome e ≡ true → IsUnfitAnswer (input_in intake.entry)) }
         ensures used_up { IfErr result
             (λ e. e ≡ ServiceError.UsedUp → seat.old.count ≡ 2 ^ 64 - 1) }
     {
         let Sitting { shared, notes, .. } = self;
-        let turn = match shared.turn(self.rt, seat, conn, input, wants_loads, notes) {
+        let turn = match shared.turn(self.rt, seat, conn, intake, wants_loads, notes) {
             Ok(turn) => turn,
-            Err(refusal) => return Err(refusal.error),
+            Err(refused) => return Err(refused.error),
         };
         self.tell_notes(conn.namespace);
         let is_held = matches!(turn.output, Output::Held);
@@ -146,7 +148,7 @@ impl<'a, L: Seating, C: Shareable, T: Teller, R: Wait> Sitting<'a, L, C, T, R> {
                 },
                 moment: Instant { nanos: moment },
             };
-            match self.ask(seat, conn, input, wants_loads) {
+            match self.ask(seat, conn, Intake::Input(input), wants_loads) {
                 Ok(given) => return Ok(Some(given)),
                 Err(ServiceError::OutOfMemory) => pause(self.rt),
                 Err(ServiceError::UsedUp) => return Err(RunError::UsedUp),
@@ -189,7 +191,7 @@ impl<'a, L: Seating, C: Shareable, T: Teller, R: Wait> Sitting<'a, L, C, T, R> {
             outcome,
             moment: Instant { nanos: moment },
         };
-        let error = match self.ask(seat, conn, input, wants_loads) {
+        let error = match self.ask(seat, conn, Intake::Input(input), wants_loads) {
             Ok(given) => return Ok(Some(given)),
             Err(error) => error,
         };
@@ -286,13 +288,12 @@ impl<L: Seating, C: Shareable, T: Teller, R: Wait> Host for Sitting<'_, L, C, T,
         piece: &[u8],
         moment: u64,
     ) -> Result<Option<Given>, RunError> {
-        let copy = Vec::from_slice(self.alloc, piece).map_err(|_| RunError::OutOfMemory)?;
-        let input = Input::Feed {
+        let intake = Intake::Piece {
             conn,
-            piece: Seq::from_vec(copy),
+            piece,
             moment: Instant { nanos: moment },
         };
-        match self.ask(place, conn, input, true) {
+        match self.ask(place, conn, intake, true) {
             Ok(given) => Ok(Some(given)),
             Err(ServiceError::Closed) => Ok(None),
             Err(error) => Err(error_of_refusal(error)),

@@ -13,6 +13,8 @@ mod inputs;
 #[cfg(test)]
 mod judging;
 #[cfg(test)]
+mod lending;
+#[cfg(test)]
 mod loaders;
 #[cfg(test)]
 mod meetings;
@@ -28,3 +30,5 @@ mod steps;
 mod tests;
 #[cfg(test)]
 mod waiting;
+#[cfg(test)]
+mod without_memory;

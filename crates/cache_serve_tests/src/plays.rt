@@ -7,9 +7,11 @@ use crate::crews::{Crew, Script, all_work, finish_at_last, follows};
 use crate::hosting::{Visit, is_visit_so};
 use crate::inputs::{make_live, make_recorded};
 use crate::judging::is_crew_right;
+use crate::lending::{Piece, lends_so, records_of};
 use crate::serving::{Row, is_journal_so, is_live_so, serves_so};
 use crate::steps::make_seats;
 use crate::waiting::is_answered;
+use crate::without_memory::first_sits;
 use audit_laws::Receipt;
 use cache_shared::{Finished, Seat, Seating, Shareable, SharedService};
 use cache_spaces::{RecordedService, Service};
@@ -30,6 +32,10 @@ pub enum Live<'a> {
     Host(&'a Visit<'a>),
     /// A connection that awaits what another thread answers.
     Await,
+    /// Two connections, one of which is lent its pieces.
+    Lend(&'a [Piece<'a>]),
+    /// A connection that is fed where it has room.
+    Feed,
 }
 
 /// What is played with seats of a shared form.
@@ -41,6 +47,8 @@ pub enum Seated<'a> {
     Crew(&'a Crew<'a>, usize),
     /// One seat, where memory may be refused.
     One(&'a Script<'a>),
+    /// Two connections, one of which is lent its pieces.
+    Lend(&'a [Piece<'a>]),
 }
 
 /// A shared form, on the second attempt if memory is refused.
@@ -73,10 +81,22 @@ where
     }
 }
 
+/// Whether a connection is fed where it has room.
+fn is_fed<L: Seating, C: Shareable, R: Wait>(
+    rt: &R,
+    alloc: Global,
+    shared: &SharedService<L, C>,
+) -> bool {
+    match make_seats(rt, alloc, shared, 1) {
+        Some(mut seats) => first_sits(rt, alloc, shared, seats.as_mut_slice()),
+        None => false,
+    }
+}
+
 /// How many seats a play wants.
 fn seats_of(play: Seated<'_>) -> usize {
     match play {
-        Seated::Serve(_) => 2,
+        Seated::Serve(_) | Seated::Lend(_) => 2,
         Seated::Crew(_, _) => 4,
         Seated::One(_) => 1,
     }
@@ -114,6 +134,7 @@ where
         Seated::Serve(row) => serves_so(rt, alloc, shared, seats, row),
         Seated::Crew(crew, _) => all_work(rt, alloc, shared, seats, crew),
         Seated::One(script) => first_follows(rt, alloc, shared, seats, script),
+        Seated::Lend(pieces) => lends_so(rt, alloc, shared, seats, pieces),
     }
 }
 
@@ -197,6 +218,8 @@ where
         Live::Serve(row) => is_served(&rt, alloc, shared, row),
         Live::Host(visit) => is_visit_so(rt, alloc, shared, visit),
         Live::Await => is_awaited(&rt, alloc, &shared),
+        Live::Lend(pieces) => leaves(&rt, alloc, shared, Seated::Lend(pieces)).is_some(),
+        Live::Feed => is_fed(&rt, alloc, &shared),
     }
 }
 
@@ -271,9 +294,10 @@ fn are_recorded<C: Shareable>(finished: Finished<C>) -> bool {
 /// Whether the journal of what is left is that of its play.
 fn is_left_so<C: Shareable>(alloc: Global, finished: Finished<C>, play: Seated<'_>) -> bool {
     match play {
-        Seated::Serve(_) => is_journal_so(alloc, finished),
+        Seated::Serve(_) => is_journal_so(alloc, finished, 5),
         Seated::Crew(crew, records) => is_crew_right(alloc, finished, crew, records),
         Seated::One(_) => are_recorded(finished),
+        Seated::Lend(pieces) => is_journal_so(alloc, finished, records_of(pieces)),
     }
 }
 

@@ -205,15 +205,15 @@ pub fn is_live_so(service: &Service, row: &Row<'_>) -> bool {
     service.loads_open(0) == Ok(0) && are_closed(service, row.closing)
 }
 
-/// Whether a journal has five records and is judged to obey.
-fn obeys(alloc: Global, journal: &Transcript) -> bool {
-    journal.records.len() == 5 && audit(alloc, &PLAIN, journal) == Verdict::Yes
+/// Whether a journal has so many records and is judged to obey.
+fn obeys(alloc: Global, journal: &Transcript, records: usize) -> bool {
+    journal.records.len() == records && audit(alloc, &PLAIN, journal) == Verdict::Yes
 }
 
 /// Whether the journal of what is left does, and there is no other one.
-pub fn is_journal_so<C: Shareable>(alloc: Global, finished: Finished<C>) -> bool {
+pub fn is_journal_so<C: Shareable>(alloc: Global, finished: Finished<C>, records: usize) -> bool {
     match finished.service.journal(0) {
-        Ok(journal) => obeys(alloc, journal) && has_one_journal(&finished.service),
+        Ok(journal) => obeys(alloc, journal, records) && has_one_journal(&finished.service),
         Err(_) => false,
     }
 }

@@ -1,10 +1,11 @@
 //! What has to come of plays.
 use crate::crews::{Crew, Script, Talk};
 use crate::hosting::Visit;
+use crate::lending::Piece;
 use crate::loaders::Hold;
 use crate::plays::{Live, Seated, over_live, over_recorded};
 use crate::serving::Row;
-use audit_model::Closing;
+use audit_model::{Closing, ServiceError};
 use cache_run::RunError;
 use std::alloc::Global;
 use std::net::{Net, TcpListener, TcpStream};
@@ -98,7 +99,7 @@ const ROWS: &[Row<'static>] = &[
 ];
 
 /// Whether a play comes out so over a service that keeps no journal, at the second try where memory is refused.
-fn is_so<R>(rt: R, alloc: Global, parts: u64, play: Live<'_>) -> bool
+pub fn is_so<R>(rt: R, alloc: Global, parts: u64, play: Live<'_>) -> bool
 where
     R: Net<Listener = TcpListener, Stream = TcpStream>
         + Threads
@@ -167,6 +168,82 @@ fn two_connections_are_recorded(rt: HostRuntime) {
 #[test]
 fn one_awaits_what_another_answers(rt: HostRuntime) {
     assert!(rt; is_so(rt, rt.alloc(), 3, Live::Await));
+}
+
+/// A piece that is taken.
+const TAKEN: Piece<'static> = Piece {
+    text: b"",
+    moment: 0,
+    refused: None,
+    replies: b"",
+    closing: None,
+    waits: false,
+};
+
+/// Pieces that end in a line, that are empty, that come too late, that close, and that come behind the closing.
+const CLOSING: &[Piece<'static>] = &[
+    Piece {
+        text: b"SET a - 1\nGET a\nGE",
+        replies: b"OK\nVAL 1\n",
+        ..TAKEN
+    },
+    TAKEN,
+    Piece {
+        text: b"T a\n",
+        replies: b"VAL 1\n",
+        ..TAKEN
+    },
+    Piece {
+        text: b"GET a\n",
+        moment: 1 << 63,
+        refused: Some(ServiceError::Moment),
+        ..TAKEN
+    },
+    Piece {
+        text: b"QUIT\nGET a\n",
+        replies: b"OK\n",
+        closing: Some(Closing::Quit),
+        ..TAKEN
+    },
+    Piece {
+        text: b"GET a\n",
+        refused: Some(ServiceError::Closed),
+        ..TAKEN
+    },
+];
+
+/// One behind which the connection waits for a load.
+const WAITING: &[Piece<'static>] = &[
+    Piece {
+        text: b"LOAD k\n",
+        waits: true,
+        ..TAKEN
+    },
+    Piece {
+        text: b"GET a\n",
+        waits: true,
+        ..TAKEN
+    },
+];
+
+/// Whether each of these pieces comes out so, lent and moved in.
+fn is_lent_so<R>(rt: R, alloc: Global, pieces: &[Piece<'_>]) -> bool
+where
+    R: Net<Listener = TcpListener, Stream = TcpStream>
+        + Threads
+        + Wait
+        + Clock
+        + Copy
+        + Send
+        + Sync
+        + 'static,
+{
+    is_so(rt, alloc, 2, Live::Lend(pieces)) && is_recorded_so(&rt, alloc, 2, Seated::Lend(pieces))
+}
+
+#[test]
+fn a_lent_piece_does_what_a_feed_does(rt: HostRuntime) {
+    assert!(rt; is_lent_so(rt, rt.alloc(), CLOSING) && is_lent_so(rt, rt.alloc(), WAITING));
 }
 
 /// One client after another, of whose values one is replaced.

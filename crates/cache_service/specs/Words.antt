@@ -3,6 +3,7 @@ pub use Rattle.audit_laws.specs.Receipts.Receipts.{AreOf, StandFrom}
 pub use Rattle.cache_run.specs.Runs.{ServesWhole, ServesPartly}
 pub use Rattle.cache_run.specs.Loading.{AddsNoLoads, loads_under_way_in}
 pub use Rattle.cache_spaces.specs.Services.{BareSpace, bare_tape, AreNewSpaces, blank_tape}
+pub use Rattle.cache_shared.specs.Intakes.{input_in}
 pub use Rattle.cache_shared.specs.Looked.{RefusesCopy}
 pub use Rattle.cache_spaces.specs.Calls.{At, InSpace, IsOpened, IsUnknown, RefusedFor, Refuses, ServesEvent, Settled, TakesLoads, TakesNotice, TakesOutput, Performs, RefusedInput}
 pub use Rattle.cache_spaces.specs.Journals.{IsJournalOf, IsSoOfEach, LeadsSo, journals_of, kept_by}

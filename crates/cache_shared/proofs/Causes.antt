@@ -16,9 +16,9 @@ use Rattle.audit_model.specs.declared.input.ServiceError.TheVariants as error
 use Rattle.cache_spaces.proofs.Reaching.{asked-is, event_of}
 use Rattle.cache_spaces.specs.Calls.{RefusedInput, Refuses, is_held_for, namespace_of}
 use Rattle.cache_spaces.specs.Spaces.{Shown, config_of, known_of}
-use Rattle.cache_spaces.specs.declared.stepping.Refusal.{Refusal}
 use Rattle.cache_shared.specs.Events.{HasLateMoment, IsUnfitAnswer, RefusesStep, is_of_outcome}
 use Rattle.cache_shared.specs.Looked.{HeldAtSomeMoment}
+use Rattle.cache_shared.specs.declared.intake.IntakeError.{IntakeError}
 
 -- ---- refusals one after another, the first of which applies
 
@@ -184,6 +184,6 @@ module _ {C : Type 0} (configs : List Config) (spaces : C → List Shown) (i : I
   unfit_held so = unfit_step i e count (spaces held.core) so held.fact
 
 -- a count is used up only at its end
-pub used_up_refused : {A : Type 0} (i : Input) (r : Result A Refusal) (count : ℕ) (spaces : List Shown) → IfErr r (λ refusal. RefusesStep i refusal.error count spaces) → IfErr r (λ refusal. refusal.error ≡ error.UsedUp → count ≡ 2 ^ 64 - 1)
+pub used_up_refused : {A : Type 0} (i : Input) (r : Result A IntakeError) (count : ℕ) (spaces : List Shown) → IfErr r (λ refused. RefusesStep i refused.error count spaces) → IfErr r (λ refused. refused.error ≡ error.UsedUp → count ≡ 2 ^ 64 - 1)
 used_up_refused i (Ok a) count spaces refused = tt
-used_up_refused i (Err refusal) count spaces refused = λ same. used_up_step i refusal.error count spaces same refused
+used_up_refused i (Err refused) count spaces cause = λ same. used_up_step i refused.error count spaces same cause

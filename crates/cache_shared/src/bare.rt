@@ -1,6 +1,6 @@
 //! The service that keeps no journal.
 use crate::shareable::Shareable;
-use audit_model::{Bytes, Closing, Conn, Input, LoadId, Note, ServiceError, Transcript};
+use audit_model::{Bytes, Closing, Conn, Input, Instant, LoadId, Note, ServiceError, Transcript};
 use cache_spaces::{Output, Owed, Refusal, Service};
 
 impl Shareable for Service {
@@ -21,6 +21,15 @@ impl Shareable for Service {
 
     fn step(&mut self, input: Input) -> Result<Output, Refusal> {
         Service::step(self, input)
+    }
+
+    fn step_feed(
+        &mut self,
+        conn: Conn,
+        piece: &[u8],
+        moment: Instant,
+    ) -> Result<Output, ServiceError> {
+        Service::step_feed(self, conn, piece, moment)
     }
 
     fn journal(&self, namespace: u64) -> Result<&Transcript, ServiceError> {

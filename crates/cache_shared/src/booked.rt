@@ -1,17 +1,19 @@
 //! What is under the lock.
 ghost use Rattle.std.specs.Prelude.{◌≡◌, ◌≢◌, ◌+◌, ◌-◌, ◌^◌, ◌≤◌, [], true, false, length, map, sum_by, vec_len, vec_capacity, IfOk, IfErr, OnOk, OnErr};
 ghost use Rattle.cache_shared.specs.Events.{IsLastNumber, RefusesStep, StandsAfter, TakesNothing};
+ghost use Rattle.cache_shared.specs.Intakes.{input_in};
 ghost use Rattle.cache_shared.specs.Looked.{HeldAtSomeMoment, RefusesCopy, WereOut, WereUntaken};
 ghost use Rattle.cache_shared.specs.Seats.{AgreeAll, Counts, GainsReceipt, SameReceipts};
 ghost use Rattle.cache_shared.specs.Taken.{MovesLoads, MovesReplies, TakesInput};
 ghost use Rattle.cache_spaces.specs.Calls.{Refuses};
 
+use crate::intake::{Intake, IntakeError};
 use crate::judging::agree;
-use crate::seat::{Seat, Seating, make_lists, namespace_of};
+use crate::seat::{Seat, Seating, make_lists};
 use crate::shareable::Shareable;
-use audit_laws::{Receipt, copy_input};
-use audit_model::{Bytes, Conn, Input, LoadId, ServiceError};
-use cache_spaces::{Output, Refusal};
+use audit_laws::Receipt;
+use audit_model::{Bytes, Conn, LoadId, ServiceError};
+use cache_spaces::Output;
 use std::alloc::Global;
 use std::sync::ledger::{Blank, Book, Share};
 
@@ -75,64 +77,64 @@ impl<L: Seating, C: Shareable> BookedService<L, C> {
     /// Takes an input for a seat. If it is accepted, the seat counts one more, and, if the service keeps journals, has one more receipt,
     /// of this input and its output.
     ///
-    /// A refused input is returned, and leaves no receipt and no count; then nothing has changed. In addition to the service's errors, the
+    /// A refused intake is returned, and leaves no receipt and no count; then nothing has changed. In addition to the service's errors, the
     /// call returns `OutOfMemory` if there is no memory for the receipt, and `UsedUp` if the seat's count is at 2^64 - 1.
-    pub fn step(
+    pub fn step<'a>(
         &mut self,
         alloc: Global,
         seat: &mut Seat<L>,
-        input: Input,
-    ) -> Result<Output, Refusal>
-        ensures taken { IfOk result (λ output. TakesInput C.spaces C.untaken C.untold input output
-            self.old.core self.new.core) }
+        intake: Intake<'a>,
+    ) -> Result<Output, IntakeError<'a>>
+        ensures taken { IfOk result (λ output. TakesInput C.spaces C.untaken C.untold
+            (input_in intake.entry) output self.old.core self.new.core) }
         ensures events { OnOk result (self.new.book.total ≡ self.old.book.total + 1) }
-        ensures counted { IfOk result (λ output. Counts C.KEEPS input output seat.old.count
-            seat.new.count seat.old.receipts.items seat.new.receipts.items) }
+        ensures counted { IfOk result (λ output. Counts C.KEEPS (input_in intake.entry) output
+            seat.old.count seat.new.count seat.old.receipts.items seat.new.receipts.items) }
         ensures receipt { C.KEEPS ≡ true
             → IfOk result (λ output. GainsReceipt (C.journals self.new.core) seat.old.receipts.items
-            seat.new.receipts.items input output) }
-        ensures refused { IfErr result (λ refusal. RefusesStep input refusal.error seat.old.count
-            (C.spaces self.old.core)) }
+            seat.new.receipts.items (input_in intake.entry) output) }
+        ensures refused { IfErr result (λ refused. RefusesStep (input_in intake.entry) refused.error
+            seat.old.count (C.spaces self.old.core)) }
         ensures used_up { IfErr result
-            (λ refusal. refusal.error ≡ ServiceError.UsedUp → seat.old.count ≡ 2 ^ 64 - 1) }
+            (λ refused. refused.error ≡ ServiceError.UsedUp → seat.old.count ≡ 2 ^ 64 - 1) }
         ensures unchanged { OnErr result
             (TakesNothing self.old.core self.new.core self.old.book.total self.new.book.total
             × (seat.new.count ≡ seat.old.count)
             × SameReceipts seat.old.receipts.items seat.new.receipts.items) }
-        ensures back { IfErr result (λ refusal. refusal.input ≡ input) }
+        ensures back { IfErr result (λ refused. refused.intake ≡ intake.entry) }
     {
         if C::KEEPS {
-            return self.step_kept(alloc, seat, input);
+            return self.step_kept(alloc, seat, intake);
         }
         let Seat { share, count, .. } = seat;
-        self.count_one(share, count, input)
+        self.count_one(share, count, intake)
     }
 
     /// Takes an input for a seat, which counts it and has a receipt of it. The receipt's room and the copy of the input are made first.
-    fn step_kept(
+    fn step_kept<'a>(
         &mut self,
         alloc: Global,
         seat: &mut Seat<L>,
-        input: Input,
-    ) -> Result<Output, Refusal>
+        intake: Intake<'a>,
+    ) -> Result<Output, IntakeError<'a>>
         requires { C.KEEPS ≡ true }
-        ensures taken { IfOk result (λ output. TakesInput C.spaces C.untaken C.untold input output
-            self.old.core self.new.core) }
+        ensures taken { IfOk result (λ output. TakesInput C.spaces C.untaken C.untold
+            (input_in intake.entry) output self.old.core self.new.core) }
         ensures count { OnOk result ((self.new.book.total ≡ self.old.book.total + 1)
             × (seat.new.count ≡ seat.old.count + 1)) }
         ensures receipt { IfOk result (λ output. GainsReceipt (C.journals self.new.core)
-            seat.old.receipts.items seat.new.receipts.items input output) }
-        ensures refused { IfErr result (λ refusal. RefusesStep input refusal.error seat.old.count
-            (C.spaces self.old.core)) }
+            seat.old.receipts.items seat.new.receipts.items (input_in intake.entry) output) }
+        ensures refused { IfErr result (λ refused. RefusesStep (input_in intake.entry) refused.error
+            seat.old.count (C.spaces self.old.core)) }
         ensures unchanged { OnErr result
             (TakesNothing self.old.core self.new.core self.old.book.total self.new.book.total
             × (seat.new.count ≡ seat.old.count)
             × SameReceipts seat.old.receipts.items seat.new.receipts.items) }
-        ensures back { IfErr result (λ refusal. refusal.input ≡ input) }
+        ensures back { IfErr result (λ refused. refused.intake ≡ intake.entry) }
     {
-        let namespace = namespace_of(&input);
+        let namespace = intake.namespace();
         if let Err(error) = self.core.journal(namespace) {
-            return Err(Refusal { error, input });
+            return Err(IntakeError { error, intake });
         }
         let Seat {
             share,
@@ -140,16 +142,16 @@ impl<L: Seating, C: Shareable> BookedService<L, C> {
             receipts,
         } = seat;
         let Ok(()) = make_lists(alloc, receipts, namespace as usize) else {
-            return Err(Refusal::new(ServiceError::OutOfMemory, input));
+            return Err(IntakeError::new(ServiceError::OutOfMemory, intake));
         };
         let own = &mut receipts[namespace as usize];
         let Ok(()) = own.reserve(1) else {
-            return Err(Refusal::new(ServiceError::OutOfMemory, input));
+            return Err(IntakeError::new(ServiceError::OutOfMemory, intake));
         };
-        let Ok(copy) = copy_input(alloc, &input) else {
-            return Err(Refusal::new(ServiceError::OutOfMemory, input));
+        let Ok(copy) = intake.copy(alloc) else {
+            return Err(IntakeError::new(ServiceError::OutOfMemory, intake));
         };
-        let output = self.count_one(share, count, input)?;
+        let output = self.count_one(share, count, intake)?;
         own.push_reserved(Receipt {
             namespace,
             number: self.last_number(namespace),
@@ -168,30 +170,30 @@ impl<L: Seating, C: Shareable> BookedService<L, C> {
     }
 
     /// Takes an input, and counts it on the share.
-    fn count_one(
+    fn count_one<'a>(
         &mut self,
         share: &mut Share<L>,
         count: &mut u64,
-        input: Input,
-    ) -> Result<Output, Refusal>
+        intake: Intake<'a>,
+    ) -> Result<Output, IntakeError<'a>>
         requires { (share.old.parts ≡ 1) × (share.old.amount ≡ count.old) }
         ensures share { (share.new.parts ≡ 1) × (share.new.amount ≡ count.new) }
-        ensures taken { IfOk result (λ output. TakesInput C.spaces C.untaken C.untold input output
-            self.old.core self.new.core) }
+        ensures taken { IfOk result (λ output. TakesInput C.spaces C.untaken C.untold
+            (input_in intake.entry) output self.old.core self.new.core) }
         ensures count { OnOk result
             ((self.new.book.total ≡ self.old.book.total + 1) × (count.new ≡ count.old + 1)) }
-        ensures refused { IfErr result (λ refusal. RefusesStep input refusal.error count.old
-            (C.spaces self.old.core)) }
+        ensures refused { IfErr result (λ refused. RefusesStep (input_in intake.entry) refused.error
+            count.old (C.spaces self.old.core)) }
         ensures unchanged { OnErr result
             (TakesNothing self.old.core self.new.core self.old.book.total self.new.book.total
             × (count.new ≡ count.old)) }
-        ensures back { IfErr result (λ refusal. refusal.input ≡ input) }
+        ensures back { IfErr result (λ refused. refused.intake ≡ intake.entry) }
     {
         let BookedService { core, book, .. } = self;
         let Some(next) = count.checked_add(1) else {
-            return Err(Refusal::new(ServiceError::UsedUp, input));
+            return Err(IntakeError::new(ServiceError::UsedUp, intake));
         };
-        let output = core.step(input)?;
+        let output = intake.pass(core)?;
         book.add(share, 1);
         *count = next;
         Ok(output)

@@ -3,6 +3,7 @@
 
 mod bare;
 mod booked;
+mod intake;
 mod judging;
 mod recorded;
 mod seat;
@@ -12,6 +13,7 @@ mod turning;
 
 pub use booked::{BookedService, Finished};
 pub use cache_spaces::Owed;
+pub use intake::{Intake, IntakeError};
 pub use seat::{Seat, Seating};
 pub use shareable::Shareable;
 pub use shared::SharedService;

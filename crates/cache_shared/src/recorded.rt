@@ -9,7 +9,7 @@ ghost use Rattle.cache_spaces.specs.Calls.{InSpace, IsUnknown, Refuses};
 ghost use Rattle.cache_spaces.specs.Recorded.{TakesNote, TakesReplies, untaken_in, untold_in};
 
 use crate::shareable::Shareable;
-use audit_model::{Bytes, Closing, Conn, Input, LoadId, Note, ServiceError, Transcript};
+use audit_model::{Bytes, Closing, Conn, Input, Instant, LoadId, Note, ServiceError, Transcript};
 use cache_spaces::{Output, Owed, RecordedService, Refusal, copy_note};
 use std::alloc::{AllocError, Global};
 
@@ -32,6 +32,15 @@ impl Shareable for RecordedService {
 
     fn step(&mut self, input: Input) -> Result<Output, Refusal> {
         RecordedService::step(self, input)
+    }
+
+    fn step_feed(
+        &mut self,
+        conn: Conn,
+        piece: &[u8],
+        moment: Instant,
+    ) -> Result<Output, ServiceError> {
+        RecordedService::step_feed(self, conn, piece, moment)
     }
 
     fn journal(&self, namespace: u64) -> Result<&Transcript, ServiceError> {

@@ -2,10 +2,8 @@
 ghost use Rattle.std.specs.Prelude.{◌≡◌, ℕ, ◌<◌, List, [], vec_len, OnOk};
 ghost use Rattle.audit_model.specs.declared.config.Config.{Config};
 ghost use Rattle.cache_shared.specs.Seats.{SameReceipts, receipts_at};
-ghost use Rattle.cache_spaces.specs.Calls.{namespace_of};
 
 use audit_laws::Receipt;
-use audit_model::Input;
 use std::alloc::{AllocError, Global};
 use std::marker::Brand;
 use std::sync::ledger::{Ledger, Share};
@@ -68,15 +66,4 @@ pub fn make_lists(
         lists.push(Vec::new(alloc))?;
     }
     Ok(())
-}
-
-/// Returns the namespace that an input names.
-pub fn namespace_of(input: &Input) -> u64
-    ensures { result ≡ namespace_of input.now }
-{
-    match input {
-        Input::Open { namespace } => *namespace,
-        Input::Close { conn } | Input::Feed { conn, .. } => conn.namespace,
-        Input::Answer { load, .. } | Input::GiveUp { load, .. } => load.namespace,
-    }
 }

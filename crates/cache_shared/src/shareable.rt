@@ -2,6 +2,7 @@
 ghost use Rattle.std.specs.Prelude.{◌≡◌, ℕ, ◌≤◌, Bool, true, List, Some, length, IfOk, IfErr, OnOk, OnErr};
 ghost use Rattle.std.specs.List.{slice_get};
 ghost use Rattle.audit_model.specs.declared.input.Conn.{Conn};
+ghost use Rattle.audit_model.specs.declared.input.Input.TheVariants as input;
 ghost use Rattle.audit_model.specs.declared.transcript.Note.{Note as Told};
 ghost use Rattle.audit_model.specs.declared.transcript.Transcript.{Transcript};
 ghost use Rattle.cache_shared.specs.Events.{CountsRecord, KeepsStanding};
@@ -10,7 +11,7 @@ ghost use Rattle.cache_shared.specs.Taken.{KeepsNotes, MovesLoads, MovesNote, Mo
 ghost use Rattle.cache_spaces.specs.Calls.{InSpace, IsUnknown, Refuses, RefusedInput, namespace_of};
 ghost use Rattle.cache_spaces.specs.Spaces.{Shown, closing_of, is_waiting_for};
 
-use audit_model::{Bytes, Closing, Conn, Input, LoadId, Note, ServiceError, Transcript};
+use audit_model::{Bytes, Closing, Conn, Input, Instant, LoadId, Note, ServiceError, Transcript};
 use cache_spaces::{Output, Owed, Refusal};
 
 /// The service under the lock of a `SharedService`: a `Service` or a `RecordedService`. Taking replies, loads and notes is not an event.
@@ -45,6 +46,24 @@ pub trait Shareable: Drop {
             refusal.error (RefusedInput input refusal.error)) }
         ensures unchanged { OnErr result (self.new ≡ self.old) }
         ensures back { IfErr result (λ refusal. refusal.input ≡ input) };
+
+    /// Takes a piece of a connection's bytes at a moment, like `step` with an `Input::Feed`. The piece is only lent: a service that keeps
+    /// no journals does not copy it.
+    ///
+    /// Returns the errors of `Service::feed`; then nothing has changed.
+    fn step_feed(
+        &mut self,
+        conn: Conn,
+        piece: &[u8],
+        moment: Instant,
+    ) -> Result<Output, ServiceError>
+        ensures taken { IfOk result (λ output. TakesInput spaces untaken untold
+            (input.Feed conn piece.now moment) output self.old self.new) }
+        ensures one { KEEPS ≡ true
+            → OnOk result (CountsRecord (journals self.old) (journals self.new)) }
+        ensures refused { IfErr result (λ e. Refuses (spaces self.old) conn.namespace e
+            (RefusedInput (input.Feed conn piece.now moment) e)) }
+        ensures unchanged { OnErr result (self.new ≡ self.old) };
 
     /// Returns the journal of a namespace: a record for each input that it accepted. Returns `NoNamespace` if there is no such namespace,
     /// or the service keeps no journals.

@@ -2,6 +2,7 @@
 ghost use Rattle.std.specs.Prelude.{◌≡◌, ◌≤◌, ◌-◌, ◌^◌, [], length, map, sum_by, IfOk, IfErr, IsSome, OnErr};
 ghost use Rattle.std.specs.Arc.{arc_value};
 ghost use Rattle.cache_shared.specs.Events.{RefusesStep, StandsAfter};
+ghost use Rattle.cache_shared.specs.Intakes.{input_in};
 ghost use Rattle.cache_shared.specs.Looked.{HappenedAtSomeMoment, HeldAtSomeMoment, Owes, WasOldestNote, WereMoved, RefusesCopy, WereOut, WereUntaken};
 ghost use Rattle.cache_shared.specs.Seats.{AgreeAll, Counts, SameReceipts};
 ghost use Rattle.cache_shared.specs.Taken.{MovesAll, MovesLoads, MovesNote, MovesReplies, TakesInput, TakesInputWhole};
@@ -9,6 +10,7 @@ ghost use Rattle.cache_spaces.specs.Calls.{InSpace, IsUnknown, Refuses};
 ghost use Rattle.cache_spaces.specs.Spaces.{closing_of, is_waiting_for};
 
 use crate::booked::{BookedService, Finished};
+use crate::intake::{Intake, IntakeError};
 use crate::seat::{Seat, Seating};
 use crate::shareable::Shareable;
 use crate::turning::Turn;
@@ -108,9 +110,16 @@ impl<L: Seating, C: Shareable> SharedService<L, C> {
             (λ refusal. refusal.error ≡ ServiceError.UsedUp → seat.old.count ≡ 2 ^ 64 - 1) }
     {
         let inner = self.inner();
-        let taken = inner.booked.lock(rt).step(self.alloc, seat, input);
+        let intake = Intake::Input(input);
+        let taken = inner.booked.lock(rt).step(self.alloc, seat, intake);
         inner.changed.notify_all();
-        taken
+        match taken {
+            Ok(output) => Ok(output),
+            Err(IntakeError { error, intake }) => match intake {
+                Intake::Input(input) => Err(Refusal { error, input }),
+                Intake::Piece { .. } => unreachable!(),
+            },
+        }
     }
 
     /// Returns the service with each seat's receipts, if this is the last clone, all seats that were made are passed, and there is enough
@@ -158,41 +167,45 @@ impl<L: Seating, C: Shareable> SharedService<L, C> {
         self.inner().booked.lock(rt).take_output(conn)
     }
 
-    /// Takes one input for a seat, like `step`, and moves out what a connection is owed afterwards, in the same hold of the lock: its
-    /// replies, the loads of its namespace that went out, if requested, why it is closed and whether it waits. The namespace's oldest notes
-    /// are appended to those given, as many as there is room for.
+    /// Takes one input for a seat, like `step`, or a piece of a connection's bytes that is only lent, and moves out what a connection is
+    /// owed afterwards, in the same hold of the lock: its replies, the loads of its namespace that went out, if requested, why it is closed
+    /// and whether it waits. The namespace's oldest notes are appended to those given, as many as there is room for.
     ///
-    /// The call returns the errors of `step`; then nothing has changed.
-    pub fn turn(
+    /// The call returns the errors of `step`, and what was refused; then nothing has changed.
+    /// ```
+    /// let piece = Intake::Piece { conn, piece: &buffer[..count], moment };
+    /// let turn = shared.turn(rt, &mut seat, conn, piece, true, &mut notes)?;
+    /// ```
+    pub fn turn<'a>(
         &self,
         rt: &impl Wait,
         seat: &mut Seat<L>,
         conn: Conn,
-        input: Input,
+        intake: Intake<'a>,
         wants_loads: bool,
         notes: &mut Vec<Note>,
-    ) -> Result<Turn, Refusal>
-        ensures counted { IfOk result (λ turn. Counts C.KEEPS input turn.output seat.old.count
-            seat.new.count seat.old.receipts.items seat.new.receipts.items) }
+    ) -> Result<Turn, IntakeError<'a>>
+        ensures counted { IfOk result (λ turn. Counts C.KEEPS (input_in intake.entry) turn.output
+            seat.old.count seat.new.count seat.old.receipts.items seat.new.receipts.items) }
         ensures owed { IfOk result
             (λ turn. Owes L.configs C.spaces C.untaken conn wants_loads turn.owed) }
-        ensures back { IfErr result (λ refusal. refusal.input ≡ input) }
+        ensures back { IfErr result (λ refused. refused.intake ≡ intake.entry) }
         ensures unchanged { OnErr result ((seat.new.count ≡ seat.old.count)
             × SameReceipts seat.old.receipts.items seat.new.receipts.items
             × (notes.new ≡ notes.old)) }
         ensures taken { IfOk result (λ turn. HappenedAtSomeMoment L.configs C.spaces
-            (λ old new. TakesInputWhole C.spaces C.untaken C.untold old new conn input turn
-            notes.old.items notes.new.items)) }
-        ensures refused { IfErr result (λ refusal. HeldAtSomeMoment L.configs C.spaces
-            (RefusesStep input refusal.error seat.old.count)) }
+            (λ old new. TakesInputWhole C.spaces C.untaken C.untold old new conn
+            (input_in intake.entry) turn notes.old.items notes.new.items)) }
+        ensures refused { IfErr result (λ refused. HeldAtSomeMoment L.configs C.spaces
+            (RefusesStep (input_in intake.entry) refused.error seat.old.count)) }
         ensures used_up { IfErr result
-            (λ refusal. refusal.error ≡ ServiceError.UsedUp → seat.old.count ≡ 2 ^ 64 - 1) }
+            (λ refused. refused.error ≡ ServiceError.UsedUp → seat.old.count ≡ 2 ^ 64 - 1) }
         ensures moved { WereMoved L.configs C.spaces C.untold conn.namespace notes.old.items
             notes.new.items }
     {
         let inner = self.inner();
         let mut guard = inner.booked.lock(rt);
-        let turn = guard.turn(self.alloc, seat, conn, input, wants_loads, notes);
+        let turn = guard.turn(self.alloc, seat, conn, intake, wants_loads, notes);
         drop(guard);
         inner.changed.notify_all();
         turn

@@ -1,59 +1,62 @@
-//! Turns: an input, and everything that its connection is owed afterwards, in one hold of the lock.
+//! Turns: an intake, and everything that its connection is owed afterwards, in one hold of the lock.
 ghost use Rattle.std.specs.Prelude.{◌≡◌, ◌⊎◌, ◌-◌, ◌^◌, [], IfOk, IfErr, OnOk, OnErr, vec_len, vec_capacity};
 ghost use Rattle.cache_shared.specs.Events.{RefusesStep, TakesNothing};
+ghost use Rattle.cache_shared.specs.Intakes.{input_in};
 ghost use Rattle.cache_shared.specs.Looked.{HeldAtSomeMoment, MovesNotes, Owes, WereMoved};
 ghost use Rattle.cache_shared.specs.Seats.{Counts, SameReceipts};
 ghost use Rattle.cache_shared.specs.Taken.{MovesAll, MovesNotesOf, TakesInputWhole};
 ghost use Rattle.cache_spaces.specs.Calls.{Refuses};
 
 use crate::booked::BookedService;
+use crate::intake::{Intake, IntakeError};
 use crate::seat::{Seat, Seating};
 use crate::shareable::Shareable;
-use audit_model::{Conn, Input, Note, ServiceError};
-use cache_spaces::{Output, Owed, Refusal};
+use audit_model::{Conn, Note, ServiceError};
+use cache_spaces::{Output, Owed};
 use std::alloc::Global;
 
 /// The result of a turn.
 #[derive(Drop)]
 pub struct Turn {
-    /// The output of the input.
+    /// The output of what was taken in.
     pub output: Output,
     /// What the connection is owed afterwards.
     pub owed: Owed,
 }
 
 impl<L: Seating, C: Shareable> BookedService<L, C> {
-    /// Takes an input for a seat, like `step`, and moves out what a connection is owed afterwards, and its namespace's oldest notes, as
+    /// Takes an intake for a seat, like `step`, and moves out what a connection is owed afterwards, and its namespace's oldest notes, as
     /// many as there is room for. Returns the errors of `step`; then nothing has changed.
-    pub fn turn(
+    pub fn turn<'a>(
         &mut self,
         alloc: Global,
         seat: &mut Seat<L>,
         conn: Conn,
-        input: Input,
+        intake: Intake<'a>,
         wants_loads: bool,
         notes: &mut Vec<Note>,
-    ) -> Result<Turn, Refusal>
-        ensures counted { IfOk result (λ turn. Counts C.KEEPS input turn.output seat.old.count
-            seat.new.count seat.old.receipts.items seat.new.receipts.items) }
+    ) -> Result<Turn, IntakeError<'a>>
+        ensures counted { IfOk result (λ turn. Counts C.KEEPS (input_in intake.entry) turn.output
+            seat.old.count seat.new.count seat.old.receipts.items seat.new.receipts.items) }
         ensures taken { IfOk result (λ turn. TakesInputWhole C.spaces C.untaken C.untold
-            self.old.core self.new.core conn input turn notes.old.items notes.new.items) }
+            self.old.core self.new.core conn (input_in intake.entry) turn notes.old.items
+            notes.new.items) }
         ensures owed { IfOk result
             (λ turn. Owes L.configs C.spaces C.untaken conn wants_loads turn.owed) }
-        ensures refused { IfErr result (λ refusal. RefusesStep input refusal.error seat.old.count
-            (C.spaces self.old.core)) }
+        ensures refused { IfErr result (λ refused. RefusesStep (input_in intake.entry) refused.error
+            seat.old.count (C.spaces self.old.core)) }
         ensures used_up { IfErr result
-            (λ refusal. refusal.error ≡ ServiceError.UsedUp → seat.old.count ≡ 2 ^ 64 - 1) }
+            (λ refused. refused.error ≡ ServiceError.UsedUp → seat.old.count ≡ 2 ^ 64 - 1) }
         ensures unchanged { OnErr result
             (TakesNothing self.old.core self.new.core self.old.book.total self.new.book.total
             × (seat.new.count ≡ seat.old.count)
             × SameReceipts seat.old.receipts.items seat.new.receipts.items
             × (notes.new ≡ notes.old)) }
-        ensures back { IfErr result (λ refusal. refusal.input ≡ input) }
+        ensures back { IfErr result (λ refused. refused.intake ≡ intake.entry) }
         ensures moved { WereMoved L.configs C.spaces C.untold conn.namespace notes.old.items
             notes.new.items }
     {
-        let output = self.step(alloc, seat, input)?;
+        let output = self.step(alloc, seat, intake)?;
         let owed = self.take_owed(conn, wants_loads, notes);
         Ok(Turn { output, owed })
     }

@@ -2,7 +2,7 @@
 use Rattle.std.proofs.Common.{◌≡◌, ◌≢◌, ℕ, zero, suc, ◌+◌, ◌==◌, List, [], ◌∷◌, ◌++◌, length, get_or, drop, Some, refl, sym, ap, ◌∙◌, subst, inl, inr, arith, ◌<◌, ◌≤◌, Bool, true, false, map, ◌⊎◌, Result, Ok, Err, IfOk, OnErr, OnOk, if◌then◌else◌, slice_set, unwrap_or, Option, None}
 use Rattle.std.specs.List.{flat_map, slice_get}
 use Rattle.std.specs.Option.{option_map, option_map_or}
-use Rattle.std.proofs.Math.Logic.{∥∥₁_elim}
+use Rattle.std.proofs.Math.Logic.{∥∥₁_elim, ∥∥₁_map}
 use Rattle.std.proofs.Math.Seq.{drop-append_seam}
 use Rattle.std.proofs.Props.{props}
 use Rattle.std.proofs.lemmas.Bool.{cases_eq, eq-eqb, ne_eqb, and_parts, leb-true, ltb-true}
@@ -14,12 +14,12 @@ use Rattle.audit_model.specs.declared.input.Input.{Input}
 use Rattle.audit_model.specs.declared.transcript.Record.{Record}
 use Rattle.audit_model.specs.declared.transcript.Transcript.{Transcript}
 use Rattle.cache_spaces.specs.Calls.{At, InSpace, IsOpened, Performs, namespace_of, PerformsFrom}
-use Rattle.cache_spaces.specs.Journals.{journals_of, kept_by}
+use Rattle.cache_spaces.specs.Journals.{IsJournalOf, IsSoOfEach, journals_of, kept_by}
 use Rattle.cache_spaces.specs.Cursors.{notes_from, IsPlaceIn, Cursor, taken_through, cursor_of, records_at, replies_for, reply_for}
 use Rattle.cache_spaces.specs.Played.{WerePlayed, journal_of}
 use Rattle.cache_spaces.specs.Recorded.{GainsRecord, ReadsJournals, ReadsWithin, Recorded, cursor_in, gained_in, records_in, AreAtStart, HaveCursors, KeepsTaken, recorded_of}
 use Rattle.cache_spaces.specs.Spaces.{Space, StandsFor}
-use Rattle.cache_spaces.proofs.Journaling.{journal-at, were-at}
+use Rattle.cache_spaces.proofs.Journaling.{journal-at, step-length, were-at, were-journals, were-on}
 use Rattle.cache_spaces.proofs.Reading.{notes-added, place-added, same-read, same-seen}
 use Rattle.cache_spaces.proofs.Placing.{at-is, at-others}
 use Rattle.cache_lines.specs.Tape.Taped.{Taped, with_entry}
@@ -346,6 +346,33 @@ step-have i old new read (Err e) none played a same have = subst (λ (spaces : L
 pub same-step : (old new : List (Space Taped)) (read : List Cursors) {A E : Type 0} (r : Result A E) → OnErr r (new ≡ old) → OnErr r (recorded_of new read ≡ recorded_of old read)
 same-step old new read (Ok a) same = tt
 same-step old new read (Err e) same = ap (λ (spaces : List (Space Taped)). recorded_of spaces read) same
+
+-- what a step that opens no connection leaves of a recording service, whether it is refused or not
+module _ (i : Input) (old new : List (Space Taped)) (read : List Cursors) (was : Recorded) (seen : recorded_of old read ≡ was) {E : Type 0} (r : Result Output E) where
+  pub record Stepped : Type 0 where
+    pub played : ∥ WerePlayed new ∥₁
+    pub many : length new ≡ length old
+    pub reads : ReadsJournals (recorded_of new read)
+    pub have : HaveCursors new read
+    pub performed : IfOk r (λ output. At was.spaces new (namespace_of i) (Performs kept_by i output))
+    pub gained : OnOk r (GainsRecord (namespace_of i) was (recorded_of new read))
+    pub cursors : KeepsTaken was (recorded_of new read)
+    pub unchanged : OnErr r (recorded_of new read ≡ was)
+    pub journals : IsSoOfEach IsJournalOf new
+
+  pub stepped : opened_by i ≡ 0 → IfOk r (λ output. At old new (namespace_of i) (Performs kept_by i output)) → OnErr r (new ≡ old) → ∥ WerePlayed old ∥₁ → ReadsJournals (recorded_of old read) → HaveCursors old read → Stepped
+  stepped none performed unchanged played reads have =
+      let later = ∥∥₁_map played (were-on i old new r performed unchanged) in record {
+        played = later;
+        many = step-length (namespace_of i) old new r (Performs kept_by i) performed unchanged;
+        reads = step-reads i old new (map cursor_of read) r played performed unchanged reads;
+        have = step-have i old new read r none played performed unchanged have;
+        performed = subst (λ (s : Recorded). IfOk r (λ output. At s.spaces new (namespace_of i) (Performs kept_by i output))) seen performed;
+        gained = subst (λ (s : Recorded). OnOk r (GainsRecord (namespace_of i) s (recorded_of new read))) seen (step-gains i old new (map cursor_of read) r played reads performed);
+        cursors = subst (λ (s : Recorded). KeepsTaken s (recorded_of new read)) seen (λ k. (λ number. refl, refl));
+        unchanged = subst (λ (s : Recorded). OnErr r (recorded_of new read ≡ s)) seen (same-step old new read r unchanged);
+        journals = were-journals new later;
+      }
 
 pub loads-have : {A E : Type 0} (n : ℕ) (old new : List (Space Taped)) (read : List Cursors) (r : Result A E) (Loads : A → Space Taped → Space Taped → Type 0) → ((x : A) (was is : Space Taped) → Loads x was is → is ≡ record was { outgoing = [] })
     → IfOk r (λ x. At old new n (Loads x)) → OnErr r (new ≡ old) → HaveCursors old read → HaveCursors new read

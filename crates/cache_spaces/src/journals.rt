@@ -111,6 +111,30 @@ impl RecordedService {
         }
     }
 
+    /// Takes a piece of a connection's bytes at a moment, like `step` with an `Input::Feed`, and returns the output that its record
+    /// describes. The piece is only lent: its record has a copy.
+    ///
+    /// Returns the errors of `Core::feed`; then nothing has changed, and no record is added.
+    pub fn step_feed(
+        &mut self,
+        conn: Conn,
+        piece: &[u8],
+        moment: Instant,
+    ) -> Result<Output, ServiceError>
+        ensures performed { IfOk result (λ output. At self.old.spaces self.new.spaces conn.namespace
+            (Performs kept_by (input.Feed conn piece.now moment) output)) }
+        // the replies and notes, and nothing else, were added to what is left to be taken
+        ensures gained { OnOk result (GainsRecord conn.namespace self.old self.new) }
+        ensures cursors { KeepsTaken self.old self.new }
+        ensures refused { IfErr result (λ e. Refuses self.old.spaces conn.namespace e
+            (RefusedInput (input.Feed conn piece.now moment) e)) }
+        ensures unchanged { OnErr result (self.new ≡ self.old) }
+        // the journals obey, and each leads to where its namespace stands
+        ensures journals { IsSoOfEach IsJournalOf self.new.spaces }
+    {
+        self.core.step_feed(conn, piece, moment)
+    }
+
     /// Opens a connection, of whose replies none was taken.
     fn open(&mut self, namespace: u64) -> Result<Output, Refusal>
         ensures performed { IfOk result (λ output. At self.old.spaces self.new.spaces namespace

@@ -6,7 +6,7 @@ ghost use Rattle.cache_spaces.specs.Journals.{IsOneFurther};
 
 use crate::service::{AnswerError, Core, Fed};
 use audit_laws::Output;
-use audit_model::{Input, Instant, LoadId, Outcome, ServiceError};
+use audit_model::{Conn, Input, Instant, LoadId, Outcome, ServiceError};
 use cache_lines::Tape;
 use thiserror::Error;
 
@@ -65,6 +65,35 @@ impl<T: Tape> Core<T> {
         }
     }
 
+    /// Takes a piece of a connection's bytes at a moment, and returns the output of its event, like `step` with an `Input::Feed`. The piece
+    /// is only lent: it is copied into its record, if one is kept, and what is left of it behind its last line into the connection's
+    /// unread bytes.
+    ///
+    /// Returns the errors of `feed`; then nothing has changed.
+    /// ```
+    /// let output = service.step_feed(conn, &buffer[..count], moment)?;
+    /// ```
+    pub fn step_feed(
+        &mut self,
+        conn: Conn,
+        piece: &[u8],
+        moment: Instant,
+    ) -> Result<Output, ServiceError>
+        ensures performed { IfOk result (λ output. At self.old self.new conn.namespace
+            (Performs T.view (input.Feed conn piece.now moment) output)) }
+        ensures refused { IfErr result (λ e. Refuses self.old conn.namespace e
+            (RefusedInput (input.Feed conn piece.now moment) e)) }
+        ensures unchanged { OnErr result (self.new ≡ self.old) }
+        // journals with one more record lead here, whether they are kept or not
+        ensures reached { OnOk result (IsOneFurther self.old self.new) }
+    {
+        match self.feed(conn, piece, moment) {
+            Ok(Fed::All) => Ok(Output::All),
+            Ok(Fed::Held) => Ok(Output::Held),
+            Err(error) => Err(error),
+        }
+    }
+
     /// Takes an input other than an answer, whose outcome has to be moved.
     fn perform(&mut self, input: &Input) -> Result<Output, ServiceError>
         requires { IsNoAnswer input.now }
@@ -87,10 +116,7 @@ impl<T: Tape> Core<T> {
                 conn,
                 piece,
                 moment,
-            } => match self.feed(*conn, piece.as_slice(), *moment)? {
-                Fed::All => Ok(Output::All),
-                Fed::Held => Ok(Output::Held),
-            },
+            } => self.step_feed(*conn, piece.as_slice(), *moment),
             Input::GiveUp { load, moment } => {
                 self.give_up(*load, *moment)?;
                 Ok(Output::Done)

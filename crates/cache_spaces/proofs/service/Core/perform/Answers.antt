@@ -1,10 +1,10 @@
-use Rattle.std.proofs.Common.{◌≡◌, ◌∙◌, ap, arith, false, inl, length, refl, subst, suc, true}
+use Rattle.std.proofs.Common.{◌≡◌, ◌∙◌, ap, arith, false, inl, length, refl, subst, suc}
 use Rattle.std.proofs.lemmas.Result.{err_from_is_err_and}
 use Rattle.audit_model.specs.declared.event.Event.TheVariants as event
 use Rattle.audit_model.specs.declared.input.Input.TheVariants as input
-use Rattle.audit_laws.specs.declared.receipts.output.Output.TheVariants.{All, Done, Held, Opened}
+use Rattle.audit_laws.specs.declared.receipts.output.Output.TheVariants.{Done, Opened}
 use Rattle.cache_spaces.specs.Calls.{ServesEvent}
-use Rattle.cache_spaces.proofs.Reaching.{comes-fed, refused-input, serves-performs, settled-performs}
+use Rattle.cache_spaces.proofs.Reaching.{refused-input, serves-performs, settled-performs}
 use Rattle.cache_spaces.proofs.Placing.{at-map, refuses-map}
 use Rattle.cache_spaces.proofs.service.Core.perform.Goals as goal
 
@@ -35,23 +35,11 @@ returns-in_err-close-in-Close-clause-refused g c =
     let p = err_from_is_err_and c.from_residual-in_err-close-in-Close.result c.from_residual-in_err-close-in-Close.ensures.1 in
     rw (p.1, p.2, c.in-Close.is) (refuses-map c.args.self.now c.in-Close.conn.namespace _ (λ was f. refused-input (input.Close c.in-Close.conn) _ was f) c.in_err-close-in-Close.ensures.refused)
 
-pub returns-in-All-clause-performed : goal.returns-in-All-clause-performed
-returns-in-All-clause-performed g c =
-    let i = input.Feed c.in-Feed.conn c.in-Feed.piece c.in-Feed.moment in
-    rw c.in-Feed.is (at-map _ _ c.args.self.now c.feed.new.self c.in-Feed.conn.namespace (rw c.as_slice.ensures at rw c.in-All.is at c.in_ok-feed-in-Feed.ensures.taken)
-    (λ was is f. serves-performs g.T.Tape.view i was is All false (comes-fed false) f))
+pub returns-in-Feed-clause-performed : goal.returns-in-Feed-clause-performed
+returns-in-Feed-clause-performed g c = rw c.in-Feed.is (rw c.as_slice.ensures at c.step_feed.ensures.performed)
 
-pub returns-in-Held-clause-performed : goal.returns-in-Held-clause-performed
-returns-in-Held-clause-performed g c =
-    let i = input.Feed c.in-Feed.conn c.in-Feed.piece c.in-Feed.moment in
-    rw c.in-Feed.is (at-map _ _ c.args.self.now c.feed.new.self c.in-Feed.conn.namespace (rw c.as_slice.ensures at rw c.in-Held.is at c.in_ok-feed-in-Feed.ensures.taken)
-    (λ was is f. serves-performs g.T.Tape.view i was is Held true (comes-fed true) f))
-
-pub returns-in_err-feed-in-Feed-clause-refused : goal.returns-in_err-feed-in-Feed-clause-refused
-returns-in_err-feed-in-Feed-clause-refused g c =
-    let i = input.Feed c.in-Feed.conn c.in-Feed.piece c.in-Feed.moment in
-    let p = err_from_is_err_and c.from_residual-in_err-feed-in-Feed.result c.from_residual-in_err-feed-in-Feed.ensures.1 in
-    rw (p.1, p.2, c.in-Feed.is) (refuses-map c.args.self.now c.in-Feed.conn.namespace _ (λ was f. refused-input i _ was f) c.in_err-feed-in-Feed.ensures.refused)
+pub returns-in-Feed-clause-refused : goal.returns-in-Feed-clause-refused
+returns-in-Feed-clause-refused g c = rw c.in-Feed.is (rw c.as_slice.ensures at c.step_feed.ensures.refused)
 
 pub returns-in_ok-give_up-in-GiveUp-clause-performed : goal.returns-in_ok-give_up-in-GiveUp-clause-performed
 returns-in_ok-give_up-in-GiveUp-clause-performed g c =
