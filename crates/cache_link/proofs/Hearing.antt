@@ -1,32 +1,14 @@
 -- What is left of a report.
-use Rattle.std.proofs.Common.{◌≡◌, ℕ, ◌<◌, List, Option, Bool, true, false, refl, sym, ◌∙◌, arith, inl, inr, Result, Ok, Err, MatchResult}
+use Rattle.std.proofs.Common.{◌≡◌, ℕ, ◌<◌, List, Option, sym, ◌∙◌, arith, inl, inr, Result, Ok, Err, MatchResult}
 use Rattle.std.specs.declared.io.Error.{Error}
 use Rattle.cache_run.specs.Devices.Failures.{failures_after}
 use Rattle.cache_run.specs.Driver.Causes.{Obtains}
 use Rattle.cache_link.specs.Patience.{device_of, would_wait_by}
-use Rattle.cache_link.specs.Reports.{Hears, HearsOf, TakesFew, report_after}
+use Rattle.cache_link.specs.Reports.{Hears, HearsOf, TakesFew}
 use Rattle.cache_link.specs.declared.link.Report.{Report}
-use Rattle.cache_link.specs.declared.link.Report.TheVariants.{Nothing, Bytes, End}
+use Rattle.cache_link.specs.declared.link.Report.TheVariants.{Nothing, Bytes}
 use Rattle.cache_link.specs.declared.patient.Patient.{Patient}
 use Rattle.cache_link.proofs.Patience.{counted-fails}
-
--- a report that is kept
-pub heard-same : (filled : Result ℕ Error) (before after : Report) → after ≡ before → HearsOf filled before after
-heard-same filled before after same = record {
-  ending = λ end. inl (same ∙ end);
-  bytes = λ some none. let no : Bytes ≡ Nothing = sym some ∙ sym same ∙ none in cc;
-}
-
--- a read that would have had to wait
-pub heard-wait : (filled : Result ℕ Error) (before after : Report) → would_wait_by filled ≡ true → HearsOf filled before after
-heard-wait filled before after wait = record { ending = λ end. inr wait; bytes = λ some none. inl wait }
-
--- a read that took some bytes
-pub heard-bytes : (before after : Report) (n : ℕ) (is_full : Bool) → 0 < n → (is_full ≡ false → n < 8192) → after ≡ report_after before is_full → HearsOf (Ok n) before after
-heard-bytes Nothing after n is_full some few is = heard-same (Ok n) Nothing after is
-heard-bytes Bytes after n true some few is = heard-same (Ok n) Bytes after is
-heard-bytes Bytes after n false some few is = record { ending = λ end. let no : Bytes ≡ End = end in cc; bytes = λ bytes none. inr (some, few refl) }
-heard-bytes End after n is_full some few is = heard-same (Ok n) End after is
 
 takes-few : (a b : Option (List ℕ)) (bytes : List ℕ) (filled : Result ℕ Error) → MatchResult filled (λ n. (0 < n) × (n < 8192)) (λ e. ⊥) → Obtains a b bytes filled → TakesFew a b
 takes-few a b bytes (Ok n) few got = let count = got.1 in (bytes, got.0, omega (arith, few.0, count), omega (arith, few.1, count))

@@ -5,11 +5,11 @@ use Rattle.std.specs.Option.{option_map_or}
 use Rattle.std.specs.Io.KnownBytes.{Consumes}
 use Rattle.audit_model.specs.declared.event.Outcome.{Outcome}
 use Rattle.audit_model.specs.declared.input.Conn.{Conn}
-use Rattle.cache_run.proofs.devices.Sending.{consumes_more, same_appends, same_consumes}
-use Rattle.cache_run.proofs.driver.Interludes.{interlude-more, interlude-none}
+use Rattle.cache_run.proofs.devices.Sending.{consumes_more}
+use Rattle.cache_run.proofs.driver.Interludes.{interlude-more}
 use Rattle.cache_run.specs.Devices.Sent.{SentBut}
 use Rattle.cache_run.specs.Driver.Driven.{ComesToProgress as DriverComesTo, Finished, Stopped, Underway, unfed}
-use Rattle.cache_run.specs.Driver.Drives.{Outside, LeftUndone, Talks, lost_of, no_rest}
+use Rattle.cache_run.specs.Driver.Drives.{Outside, LeftUndone, Talks, lost_of}
 use Rattle.cache_run.specs.Driver.Exchanges.{HaveClosed, Outs, asks_of, pieces_in, readings_of}
 use Rattle.cache_run.specs.Driver.Causes.{Because}
 use Rattle.cache_run.specs.Driver.Interludes.{Interlude, Station, together}
@@ -18,10 +18,10 @@ use Rattle.cache_run.specs.declared.devices.errors.RunError.TheVariants.{Moment,
 use Rattle.cache_run.specs.declared.driver.driving.Progress.{Progress}
 use Rattle.cache_run.specs.declared.driver.driving.Progress.TheVariants.{More, Over}
 use Rattle.cache_run.specs.declared.driver.host.Host.{Ghosts as Ways}
-use Rattle.cache_run.specs.declared.driver.session.Footing.TheVariants.{Closed, Ready}
+use Rattle.cache_run.specs.declared.driver.session.Footing.TheVariants.{Closed}
 use Rattle.cache_run.specs.declared.driver.session.Session.{Session}
 use Rattle.cache_link.specs.Dialogues.{Dialogue, Wire}
-use Rattle.cache_link.specs.Served.{Fetched, HasJustOpened, IsAlike, FeedsNoMore, IsBroken, IsGoing, IsServed}
+use Rattle.cache_link.specs.Served.{Fetched, IsAlike, FeedsNoMore, IsBroken, IsGoing, IsServed}
 use Rattle.cache_link.specs.Patience.{device_of}
 use Rattle.cache_link.specs.declared.link.Link.{Link}
 use Rattle.cache_link.specs.declared.patient.Patient.{Patient}
@@ -176,32 +176,6 @@ module _ {X H K D : Type 0} (ways : Ways X H) (reads : K → ℕ → K → Type 
       unsent = refl;
       few = x.few;
     }
-
-  -- a connection that was opened
-  pub served-new : (start : Station H K D) (a : Wire) (link : Link) → HasJustOpened link → IsServed ways reads loads start a link start a
-  served-new start a link fresh = record {
-    last = start;
-    rest = no_rest;
-    dialogue = record {
-      exchanges = [];
-      chain = (refl, refl);
-      read = same_consumes a.remaining;
-      sent = [];
-      wrote = same_appends a.contents;
-      replies = refl;
-      untaken = refl;
-    };
-    unsent = sym fresh.backlog;
-    all_taken = refl;
-    going = λ still. record {
-      others = interlude-none ways reads loads link.session.conn start;
-      accepted = refl;
-      unfed = sym fresh.inbox;
-      idle = fresh.taken;
-      opened = λ is. let no : Ready ≡ Closed = sym fresh.footing ∙ is in cc;
-    };
-    over = λ done. absurd (no-both link.is_over done fresh.over);
-  }
 
   -- others had more turns
   pub served-later : (start : Station H K D) (a : Wire) (s : Link) (p q : Station H K D) (b : Wire) → Interlude ways reads loads s.session.conn p q → IsServed ways reads loads start a s p b → IsServed ways reads loads start a s q b

@@ -1,9 +1,10 @@
 //! One connection, between the wake-ups of its socket.
-ghost use Rattle.std.specs.Prelude.{◌≡◌, ◌≢◌, ◌≤◌, ◌⊎◌, [], true, false, IfOk, IfErr, IfSome, OnErr};
+ghost use Rattle.std.specs.Prelude.{◌≡◌, ◌≢◌, ◌≤◌, ◌⊎◌, ◌↔◌, [], true, false, IfOk, IfErr, IfSome, OnOk, OnErr};
 ghost use Rattle.cache_run.specs.Devices.Sources.{HasToldLate};
 ghost use Rattle.cache_run.specs.Devices.Sent.{SentBut};
 ghost use Rattle.cache_run.specs.Driver.Causes.{Because};
 ghost use Rattle.cache_run.specs.Driver.Driven.{ClosesAfter};
+ghost use Rattle.cache_run.specs.Driver.Hosting.{Stops};
 ghost use Rattle.cache_run.specs.Driver.Interludes.{InterludeBut};
 ghost use Rattle.cache_link.specs.Patience.{BreaksDown, WritesOn, is_broken_by};
 ghost use Rattle.cache_link.specs.Reports.{HearsOf, Hears, report_after, report_with};
@@ -75,8 +76,9 @@ impl Report {
 
     /// Notes what came of a read into an inbox. Returns whether the input is at its end, or `Read` if the device broke down.
     pub fn note_read(&mut self, filled: io::Result<usize>, inbox: &Inbox) -> Result<bool, RunError>
-        ensures ends { IfOk result (λ ends. ends ≡ true → filled ≡ Ok 0) }
+        ensures ends { IfOk result (λ ends. (ends ≡ true) ↔ (filled ≡ Ok 0)) }
         ensures why { IfErr result (λ e. (e ≡ RunError.Read) × (is_broken_by filled ≡ true)) }
+        ensures works { OnOk result (is_broken_by filled ≡ false) }
         ensures hears { HearsOf filled self.old self.new }
     {
         match filled {
@@ -109,7 +111,7 @@ pub struct Link {
 }
 
 impl Link {
-    /// Opens a connection of a namespace. Returns `OutOfMemory` or the host's error; then no connection was opened.
+    /// Opens a connection of a namespace. Returns `OutOfMemory`, or `UsedUp` if a 64-bit count is used up; then no connection was opened.
     pub fn open<H: Host>(
         host: &mut H,
         place: &mut H::Place,
@@ -120,6 +122,8 @@ impl Link {
             × H.knows link.session.conn place.new) }
         ensures fresh { IfOk result HasJustOpened }
         ensures rests { OnErr result ((place.new ≡ place.old) ⊎ H.rests place.old place.new) }
+        ensures why { IfErr result (Stops (H.exhausts (H.counted place.old) (H.counted place.new))
+            ⊥) }
     {
         let Ok(inbox) = Inbox::small(alloc) else {
             return Err(RunError::OutOfMemory);

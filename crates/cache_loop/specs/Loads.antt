@@ -1,10 +1,11 @@
 -- What becomes of the loads that go out to a loop: each is held until it is settled, once.
-use Rattle.std.specs.Prelude.{◌≡◌, ◌⊎◌, ℕ, ◌+◌, ◌==◌, cond, List, [], ◌∷◌, ◌++◌, Option, Vec, unwrap_or, sum_by}
-use Rattle.std.specs.Option.{option_map}
+use Rattle.std.specs.Prelude.{◌≡◌, ◌⊎◌, ℕ, ◌+◌, ◌==◌, nat_le, Bool, false, cond, List, [], ◌∷◌, ◌++◌, map, reverse, Option, None, Vec, unwrap_or, sum_by}
+use Rattle.std.specs.Option.{option_map, option_map_or}
 use Rattle.std.specs.declared.alloc.Global.{Global}
+use Rattle.audit_model.specs.declared.event.Outcome.{Outcome}
 use Rattle.audit_model.specs.declared.input.Conn.{Conn}
 use Rattle.audit_model.specs.declared.input.LoadId.{LoadId}
-use Rattle.cache_run.specs.Driver.Exchanges.{Exchange, Outs, Settling, Settled, load_number}
+use Rattle.cache_run.specs.Driver.Exchanges.{Exchange, Outs, Settling, Settled, load_number, settling_asking}
 use Rattle.cache_loop.specs.declared.loading.Pending.{Pending}
 
 -- 1 if it is this load, and 0 otherwise
@@ -19,11 +20,23 @@ times_out outs load = sum_by (λ (out : LoadId × List ℕ). once out.0.number l
 abbrev pub outs_in : Option (Vec (LoadId × List ℕ) Global) → Outs
 outs_in loads = unwrap_or (option_map (λ kept. kept.items) loads) []
 
--- how often it is among those that were asked for and not settled
+-- the numbers of loads that went out
+abbrev pub numbers_out : Outs → List ℕ
+numbers_out outs = map (λ (out : LoadId × List ℕ). out.0.number) outs
+
+-- how often a load is among those that were asked for and not settled
 abbrev pub times_pending : List Pending → ℕ → ℕ
 times_pending pending load = sum_by (λ one. once one.number load) pending
 
--- how often a loop holds it: it went out and was not asked for, or it is pending
+-- the time of one of them is over
+abbrev pub is_overdue : Pending → ℕ → Bool
+is_overdue one moment = option_map_or (λ due. nat_le due moment) one.due false
+
+-- the numbers of such loads, from the last to the first
+abbrev pub numbers_pending : List Pending → List ℕ
+numbers_pending pending = reverse (map (λ one. one.number) pending)
+
+-- how often a loop holds a load: it went out and was not asked for, or it is pending
 abbrev pub held : Outs → List Pending → ℕ → ℕ
 held outs pending load = times_out outs load + times_pending pending load
 
@@ -40,38 +53,43 @@ abbrev pub nothing_held : ℕ → ℕ
 nothing_held load = 0
 
 module _ {H : Type 0} (Came : Conn → H → Exchange → H → Type 0) (conn : Conn) where
-  -- a load was settled, and these went out
-  pub record SettlesOne (number : ℕ) (p : H) (outs : Outs) (q : H) : Type 0 where
+  -- a load was settled by what was said of it, its outcome or that there is none, and these went out
+  pub record SettlesOne (number : ℕ) (said : Option Outcome) (p : H) (outs : Outs) (q : H) : Type 0 where
     pub exchange : Exchange
     pub settling : Settling
     pub moment : ℕ
     pub numbered : load_number settling ≡ number
+    pub by : (settling_asking settling).answer ≡ said
     pub done : exchange.doing ≡ Settled settling moment
     pub went : unwrap_or exchange.loads [] ≡ outs
     pub came : Came conn p exchange q
 
-  -- the same: what went out came behind those that were there
-  abbrev pub SettlesBehind : ℕ → Outs → H → Outs → H → Type 0
-  SettlesBehind number had p has q = (outs : Outs) × SettlesOne number p outs q × (has ≡ had ++ outs)
-
 module _ {H : Type 0} (Came : Conn → H → Exchange → H → Type 0) (Rests : H → H → Type 0)
     (conn : Conn) where
-  -- the host was told to settle a load: it did, or it refused, and nothing came
-  abbrev pub Attempts : ℕ → H → Outs → H → Type 0
-  Attempts number p outs q = SettlesOne Came conn number p outs q ⊎ (Rests p q × (outs ≡ []))
+  -- the host was told to give a load up: it did, and none went out, or it refused
+  abbrev pub GivesUpOne : ℕ → H → H → Type 0
+  GivesUpOne number p q = SettlesOne Came conn number None p [] q ⊎ Rests p q
 
-  -- the same; where the host refused, it may have been told once more, to give the load up
-  abbrev pub Resolves : ℕ → H → Outs → H → Type 0
-  Resolves number p outs q =
-      Attempts number p outs q ⊎ ((m : H) × Rests p m × Attempts number m outs q)
+  -- it was told so of each of these, one after another
+  abbrev pub GivesUpEach : H → List ℕ → H → Type 0
+  GivesUpEach p [] q = q ≡ p
+  GivesUpEach p (number ∷ numbers) q = (m : H) × GivesUpOne number p m × GivesUpEach m numbers q
 
-  -- one load after another was settled so, and at each these went out
+  -- A load was settled by what was said of it, and of those that went out these were kept; the others, for which there was no memory,
+  -- were given up then. Or the host refused to settle it, and was told to give it up.
+  abbrev pub Resolves : ℕ → Option Outcome → H → Outs → H → Type 0
+  Resolves number said p kept q =
+      ((left : Outs) × (m : H) × SettlesOne Came conn number said p (kept ++ left) m
+      × GivesUpEach m (numbers_out left) q)
+      ⊎ ((m : H) × Rests p m × GivesUpOne number m q × (kept ≡ []))
+
+  -- one load after another was settled so, each by what was said of it
   abbrev pub ResolveEach : H → List (ℕ × Outs) → H → Type 0
   ResolveEach p [] q = q ≡ p
   ResolveEach p (step ∷ steps) q =
-      (m : H) × Resolves step.0 p step.1 m × ResolveEach m steps q
+      (m : H) × ((said : Option Outcome) × Resolves step.0 said p step.1 m) × ResolveEach m steps q
 
-  -- Each load, as often as it was held before or went out, was settled or is held after.
+  -- Each load, as often as it was held before or went out and was kept, was settled or is held after.
   pub record SettlesEach (had : ℕ → ℕ) (p : H) (has : ℕ → ℕ) (q : H) : Type 0 where
     pub steps : List (ℕ × Outs)
     pub done : ResolveEach p steps q

@@ -1,7 +1,8 @@
 //! A host whose connections leave their loads to others.
 ghost use Rattle.std.specs.Prelude.{◌≡◌, ◌++◌, [], false, None, IfOk, OnErr};
+ghost use Rattle.cache_run.specs.Driver.Exchanges.{Outs};
 ghost use Rattle.cache_loop.specs.Apart.{ComesApart, IsGivenApart};
-ghost use Rattle.cache_loop.specs.Loads.{Attempts, SettlesBehind, SettlesEach, nothing_held, outs_in, times_out};
+ghost use Rattle.cache_loop.specs.Loads.{GivesUpOne, GivesUpEach, SettlesOne, numbers_out, outs_in};
 
 use audit_model::{Bytes, Conn, LoadId, Outcome};
 use cache_run::{Given, Host, Loader, Owed, RunError};
@@ -37,7 +38,8 @@ impl<'a, H: Host> Apart<'a, H> {
 
     /// Keeps loads that went out. Those for which there is no memory are returned.
     fn keep(&mut self, loads: Vec<(LoadId, Bytes)>) -> Option<Vec<(LoadId, Bytes)>>
-        ensures { self.new.loads.items ++ outs_in result ≡ self.old.loads.items ++ loads.items }
+        ensures { (kept : Outs) × (loads.items ≡ kept ++ outs_in result)
+            × (self.new.loads.items ≡ self.old.loads.items ++ kept) }
     {
         if self.loads.is_empty() {
             self.loads = loads;
@@ -61,8 +63,9 @@ impl<'a, H: Host> Apart<'a, H> {
         moment: u64,
     ) -> Result<Option<Vec<(LoadId, Bytes)>>, RunError>
         requires known { H.knows conn place.old }
-        ensures settled { IfOk result (λ left. SettlesBehind H.came conn load self.old.loads.items
-            place.old (self.new.loads.items ++ outs_in left) place.new) }
+        ensures settled { IfOk result (λ left. (kept : Outs)
+            × SettlesOne H.came conn load said place.old (kept ++ outs_in left) place.new
+            × (self.new.loads.items ≡ self.old.loads.items ++ kept)) }
         ensures refused { OnErr result (H.rests place.old place.new
             × (self.new.loads.items ≡ self.old.loads.items)) }
     {
@@ -77,7 +80,7 @@ impl<'a, H: Host> Apart<'a, H> {
     /// Gives up a load at the latest moment, by a connection. No loads are requested then.
     pub fn give_up(&mut self, place: &mut H::Place, conn: Conn, load: u64)
         requires known { H.knows conn place.old }
-        ensures told { Attempts H.came H.rests conn load place.old [] place.new }
+        ensures told { GivesUpOne H.came H.rests conn load place.old place.new }
         ensures loads { self.new.loads.items ≡ self.old.loads.items }
     {
         let _ = self.inner.settle(place, conn, load, None, 0, false);
@@ -86,8 +89,8 @@ impl<'a, H: Host> Apart<'a, H> {
     /// Gives up loads that went out and for which there is no memory.
     pub fn give_up_all(&mut self, place: &mut H::Place, conn: Conn, loads: Vec<(LoadId, Bytes)>)
         requires known { (place : H.Place) → H.knows conn place }
-        ensures each { SettlesEach H.came H.rests conn (times_out loads.items) place.old
-            nothing_held place.new }
+        ensures each { GivesUpEach H.came H.rests conn place.old (numbers_out loads.items)
+            place.new }
         ensures loads { self.new.loads.items ≡ self.old.loads.items }
     {
         for (load, _) in loads {

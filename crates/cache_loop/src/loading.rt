@@ -1,7 +1,9 @@
 //! The loads of a loop, from their going out to their being settled.
-ghost use Rattle.std.specs.Prelude.{◌≡◌, ℕ, ◌+◌, ◌<◌, [], true, false, length, slice_index_or, vec_len, IfOk, IfNone, IfSome};
+ghost use Rattle.std.specs.Prelude.{◌≡◌, ℕ, ◌+◌, ◌-◌, ◌<◌, ◌^◌, ◌++◌, [], true, false, length, min, option_map, slice_index_or, vec_len, IfOk, IfErr, IfNone, IfSome, OnErr};
 ghost use Rattle.audit_model.specs.declared.input.Conn.{Conn};
-ghost use Rattle.cache_loop.specs.Loads.{SettlesEach, held, held_in_hand, held_one, once, times_out, times_pending};
+ghost use Rattle.cache_run.specs.Driver.Exchanges.{Outs};
+ghost use Rattle.cache_run.specs.Driver.Hosting.{Stops};
+ghost use Rattle.cache_loop.specs.Loads.{GivesUpEach, Resolves, SettlesEach, held, held_in_hand, held_one, is_overdue, numbers_pending, once, times_pending};
 
 use crate::apart::Apart;
 use crate::asker::{Asked, Asker};
@@ -33,8 +35,8 @@ pub struct Loading<A: Asker> {
 }
 
 impl<A: Asker> Loading<A> {
-    /// Opens a connection by which loads are settled. No load was asked for. After `limit` nanoseconds a load is given up. Returns the error
-    /// of the host if it cannot open a connection.
+    /// Opens a connection by which loads are settled. No load was asked for. After `limit` nanoseconds a load is given up. Returns
+    /// `OutOfMemory`, or `UsedUp` if a 64-bit count is used up; then no connection was opened.
     pub fn open<H: Host>(
         alloc: Global,
         host: &mut Apart<'_, H>,
@@ -43,7 +45,12 @@ impl<A: Asker> Loading<A> {
         asker: A,
         limit: Option<u64>,
     ) -> Result<Loading<A>, RunError>
-        ensures { IfOk result (λ loading. loading.pending.items ≡ []) }
+        ensures opens { IfOk result (λ loading. (loading.pending.items ≡ [])
+            × H.opens namespace loading.conn place.old place.new
+            × H.knows loading.conn place.new) }
+        ensures rests { OnErr result (H.rests place.old place.new) }
+        ensures why { IfErr result (Stops (H.exhausts (H.counted place.old) (H.counted place.new))
+            ⊥) }
     {
         let conn = host.open(place, namespace)?;
         Ok(Loading {
@@ -142,8 +149,10 @@ impl<A: Asker> Loading<A> {
         }
     }
 
-    /// The moment from which on a load is given up that is asked for at this one.
-    fn due_from(&self, moment: u64) -> Option<u64> {
+    /// The moment from which on a load is given up that is asked for at this one. The last moment is that of all later ones too.
+    fn due_from(&self, moment: u64) -> Option<u64>
+        ensures { result ≡ option_map (λ limit. min (moment + limit) (2 ^ 64 - 1)) self.now.limit }
+    {
         match self.limit {
             Some(limit) => Some(moment.saturating_add(limit)),
             None => None,
@@ -286,10 +295,10 @@ impl<A: Asker> Loading<A> {
         said: Option<Outcome>,
     )
         requires known { (conn : Conn) → (place : H.Place) → H.knows conn place }
-        ensures each { SettlesEach H.came H.rests self.old.conn
-            (held_one number host.old.loads.items self.old.pending.items) place.old
-            (held host.new.loads.items self.new.pending.items) place.new }
-        ensures kept { (self.new.conn ≡ self.old.conn)
+        ensures told { (kept : Outs)
+            × Resolves H.came H.rests self.old.conn number said place.old kept place.new
+            × (host.new.loads.items ≡ host.old.loads.items ++ kept) }
+        ensures same { (self.new.conn ≡ self.old.conn)
             × (self.new.pending.items ≡ self.old.pending.items) }
     {
         self.settled = self.settled.saturating_add(1);
@@ -303,9 +312,8 @@ impl<A: Asker> Loading<A> {
     /// Gives up the loads that were asked for and not settled.
     pub fn give_up_pending<H: Host>(&mut self, host: &mut Apart<'_, H>, place: &mut H::Place)
         requires known { (conn : Conn) → (place : H.Place) → H.knows conn place }
-        ensures each { SettlesEach H.came H.rests self.old.conn
-            (held host.old.loads.items self.old.pending.items) place.old
-            (held host.new.loads.items self.new.pending.items) place.new }
+        ensures each { GivesUpEach H.came H.rests self.old.conn place.old
+            (numbers_pending self.old.pending.items) place.new }
         ensures none { self.new.pending.items ≡ [] }
         ensures kept { (self.new.conn ≡ self.old.conn)
             × (host.new.loads.items ≡ host.old.loads.items) }
@@ -320,9 +328,8 @@ impl<A: Asker> Loading<A> {
     /// Gives up the loads that were asked for and not settled, and closes the connection. Returns whoever was asked.
     pub fn end<H: Host>(self, host: &mut Apart<'_, H>, place: &mut H::Place) -> A
         requires known { (conn : Conn) → (place : H.Place) → H.knows conn place }
-        ensures { (m : H.Place) × SettlesEach H.came H.rests self.conn
-            (held host.old.loads.items self.pending.items) place.old
-            (times_out host.old.loads.items) m × H.closes self.conn m place.new }
+        ensures { (m : H.Place) × GivesUpEach H.came H.rests self.conn place.old
+            (numbers_pending self.pending.items) m × H.closes self.conn m place.new }
     {
         let mut loading = self;
         loading.give_up_pending(host, place);
@@ -348,7 +355,9 @@ fn place_of(pending: &[Pending], number: u64) -> Option<usize>
 
 /// The place of a load whose time is over at a moment.
 fn late_among(pending: &[Pending], moment: u64) -> Option<usize>
-    ensures { IfSome result (λ index. index < length pending.now) }
+    ensures there { IfSome result (λ index. index < length pending.now) }
+    ensures late { IfSome result
+        (λ index. (d : Pending) → is_overdue (slice_index_or pending.now index d) moment ≡ true) }
 {
     for index in 0..pending.len() {
         if matches!(pending[index].due, Some(due) if due <= moment) {

@@ -80,7 +80,7 @@ returns-clause-fetched g c =
       whole = ap (λ z. z ++ c.fill-filled.new.inbox) (sym none);
       bytes = obtains-consumes _ _ _ c.fill-filled.result c.fill-filled.ensures.bytes;
       over = λ done.
-          let end = obtains-end _ _ _ c.fill-filled.result c.fill-filled.ensures.bytes (c.in_ok-self.ensures.ends done) in (end.0, inl end.1);
+          let end = obtains-end _ _ _ c.fill-filled.result c.fill-filled.ensures.bytes (c.in_ok-self.ensures.ends.0 done) in (end.0, inl end.1);
     }
 
 pub returns-then-not-is_fed-clause-hears : goal.returns-then-not-is_fed-clause-hears

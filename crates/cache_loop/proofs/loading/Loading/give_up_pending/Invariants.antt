@@ -1,10 +1,12 @@
 use Rattle.std.proofs.Common.{◌≡◌, length}
-use Rattle.cache_loop.specs.Loads.{SettlesEach, held}
+use Rattle.cache_loop.specs.Loads.{GivesUpEach, numbers_pending}
 use Rattle.cache_loop.proofs.loading.Loading.give_up_pending.Given as goal
 
+-- whoever gives up the rest has given up all
 abbrev pub invariant-loop-load : goal.invariant-loop-load
 invariant-loop-load g l = record {
-  each : SettlesEach g.H.Host.came g.H.Host.rests l.conn (held l.fn.host.loads.items l.fn.self.pending.items) l.fn.place (held l.host.loads.items l.self.pending.items) l.place;
+  each : (q : g.row.H-Place.Denot) → GivesUpEach g.H.Host.came g.H.Host.rests l.conn l.place (numbers_pending l.self.pending.items) q
+      → GivesUpEach g.H.Host.came g.H.Host.rests l.conn l.fn.place (numbers_pending l.fn.self.pending.items) q;
   conn : l.self.conn ≡ l.fn.self.conn;
   loads : l.host.loads.items ≡ l.fn.host.loads.items;
 }

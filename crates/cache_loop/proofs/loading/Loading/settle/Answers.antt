@@ -1,34 +1,28 @@
-use Rattle.std.proofs.Common.{List, ℕ, ◌++◌, Option, Vec, subst}
+use Rattle.std.proofs.Common.{List, ℕ, ◌++◌, ◌≡◌, [], Option, Vec, inl, inr, refl, sym, subst, ◌∙◌}
+use Rattle.std.proofs.lemmas.List.{append-nil}
 use Rattle.std.specs.declared.alloc.Global.{Global}
 use Rattle.audit_model.specs.declared.input.LoadId.{LoadId}
-use Rattle.cache_loop.specs.Loads.{SettlesBehind, outs_in}
-use Rattle.cache_loop.proofs.LoadsSettled.{settle-left, settle-refused, settle-whole}
+use Rattle.cache_run.specs.Driver.Exchanges.{Outs}
+use Rattle.cache_loop.specs.Loads.{SettlesOne, outs_in}
 use Rattle.cache_loop.proofs.loading.Loading.settle.Goals as goal
 
-pub returns-in-Ok-Some-clause-each : goal.returns-in-Ok-Some-clause-each
-returns-in-Ok-Some-clause-each g c =
-    let came = c.settle_load in
+pub returns-in-Ok-Some-clause-told : goal.returns-in-Ok-Some-clause-told
+returns-in-Ok-Some-clause-told g c =
     let ok = c.in-Ok-Some in
-    let self = c.args.self.now in
-    let host = c.args.host.now in
-    let behind = subst (λ (left : Option (Vec (LoadId × List ℕ) Global)). SettlesBehind g.H.Host.came self.conn c.args.number host.loads.items c.args.place.now (came.new.self.loads.items ++ outs_in left) came.new.place) ok.field-0-is ok.ensures.settled in
-    settle-left g.H.Host.came g.H.Host.rests self.conn c.args.number host.loads.items came.new.self.loads.items ok.left.items c.give_up_all.new.self.loads.items self.pending.items c.args.place.now came.new.place c.give_up_all.new.place behind
-    c.give_up_all.ensures.each c.give_up_all.ensures.loads
+    let came = c.settle_load.new in
+    let one = ok.ensures.settled in
+    let settled = subst (λ (left : Option (Vec (LoadId × List ℕ) Global)). SettlesOne g.H.Host.came c.args.self.now.conn c.args.number c.args.said c.args.place.now (one.0 ++ outs_in left) came.place) ok.field-0-is one.1 in
+    (one.0, inl (ok.left.items, came.place, settled, c.give_up_all.ensures.each), c.give_up_all.ensures.loads ∙ one.2)
 
-pub returns-in-Ok-None-clause-each : goal.returns-in-Ok-None-clause-each
-returns-in-Ok-None-clause-each g c =
-    let came = c.settle_load in
+pub returns-in-Ok-None-clause-told : goal.returns-in-Ok-None-clause-told
+returns-in-Ok-None-clause-told g c =
     let ok = c.in-Ok-None in
-    let self = c.args.self.now in
-    let host = c.args.host.now in
-    let behind = subst (λ (left : Option (Vec (LoadId × List ℕ) Global)). SettlesBehind g.H.Host.came self.conn c.args.number host.loads.items c.args.place.now (came.new.self.loads.items ++ outs_in left) came.new.place) ok.field-0-is ok.ensures.settled in
-    settle-whole g.H.Host.came g.H.Host.rests self.conn c.args.number host.loads.items came.new.self.loads.items self.pending.items c.args.place.now came.new.place behind
+    let came = c.settle_load.new in
+    let one = ok.ensures.settled in
+    let settled = subst (λ (left : Option (Vec (LoadId × List ℕ) Global)). SettlesOne g.H.Host.came c.args.self.now.conn c.args.number c.args.said c.args.place.now (one.0 ++ outs_in left) came.place) ok.field-0-is one.1 in
+    (one.0, inl ([], came.place, settled, refl), one.2)
 
-pub returns-in-Err-clause-each : goal.returns-in-Err-clause-each
-returns-in-Err-clause-each g c =
-    let came = c.settle_load in
-    let self = c.args.self.now in
-    let host = c.args.host.now in
+pub returns-in-Err-clause-told : goal.returns-in-Err-clause-told
+returns-in-Err-clause-told g c =
     let refused = c.in-Err.ensures.refused in
-    settle-refused g.H.Host.came g.H.Host.rests self.conn c.args.number host.loads.items came.new.self.loads.items c.give_up.new.self.loads.items self.pending.items c.args.place.now came.new.place c.give_up.new.place refused.0 refused.1
-    c.give_up.ensures.told c.give_up.ensures.loads
+    ([], inr (c.settle_load.new.place, refused.0, c.give_up.ensures.told, refl), c.give_up.ensures.loads ∙ refused.1 ∙ sym (append-nil c.args.host.now.loads.items))
