@@ -73,14 +73,14 @@ try:
     assert server.stdout.readline() == b"listening sessions 127.0.0.1:%d\n" % port
     # Under LRU the first of 1,001 new keys leaves.
     lines = b"".join(b"SET k%d - v\n" % number for number in range(1001)) + b"SYNC\nHAS k0\nHAS k1\nHAS k1000\nQUIT\n"
-    with socket.create_connection(("127.0.0.1", port), timeout=10) as client:
+    with socket.create_connection(("127.0.0.1", port), timeout=60) as client:
         client.sendall(lines)
         replies = b"".join(iter(lambda: client.recv(65536), b""))
     assert replies == b"OK\n" * 1001 + b"SYNC 1000 1000\nNO\nYES\nYES\nOK\n", replies[-100:]
     assert server.stdout.readline() == b"sessions NOTE Size k0 v\n"
     # The watcher of the package, by the interpreter alone, which reads no folder but the package's.
     watch = [sys.executable, "-B", root / "usr/share/cached/watch.py", "--port", f"sessions:{port}", "--seconds", "1", "--plain"]
-    table = subprocess.run(watch, stdout=subprocess.PIPE, stdin=subprocess.DEVNULL, timeout=30, check=True, text=True).stdout
+    table = subprocess.run(watch, stdout=subprocess.PIPE, stdin=subprocess.DEVNULL, timeout=60, check=True, text=True).stdout
     assert "sessions" in table and "1000" in table.replace(",", ""), table
 finally:
     server.kill()

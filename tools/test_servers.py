@@ -16,7 +16,7 @@ sys.path.insert(0, str(pathlib.Path(__file__).resolve().parent.parent / "benches
 import servers  # noqa: E402
 from connections import HOST, free_port  # noqa: E402
 
-SECONDS = 20
+SECONDS = 60
 MAIN = ('name = "main"\ncapacity = 1000\n', "[namespace.loads]\nk = \"v\"\n")
 PLAIN = ('name = "m"\n', "")
 B = ('name = "b"\n', "")
@@ -75,12 +75,21 @@ class Started:
         self.process.communicate()
         self.folder.cleanup()
 
-    def listens(self, spaces):
-        for port, space in zip(self.ports, spaces):
-            want(self.process.stdout.readline(), f"listening {name_of(space)} {HOST}:{port}\n".encode())
-
     def status(self):
         return self.process.wait(SECONDS)
+
+
+def listening(path, spaces):
+    """A server of some namespaces that listens. Between their choice and its start another process may take a port."""
+    for _ in range(5):
+        server = Started(path, spaces)
+        lines = [server.process.stdout.readline() for _ in spaces]
+        if lines == [f"listening {name_of(space)} {HOST}:{port}\n".encode() for port, space in zip(server.ports, spaces)]:
+            return server
+        server.__exit__()
+        if any(lines):
+            break
+    raise AssertionError(f"the server does not listen, and prints {lines!r}")
 
 
 def want(found, wanted):
@@ -103,8 +112,7 @@ def talk(port, sent, in_turn):
 
 
 def plays(path, row):
-    with Started(path, row.spaces) as server:
-        server.listens(row.spaces)
+    with listening(path, row.spaces) as server:
         found = {}
         clients = [
             threading.Thread(target=lambda at=at, port=port, sent=sent: found.update({at: talk(port, sent, row.in_turn)}))
@@ -135,8 +143,7 @@ def does_not_print(path):
 
 def serves_unheard(path):
     """Who reads the notices goes: each request is answered, and standard error says so."""
-    with Started(path, [PLAIN]) as server:
-        server.listens([PLAIN])
+    with listening(path, [PLAIN]) as server:
         server.process.stdout.close()
         server.process.stdout = None
         sent, replies = b"SET a - 1\nDEL a\nSET a - 2\nDEL a\nGET a\nQUIT\n", b"OK\nOK\nOK\nOK\nNONE\nOK\n"

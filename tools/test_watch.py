@@ -8,7 +8,6 @@ import subprocess
 import sys
 import tempfile
 import threading
-import time
 import unittest
 
 sys.dont_write_bytecode = True
@@ -17,7 +16,7 @@ import watch  # noqa: E402
 
 PROGRAM = pathlib.Path(__file__).resolve().parent / "watch.py"
 HOST = "127.0.0.1"
-PATIENCE = 20
+PATIENCE = 60
 
 
 def counts(**told):
@@ -157,6 +156,12 @@ class FakeServer:
             pass
 
 
+def rates(row):
+    """The rates of a row, by cause; 0 where none is known."""
+    told = [0.0 if text == "-" else float(text.replace(",", "")) for text in row[2:]]
+    return dict(zip(watch.CAUSES, told))
+
+
 class Runs(unittest.TestCase):
     def setUp(self):
         self.server = FakeServer()
@@ -171,6 +176,7 @@ class Runs(unittest.TestCase):
             stdout=subprocess.PIPE, text=True, **options,
         )
         self.addCleanup(process.stdout.close)
+        self.addCleanup(process.wait)
         self.addCleanup(process.kill)
         return process
 
@@ -180,6 +186,13 @@ class Runs(unittest.TestCase):
             if line.startswith(name + " "):
                 return line.split()[2:]
         raise AssertionError("it ended early")
+
+    def sees(self, process, name, cause):
+        """Whether all its rows have the server's numbers, to the first with notices of a cause."""
+        rows = [self.next_row(process, name)]
+        while rates(rows[-1])[cause] <= 5:
+            rows.append(self.next_row(process, name))
+        return all(row[:2] == ["3", "7"] for row in rows)
 
     def rows(self, process, name):
         """What each table that is left says of it, to the end."""
@@ -194,12 +207,12 @@ class Runs(unittest.TestCase):
         os.close(begins)
         os.write(ends, b"listening main 127.0.0.1:%d\nmain NOTE Size" % self.server.port)
         first = self.next_row(process, "main")
-        os.write(ends, b" k v\n" + b"main NOTE Expired k v\n" * 9)
+        os.write(ends, b" k v\n" + b"main NOTE Expired k v\n" * 900)
         rows = [first, self.next_row(process, "main"), self.next_row(process, "main")]
         os.close(ends)
         rows += self.rows(process, "main")
         self.assertEqual(rows[-1][:2], ["3", "7"])
-        self.assertTrue(any(float(row[2]) > 1 for row in rows if row[2] != "-"), rows)
+        self.assertTrue(any(rates(row)["Expired"] > 5 for row in rows), rows)
         read = Page(page.read_text(encoding="utf-8"))
         self.assertEqual(read.open, [])
         self.assertEqual(len(read.lines), 5)
@@ -209,14 +222,12 @@ class Runs(unittest.TestCase):
     def test_a_file_that_grows(self):
         log = self.folder / "log"
         log.write_bytes(b"listening main 127.0.0.1:%d\n" % self.server.port)
-        process = self.start("--log", log, "--interval", 0.5, "--seconds", 2.5)
+        process = self.start("--log", log, "--interval", 0.5, "--seconds", PATIENCE)
         first = self.next_row(process, "main")
         self.assertEqual(first, ["3", "7", "-", "-", "-", "-"])
         with log.open("ab") as file:
-            file.write(b"main NOTE Replaced k v\n" * 50)
-        rows = self.rows(process, "main")
-        self.assertTrue(1 <= len(rows) <= 6, rows)
-        self.assertTrue(any(float(row[4]) > 5 for row in rows), rows)
+            file.write(b"main NOTE Replaced k v\n" * 900)
+        self.assertTrue(self.sees(process, "main", "Replaced"))
 
     def listen(self, log):
         log.write_bytes(b"listening main 127.0.0.1:%d\n" % self.server.port)
@@ -226,27 +237,26 @@ class Runs(unittest.TestCase):
         self.listen(log)
         with log.open("ab") as file:
             file.write(b"main NOTE Size k v\n" * 1000 + b"main NOTE Si")
-        process = self.start("--log", log, "--interval", 0.5, "--seconds", 3.5)
+        process = self.start("--log", log, "--interval", 0.5, "--seconds", PATIENCE)
         self.next_row(process, "main")
         # As logrotate's copytruncate does: the server, which appends, continues at the new start.
         os.truncate(log, 0)
-        time.sleep(1)
+        for _ in range(3):
+            self.assertEqual(self.next_row(process, "main")[:2], ["3", "7"])
         with log.open("ab") as file:
-            file.write(b"main NOTE Expired k v\n" * 50)
-        rows = self.rows(process, "main")
-        self.assertTrue(all(row[:2] == ["3", "7"] for row in rows), rows)
-        self.assertTrue(any(float(row[2]) > 5 for row in rows if row[2] != "-"), rows)
+            # (fewer bytes than were read before)
+            file.write(b"main NOTE Expired k v\n" * 500)
+        self.assertTrue(self.sees(process, "main", "Expired"))
 
     def test_a_file_that_was_cut_before(self):
         log = self.folder / "log"
         log.write_bytes(b"main NOTE Size k v\n")
         name = f"main:{self.server.port}"
-        process = self.start("--log", log, "--port", name, "--interval", 0.5, "--seconds", 2.5)
+        process = self.start("--log", log, "--port", name, "--interval", 0.5, "--seconds", PATIENCE)
         self.assertEqual(self.next_row(process, "main")[:2], ["3", "7"])
         with log.open("ab") as file:
-            file.write(b"main NOTE Explicit k v\n" * 50)
-        rows = self.rows(process, "main")
-        self.assertTrue(any(float(row[3]) > 5 for row in rows if row[3] != "-"), rows)
+            file.write(b"main NOTE Explicit k v\n" * 900)
+        self.assertTrue(self.sees(process, "main", "Explicit"))
 
     def test_a_port(self):
         page = self.folder / "page.html"
@@ -254,6 +264,7 @@ class Runs(unittest.TestCase):
             "--port", self.server.port, "--html", page, "--interval", 0.5, "--seconds", 0.8
         )
         rows = self.rows(process, f":{self.server.port}")
+        self.assertTrue(1 <= len(rows) <= 4, rows)
         self.assertEqual(rows[-1], ["3", "7", "-", "-", "-", "-"])
         self.assertEqual(Page(page.read_text(encoding="utf-8")).open, [])
 

@@ -6,7 +6,7 @@
 #   tools/try_clients.sh
 set -uo pipefail
 cd "$(dirname "$0")/.."
-seconds=240
+seconds=600
 export PYTHONDONTWRITEBYTECODE=1
 mapfile -t programs < <(python3 benches/servers.py)
 for program in "${programs[@]}"; do

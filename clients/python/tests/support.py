@@ -24,6 +24,9 @@ START_SECONDS = 60
 PATIENCE = 60
 SHORT = 0.2
 
+PATIENT = {"connect_seconds": PATIENCE, "reply_seconds": PATIENCE, "wait_seconds": PATIENCE}
+"""The time limits of a pool that is to have time enough on a busy machine."""
+
 NAMESPACES = {
     "main": "capacity = 100000",
     "timed": "deadlines = true",
@@ -43,6 +46,15 @@ def free_ports(count):
 
 def free_port():
     return free_ports(1)[0]
+
+
+def wait_until(holds):
+    """Waits until this holds. Fails if it does not for long."""
+    ends = time.monotonic() + PATIENCE
+    while not holds():
+        if time.monotonic() > ends:
+            raise AssertionError("it does not come to hold")
+        time.sleep(0.001)
 
 
 class RealServer:
@@ -125,12 +137,12 @@ class ClientCase(unittest.TestCase):
     make_servers = Servers
 
     def made(self, port, **options):
-        client = self.make(HOST, port, **{"reply_seconds": PATIENCE, **options})
+        client = self.make(HOST, port, **{**PATIENT, **options})
         self.addCleanup(client.close)
         return client
 
     def servers_of(self, *servers, **options):
-        servers = self.make_servers(servers, **{"reply_seconds": PATIENCE, **options})
+        servers = self.make_servers(servers, **{**PATIENT, **options})
         self.addCleanup(servers.close)
         return servers
 
@@ -150,7 +162,8 @@ class RealCase(ClientCase):
 
     def connection(self, name="main", **options):
         port = self.server.ports[name]
-        connection = Connection(HOST, port, **{"reply_seconds": PATIENCE, **options})
+        limits = {"connect_seconds": PATIENCE, "reply_seconds": PATIENCE, **options}
+        connection = Connection(HOST, port, **limits)
         self.addCleanup(connection.close)
         return connection
 

@@ -6,7 +6,7 @@ import unittest
 
 import test_client
 import test_servers
-from support import HOST, PATIENCE, SHORT, Fake, FakeCase, Forked, RealCase
+from support import HOST, PATIENCE, PATIENT, SHORT, Fake, FakeCase, Forked, RealCase
 from support import free_port, replies
 import bivrang
 from bivrang import Server, aio
@@ -116,6 +116,15 @@ class Alike(unittest.TestCase):
                     self.assertEqual(*theirs, f"{name}.{call}")
 
 
+async def until(holds):
+    """Waits until this holds, as `support.wait_until` does."""
+    ends = asyncio.get_running_loop().time() + PATIENCE
+    while not holds():
+        if asyncio.get_running_loop().time() > ends:
+            raise AssertionError("it does not come to hold")
+        await asyncio.sleep(0.001)
+
+
 class Tasks(RealCase):
     """What tasks that share a client of the real server do."""
 
@@ -129,16 +138,18 @@ class Tasks(RealCase):
 
         async def main():
             port = self.server.ports["main"]
-            async with aio.Client(HOST, port, 3, wait_seconds=PATIENCE) as cache:
-                await cache.clear()
+            async with aio.Client(HOST, port, 3, **PATIENT) as cache:
+                # None is idle, so the first three connect at the same time: connecting always
+                # waits for the event loop. (A reply may be there as soon as its request is sent.)
                 await asyncio.gather(*(work(cache, number) for number in range(8)))
                 self.assertEqual(await cache.get("all"), b"200")
                 self.assertEqual(len(cache._idle), 3)
 
+        self.client()
         asyncio.run(main())
 
     def test_another_event_loop_begins_anew(self):
-        cache = aio.Client(HOST, self.server.ports["main"], reply_seconds=PATIENCE)
+        cache = aio.Client(HOST, self.server.ports["main"], **PATIENT)
         for turn in range(3):
             asyncio.run(cache.set("a", str(turn)))
             self.assertEqual(asyncio.run(cache.get("a")), b"%d" % turn)
@@ -151,7 +162,8 @@ class Waiting(FakeCase):
 
     def test_all_connections_in_use(self):
         async def main(fake):
-            async with aio.Client(HOST, fake.port, 1, wait_seconds=SHORT) as cache:
+            limits = {**PATIENT, "wait_seconds": SHORT}
+            async with aio.Client(HOST, fake.port, 1, **limits) as cache:
                 first = asyncio.ensure_future(cache.get("a"))
                 await asyncio.sleep(0)
                 with self.assertRaises(bivrang.PoolTimeout) as caught:
@@ -175,7 +187,7 @@ class Waiting(FakeCase):
 
     def test_calls_that_wait_go_in_their_order(self):
         async def main(fake):
-            async with aio.Client(HOST, fake.port, 1, wait_seconds=PATIENCE) as cache:
+            async with aio.Client(HOST, fake.port, 1, **PATIENT) as cache:
                 told = await asyncio.gather(*(cache.get(key) for key in "abcd"))
                 self.assertEqual(told, [b"1", b"2", b"3", b"4"])
 
@@ -185,9 +197,9 @@ class Waiting(FakeCase):
 
     def test_a_cancelled_call_closes_its_connection(self):
         async def main(fake):
-            async with aio.Client(HOST, fake.port, 1, wait_seconds=PATIENCE) as cache:
+            async with aio.Client(HOST, fake.port, 1, **PATIENT) as cache:
                 calls = [asyncio.ensure_future(cache.get(key)) for key in "abc"]
-                await asyncio.sleep(SHORT)
+                await until(lambda: fake.received == [b"GET a\n"])
                 calls[0].cancel()
                 calls[1].cancel()
                 self.assertEqual(await calls[2], b"of c")
@@ -238,7 +250,7 @@ class Waiting(FakeCase):
 
         async def main(fakes):
             places = [Server(HOST, fake.port) for fake in fakes]
-            async with aio.Servers(places, reply_seconds=PATIENCE) as servers:
+            async with aio.Servers(places, **PATIENT) as servers:
                 await servers.clear()
 
         asyncio.run(main([Fake(self, act), Fake(self, act)]))
@@ -250,7 +262,7 @@ class Forks(FakeCase):
         fake = Fake(self, replies(b"VAL of a\n", b"VAL later\n"), replies(b"VAL of b\n"))
 
         async def main():
-            async with aio.Client(HOST, fake.port, reply_seconds=PATIENCE) as cache:
+            async with aio.Client(HOST, fake.port, **PATIENT) as cache:
                 self.assertEqual(await cache.get("a"), b"of a")
                 child = Forked(lambda: asyncio.run(cache.get("b")) == b"of b")
                 await asyncio.sleep(SHORT)
@@ -272,9 +284,9 @@ class Forks(FakeCase):
         fake = Fake(self, act)
 
         async def main():
-            async with aio.Client(HOST, fake.port, reply_seconds=PATIENCE) as cache:
+            async with aio.Client(HOST, fake.port, **PATIENT) as cache:
                 call = asyncio.ensure_future(cache.get("a"))
-                await asyncio.sleep(SHORT)
+                await until(lambda: fake.received == [b"GET a\n"])
                 child = Forked(lambda: not cache._idle)
                 self.assertEqual(child.status(), 0)
                 go_on.set()

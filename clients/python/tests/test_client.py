@@ -6,9 +6,9 @@ import socket
 import threading
 import time
 
-from support import HOST, PATIENCE, SHORT, Fake, FakeAtPath, FakeCase, RealCase, RealServer
+from support import HOST, PATIENCE, PATIENT, SHORT, Fake, FakeAtPath, FakeCase, RealCase, RealServer
 from support import free_port, read_all, read_all_or_reset
-from support import replies, replies_and_ends, resets, trickles
+from support import replies, replies_and_ends, resets, trickles, wait_until
 import bivrang
 from bivrang import Connection, Held, Request, Server
 
@@ -413,27 +413,18 @@ class Retries(FakeCase):
             self.assertEqual(len(fake.received), 1)
 
     def test_a_connection_that_ended_while_idle_is_not_used(self):
-        ended = threading.Event()
-
-        def act(fake, link):
-            fake.line(link)
-            link.sendall(b"OK\n")
-            link.close()
-            ended.set()
-
-        fake = Fake(self, act, replies(b"OK\n"))
+        fake = Fake(self, replies_and_ends(b"OK\n"), replies(b"OK\n"))
         cache = self.pool(fake)
         cache.set("a", "1")
-        self.assertTrue(ended.wait(PATIENCE))
-        time.sleep(SHORT)
+        wait_until(lambda: not cache._idle[0].is_quiet())
         cache.set("a", "2")
-        self.assertEqual([line for line in fake.received], [b"SET a - 1\n", b"SET a - 2\n"])
+        self.assertEqual(fake.received, [b"SET a - 1\n", b"SET a - 2\n"])
 
 
 class Paths(FakeCase):
     def test_path_of_a_unix_socket(self):
         fake = FakeAtPath(self, replies(b"OK\n", b"VAL 1\n"), replies(b"ERR number\n"))
-        cache = self.make(fake.path, reply_seconds=PATIENCE)
+        cache = self.make(fake.path, **PATIENT)
         self.addCleanup(cache.close)
         cache.set("a", "1")
         self.assertEqual(cache.get("a"), b"1")
@@ -444,7 +435,7 @@ class Paths(FakeCase):
             cache.incr("a", 1)
 
     def test_path_at_which_nobody_listens(self):
-        cache = self.make("/nowhere/socket", reply_seconds=PATIENCE)
+        cache = self.make("/nowhere/socket", **PATIENT)
         self.addCleanup(cache.close)
         with self.assertRaisesRegex(bivrang.ConnectFailed, "server /nowhere/socket"):
             cache.get("a")
@@ -509,7 +500,7 @@ class BrokenReplies(FakeCase):
         fake = Fake(self, replies(b"VAL mine\nVAL stray\n"), replies(b"VAL next\n"))
         cache = self.pool(fake)
         self.assertEqual(cache.get("a"), b"mine")
-        time.sleep(SHORT)
+        wait_until(lambda: not cache._idle[0].is_quiet())
         self.assertEqual(cache.get("b"), b"next")
         self.assertEqual(fake.received, [b"GET a\n", b"GET b\n"])
 
@@ -545,7 +536,8 @@ class TimeLimits(FakeCase):
             )
             self.assertTrue(SHORT <= time.monotonic() - start < PATIENCE)
             self.assertTrue(error.may_have_run)
-            self.assertEqual(len(fake.received), 1)
+            # (it may see the connection late)
+            wait_until(lambda: fake.received == [b"GET a\n"])
 
     def test_a_late_reply_is_never_seen(self):
         fake = Fake(self, replies(b""), replies(b"VAL of b\n"))
@@ -578,12 +570,12 @@ class TimeLimits(FakeCase):
         self.assertNotIsInstance(caught.exception, bivrang.ConnectTimeout)
 
     def test_all_connections_in_use(self):
-        asked = threading.Event()
+        asked, go_on = threading.Event(), threading.Event()
 
         def act(fake, link):
             fake.line(link)
             asked.set()
-            time.sleep(2 * SHORT)
+            go_on.wait(PATIENCE)
             link.sendall(b"NONE\n")
             fake.line(link)
             link.sendall(b"VAL later\n")
@@ -595,6 +587,7 @@ class TimeLimits(FakeCase):
         self.assertTrue(asked.wait(PATIENCE))
         with self.assertRaises(bivrang.PoolTimeout):
             cache.get("b")
+        go_on.set()
         thread.join()
         self.assertEqual(cache.get("c"), b"later")
 

@@ -1,13 +1,26 @@
 """Keys over several servers."""
-import time
 import unittest
+import unittest.mock
 
-from support import HOST, SHORT, Fake, FakeCase, RealCase, free_port, replies, replies_and_ends
+from support import HOST, PATIENCE, SHORT, Fake, FakeCase, RealCase
+from support import free_port, replies, replies_and_ends
 import bivrang
 from bivrang import Held, Request, Server, Servers
 from bivrang._spread import BackOff
 
-LONGER = 5 * SHORT
+
+
+class Clock:
+    """The clock by which a server is left alone in this test, which moves it."""
+
+    def __init__(self, case):
+        self.now = 0.0
+        replaced = unittest.mock.patch("bivrang._spread.time", self)
+        replaced.start()
+        case.addCleanup(replaced.stop)
+
+    def monotonic(self):
+        return self.now
 
 
 class SeveralServers(RealCase):
@@ -78,6 +91,7 @@ class ServersThatFail(FakeCase):
     def both(self, fake, gone, **options):
         """Servers, a key of the one that answers, and one of the other."""
         there = Server(HOST, fake.port, name="there")
+        options = {"retry_after": PATIENCE, **options}
         servers = self.servers_of(there, Server(HOST, gone, name="gone"), **options)
         keys = {servers.server_of(f"k{number}"): f"k{number}" for number in range(100)}
         return servers, keys["there"], keys["gone"]
@@ -138,22 +152,27 @@ class ServersThatFail(FakeCase):
             servers.get(theirs)
 
     def test_it_is_asked_again(self):
+        clock = Clock(self)
         fake = Fake(self, replies(b""), replies(b"VAL 1\n"))
-        servers = self.servers_of(Server(HOST, fake.port), reply_seconds=LONGER, retry_after=LONGER)
+        servers = self.servers_of(Server(HOST, fake.port), reply_seconds=SHORT, retry_after=3.0)
         with self.assertRaises(bivrang.ReplyTimeout):
             servers.get("a")
+        servers.clients[f"{HOST}:{fake.port}"]._reply_seconds = PATIENCE
+        clock.now = 2.9
         with self.assertRaises(bivrang.ServerAway):
             servers.get("a")
-        time.sleep(LONGER)
+        clock.now = 3.0
         self.assertEqual(servers.get("a"), b"1")
         self.assertEqual(fake.received, [b"GET a\n", b"GET a\n"])
 
     def test_one_call_alone_tries_it(self):
-        back_off = BackOff(LONGER)
+        clock = Clock(self)
+        back_off = BackOff(3.0)
         back_off.enter()
         back_off.failed(bivrang.ConnectFailed())
-        time.sleep(LONGER)
+        clock.now = 3.0
         back_off.enter()
+        clock.now = 5.9
         with self.assertRaises(bivrang.ServerAway):
             back_off.enter()
         back_off.answered()
@@ -161,9 +180,10 @@ class ServersThatFail(FakeCase):
 
     def test_it_can_be_asked_each_time(self):
         fake = Fake(self, replies(b""), replies(b"VAL 1\n"))
-        servers = self.servers_of(Server(HOST, fake.port), reply_seconds=LONGER, retry_after=0)
+        servers = self.servers_of(Server(HOST, fake.port), reply_seconds=SHORT, retry_after=0)
         with self.assertRaises(bivrang.ReplyTimeout):
             servers.get("a")
+        servers.clients[f"{HOST}:{fake.port}"]._reply_seconds = PATIENCE
         self.assertEqual(servers.get("a"), b"1")
 
     def test_errors_of_a_server_that_answers_do_not_leave_it_alone(self):

@@ -11,14 +11,16 @@ use std::io::{stderr, BufRead, BufReader, Read, Write};
 use std::net::{Shutdown, TcpListener, TcpStream};
 use std::path::PathBuf;
 use std::process::{Child, Command, Stdio};
+use std::sync::atomic::{AtomicUsize, Ordering};
 use std::sync::mpsc::{channel, Receiver, Sender};
-use std::sync::{Arc, Mutex};
+use std::sync::{Arc, Barrier, Mutex};
 use std::thread;
 use std::thread::JoinHandle;
 use std::time::{Duration, Instant};
 
 const PATIENCE: Duration = Duration::from_secs(60);
 const SHORT: Duration = Duration::from_millis(200);
+const LONGER: Duration = Duration::from_secs(3);
 
 const OPTIONS: Options = Options {
     connect: PATIENCE,
@@ -418,12 +420,16 @@ enum Act {
     EndsBehind(usize),
     /// Answers a byte at a time, without an end.
     Trickles,
+    /// Answers a line so, once another thread meets it there, and then waits for the client's end.
+    Meets(Arc<Barrier>, &'static [u8]),
 }
 
 /// A listener that deals with one connection behind the other by the acts it is given.
 struct Fake {
     address: String,
     received: Arc<Mutex<Vec<Vec<u8>>>>,
+    /// How many connections it has closed.
+    closed: Arc<AtomicUsize>,
     thread: Option<JoinHandle<()>>,
 }
 
@@ -472,6 +478,12 @@ fn play(act: Act, link: &mut TcpStream, received: &Mutex<Vec<Vec<u8>>>) {
                 thread::sleep(SHORT / 4);
             }
         }
+        Act::Meets(barrier, reply) => {
+            read_line(link, received);
+            barrier.wait();
+            let _ = link.write_all(reply);
+            read_line(link, received);
+        }
     }
 }
 
@@ -480,7 +492,8 @@ impl Fake {
         let listener = TcpListener::bind("127.0.0.1:0").expect("a port is free");
         let address = listener.local_addr().expect("it has an address");
         let received = Arc::new(Mutex::new(Vec::new()));
-        let (acts, theirs) = (acts.to_vec(), received.clone());
+        let closed = Arc::new(AtomicUsize::new(0));
+        let (acts, theirs, count) = (acts.to_vec(), received.clone(), closed.clone());
         let thread = thread::spawn(move || {
             for act in acts {
                 let Ok((mut link, _)) = listener.accept() else {
@@ -489,11 +502,14 @@ impl Fake {
                 let _ = link.set_read_timeout(Some(PATIENCE));
                 theirs.lock().expect("nobody panics").push(Vec::new());
                 play(act, &mut link, &theirs);
+                drop(link);
+                count.fetch_add(1, Ordering::SeqCst);
             }
         });
         Fake {
             address: address.to_string(),
             received,
+            closed,
             thread: Some(thread),
         }
     }
@@ -504,6 +520,15 @@ impl Fake {
 
     fn received(&self) -> Vec<Vec<u8>> {
         self.received.lock().expect("nobody panics").clone()
+    }
+
+    /// Waits until these are the connections that came, and what each sent.
+    fn receives(&self, lines: &[&[u8]]) {
+        let start = Instant::now();
+        while self.received() != lines {
+            assert!(start.elapsed() < PATIENCE, "{:?}", self.received());
+            thread::sleep(Duration::from_millis(1));
+        }
     }
 }
 
@@ -706,7 +731,9 @@ fn a_connection_that_ended_while_idle_is_not_used() -> Result<(), Error> {
     let fake = Fake::start(&[Act::Ends(b"OK\n"), Act::Replies(vec![b"OK\n"])]);
     let pool = fake.pool();
     pool.set(b"a", b"1", None)?;
-    thread::sleep(SHORT);
+    while fake.closed.load(Ordering::SeqCst) == 0 {
+        thread::sleep(Duration::from_millis(1));
+    }
     pool.set(b"a", b"2", None)?;
     assert_eq!(fake.received(), [b"SET a - 1\n", b"SET a - 2\n"]);
     drop(pool);
@@ -734,7 +761,8 @@ fn time_limits() {
         );
         assert!((SHORT..PATIENCE).contains(&start.elapsed()));
         assert_eq!(pool.idle(), 0);
-        assert_eq!(fake.received().len(), 1);
+        // (it may see the connection late)
+        fake.receives(&[b"GET a\n"]);
     }
 }
 
@@ -749,26 +777,23 @@ fn nobody_listens() {
 
 #[test]
 fn all_connections_in_use() {
-    let fake = Fake::start(&[Act::Replies(vec![b""])]);
+    let meeting = Arc::new(Barrier::new(2));
+    let fake = Fake::start(&[Act::Meets(meeting.clone(), b"VAL of a\n")]);
     let options = Options {
-        reply: 5 * SHORT,
         wait: SHORT,
         connections: 1,
         ..OPTIONS
     };
     let pool = Pool::new(fake.address.clone(), options);
-    thread::scope(|scope| {
+    let (first, second) = thread::scope(|scope| {
         let first = scope.spawn(|| pool.get(b"a"));
-        while fake.received().iter().all(Vec::is_empty) {
-            thread::sleep(Duration::from_millis(1));
-        }
-        assert!(matches!(
-            kind(&pool.get(b"b")),
-            Some(ErrorKind::PoolTimeout)
-        ));
-        let first = first.join().expect("no panic");
-        assert!(matches!(kind(&first), Some(ErrorKind::ReplyTimeout)));
+        fake.receives(&[b"GET a\n"]);
+        let second = pool.get(b"b");
+        meeting.wait();
+        (first.join().expect("no panic"), second)
     });
+    assert!(matches!(kind(&second), Some(ErrorKind::PoolTimeout)));
+    assert!(matches!(first, Ok(Some(told)) if told == b"of a"));
 }
 
 #[test]
@@ -1055,6 +1080,7 @@ fn there_and_gone(fake: &Fake) -> (Servers, String, String) {
     let gone = format!("127.0.0.1:{}", free_port());
     let places = [named("there", fake.address.clone()), named("gone", gone)];
     let servers = Servers::new(&places, OPTIONS).expect("these can be taken");
+    let servers = servers.with_retry_after(PATIENCE);
     let key_of = |name: &str| {
         let mut keys = (0..).map(|number| format!("k{number}"));
         keys.find(|key| servers.server_of(key.as_bytes()).0 == name)
@@ -1104,11 +1130,11 @@ fn a_server_is_asked_again() -> Result<(), Error> {
         Act::Replies(vec![b"ERR number\n", b"VAL 1\n"]),
     ]);
     let options = Options {
-        reply: 5 * SHORT,
+        reply: LONGER,
         ..OPTIONS
     };
     let servers = Servers::new(&[Server::at(&fake.address)], options).expect("it can be taken");
-    let servers = servers.with_retry_after(5 * SHORT);
+    let servers = servers.with_retry_after(LONGER);
     let told = servers.get("a");
     assert!(
         matches!(kind(&told), Some(ErrorKind::ReplyTimeout)),
@@ -1116,7 +1142,7 @@ fn a_server_is_asked_again() -> Result<(), Error> {
     );
     let told = servers.get("a");
     assert!(matches!(kind(&told), Some(ErrorKind::Away)), "{told:?}");
-    thread::sleep(5 * SHORT);
+    thread::sleep(LONGER);
     let told = servers.each(|pool| pool.incr("n", 1, None));
     assert!(matches!(
         kind(&told[0].1),
