@@ -86,7 +86,7 @@ def longest(kept):
 
 
 def instructions(kept):
-    goals = {"look-up": 260, "overwrite": 280, "insert that evicts": 480, "shared get": "", "shared get_with": "1.15 times a `get`"}
+    goals = {"look-up": 252, "overwrite": 270, "insert that evicts": 480, "shared get": "", "shared get_with": "1.15 times a `get`"}
     rows = [[name, shown(kept["instructions_of_calls"][name]["instructions"]), str(goal)] for name, goal in goals.items()]
     return table(["Call", "Instructions", "Goal"], rows)
 
@@ -164,12 +164,12 @@ def server(kept):
     idle, spaces = kept["idle"]["bivrangd"], kept.get("spaces")
     rows = [
         ("million_lines", "`million_lines.py`", f"{shown(lines, 2)} s of processor time", "1 s"),
-        ("memory", "`connections.py memory`", f"{memory} bytes per value in addition to key and value: a million values of 32 bytes, keys of 16", "200"),
+        ("memory", "`connections.py memory`", f"{memory} bytes per value in addition to key and value: a million values of 32 bytes, keys of 16", "170"),
         ("idle", "`connections.py idle`", f"{idle['bytes']} bytes for each of 10,000 idle connections of `bivrangd`; a request over 16 others takes "
          f"{idle['alone']} us without them, {idle['beside']} us with them", "350, and no more"),
         ("soak", "`connections.py soak`", f"at most {soak['first quarter']} MiB in the first quarter of a million requests, {soak['last quarter']} MiB in the last", "flat"),
         ("instructions", "`instructions.py`", f"{shown(line['cached'])} instructions per line, `plain_server` {shown(line['plain_server'])}: "
-         f"{line['cached'] / line['plain_server']:.2f} times", "1,400, and 1.3 times"),
+         f"{line['cached'] / line['plain_server']:.2f} times", "1,400, and 1.25 times"),
         ("calls_made", "`calls.py`", f"a `GET` makes {made['all']} calls, {made['own']} of them to functions of this repository and the kit's crates", ""),
     ]
     if spaces:

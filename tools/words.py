@@ -22,7 +22,6 @@ BOUNDS = {
 }
 
 
-
 def files(part, crate="*"):
     return sorted(it for it in (ROOT / "crates").glob(f"{crate}/{part}/**/*") if it.suffix in (".rt", ".antt") and "out" not in it.parts)
 
