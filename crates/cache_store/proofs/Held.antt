@@ -1,5 +1,5 @@
 -- Values held: without that of a key.
-use Rattle.std.proofs.Common.{◌≡◌, ℕ, suc, ◌≤◌, Bool, true, not, List, [], ◌∷◌, length, Some, None, refl, arith, cond, false, ◌&&◌, ◌++◌, map, Option, option_map, IsPermutation, sym, ap, ◌∙◌, subst, ◌||◌, is_none, if◌then◌else◌}
+use Rattle.std.proofs.Common.{◌≡◌, ℕ, suc, ◌≤◌, Bool, true, not, List, [], ◌∷◌, length, Some, None, refl, arith, cond, false, ◌&&◌, ◌++◌, map, Option, option_map, IsPermutation, sym, ap, ◌∙◌, subst}
 use Rattle.std.proofs.lemmas.Bool.{not-true, not_from_false, and_parts, and_from}
 use Rattle.std.proofs.lemmas.List.Folds.{list_all-append}
 use Rattle.std.proofs.lemmas.List.Sorted.{IsPermutation-refl, IsPermutation-cons, IsPermutation-trans, IsPermutation-map, IsPermutation-middle}
@@ -7,13 +7,12 @@ use Rattle.std.proofs.lemmas.Option.{none-some}
 use Rattle.std.specs.List.{list_all}
 use Rattle.audit_model.specs.Bytewise.{same}
 use Rattle.audit_model.specs.History.{Value}
-use Rattle.audit_model.specs.Notes.{is_true_note, is_true_cause, first_of, same_cause}
+use Rattle.audit_model.specs.Notes.{is_true_note, first_of}
 use Rattle.audit_model.specs.Situation.{HeldValue}
 use Rattle.audit_model.specs.Values.{without_key, untold}
 use Rattle.audit_model.specs.View.{Candidate}
 use Rattle.audit_model.specs.declared.config.Config.{Config}
 use Rattle.audit_model.specs.declared.transcript.Note.{Note}
-use Rattle.audit_model.specs.declared.transcript.RemovalCause.TheVariants.{Expired, Explicit, Replaced}
 use Rattle.cache_store.proofs.Keys.{equal_from_same, same-refl, same-flip_false, same_along, same_from_equal}
 use Rattle.cache_store.specs.Held.{value_at, without, is_absent, are_apart, plain, Corresponds, cause_of_replaced, cause_of_deleted}
 use Rattle.cache_store.specs.Promises.{accepting, deleting}
@@ -84,12 +83,8 @@ value_at-other key q (h ∷ items) other = grind (arith, value_at-other key q it
 pub value_at-without : (key q : List ℕ) (items : List HeldValue) → are_apart items ≡ true → value_at (without key items) q ≡ cond (same q key) None (value_at items q)
 value_at-without key q items a = grind (arith, none_from_absent q (without key items), equal_from_same q key, absent-without key items a, value_at-other key q items)
 
-plain-cond : (b : Bool) (o : Option HeldValue) → option_map plain (cond b None o) ≡ cond b None (option_map plain o)
-plain-cond true o = refl
-plain-cond false o = refl
-
 pub corresponds-without : (key : List ℕ) (items held : List HeldValue) → are_apart items ≡ true → Corresponds items held → Corresponds (without key items) (without key held)
-corresponds-without key items held a c = grind (arith, value_at-without key, plain-cond, apart-without key held c.apart, without-absent key held, absent_from_none key held, without-absent key items, absent_from_none key items, length-without key held, length-without key items)
+corresponds-without key items held a c = grind (arith, value_at-without key, apart-without key held c.apart, without-absent key held, absent_from_none key held, without-absent key items, absent_from_none key items, length-without key held, length-without key items)
 
 pub corresponds-left : (notes : List Note) (items held : List HeldValue) → are_apart items ≡ true → Corresponds items held → Corresponds (left notes items) (left notes held)
 corresponds-left [] items held a c = c
@@ -118,7 +113,11 @@ apart-map f (h ∷ items) e = grind (arith, absent-map f items h.value.key e, ap
 
 pub apart-append : (held : List HeldValue) (n : HeldValue) → are_apart held ≡ true → is_absent n.value.key held ≡ true → are_apart (held ++ n ∷ []) ≡ true
 apart-append [] n a absent = refl
-apart-append (h ∷ held) n a absent = grind (arith, and_parts (is_absent h.value.key held) (are_apart held) a, and_parts (not (same n.value.key h.value.key)) (is_absent n.value.key held) absent, same-flip_false n.value.key h.value.key, not-true (same n.value.key h.value.key), and_from, list_all-append (λ (g : HeldValue). not (same h.value.key g.value.key)) held (n ∷ []), not_from_false (same h.value.key n.value.key), apart-append held n)
+apart-append (h ∷ held) n a absent =
+    let parts = and_parts (is_absent h.value.key held) (are_apart held) a in
+    let parts2 = and_parts (not (same n.value.key h.value.key)) (is_absent n.value.key held) absent in
+    let append = list_all-append (λ (g : HeldValue). not (same h.value.key g.value.key)) held (n ∷ []) in
+    grind (arith, parts, parts2, same-flip_false n.value.key h.value.key, not-true (same n.value.key h.value.key), and_from, append, not_from_false (same h.value.key n.value.key), apart-append held n)
 
 pub value_at-append : (held : List HeldValue) (n : HeldValue) (q : List ℕ) → is_absent n.value.key held ≡ true
     → value_at (held ++ n ∷ []) q ≡ cond (same q n.value.key) (Some n) (value_at held q)
@@ -127,12 +126,9 @@ value_at-append (h ∷ held) n q absent = grind (arith, and_parts (not (same n.v
 
 -- ---- permutations
 
-swap_two : {X : Type 0} (x y : X) (xs : List X) → IsPermutation (x ∷ y ∷ xs) (y ∷ x ∷ xs)
-swap_two x y xs = IsPermutation-middle (x ∷ []) y xs
-
 pub taken : (key : List ℕ) (held : List HeldValue) (h : HeldValue) → value_at held key ≡ Some h → IsPermutation held (h ∷ without key held)
 taken key [] h e = absurd (none-some h e)
-taken key (g ∷ held) h e = grind (arith, taken key held h, IsPermutation-refl (g ∷ held), IsPermutation-trans (g ∷ held) (g ∷ h ∷ without key held) (h ∷ g ∷ without key held), IsPermutation-cons g held (h ∷ without key held), swap_two g h (without key held))
+taken key (g ∷ held) h e = grind (arith, taken key held h, IsPermutation-refl (g ∷ held), IsPermutation-trans (g ∷ held) (g ∷ h ∷ without key held) (h ∷ g ∷ without key held), IsPermutation-cons g held (h ∷ without key held), IsPermutation-middle (g ∷ []) h (without key held))
 
 pub permutation : (items held : List HeldValue) → are_apart items ≡ true → Corresponds items held → IsPermutation (map plain held) items
 permutation [] [] a c = IsPermutation-refl []
@@ -182,34 +178,14 @@ module _ (cand : HeldValue → Candidate) (same_value : (h : HeldValue) → (can
 
 -- ---- a value whose key is written or deleted
 
-replaced_by : (config : Config) (before : List Candidate) (value v : Value) (evictable dead covered : Bool) (used : Option (List ℕ)) → same v.key value.key ≡ true
-    → (b : Bool) → b ≡ true
-    → (if (b || false) && is_none used
-    then same_cause (cause_of_replaced dead covered) (if dead then Expired else (if covered || false then Explicit else Replaced))
-    else is_true_cause config before (accepting used value) (record { value = v; dead = dead; covered = covered; evictable = evictable; new = false }) (cause_of_replaced dead covered)) ≡ true
-replaced_by config before value v evictable dead covered used k false e = cc
-replaced_by config before value v evictable true covered None k true e = refl
-replaced_by config before value v evictable false true None k true e = refl
-replaced_by config before value v evictable false false None k true e = refl
-replaced_by config before value v evictable true covered (Some key) k true e = refl
-replaced_by config before value v evictable false true (Some key) k true e = refl
-replaced_by config before value v evictable false false (Some key) k true e = ap (λ b. b && true && true) k
-
 -- an older value that is written over is told truly
 pub replaced_truly : (config : Config) (before : List Candidate) (value v : Value) (evictable dead covered : Bool) (used : Option (List ℕ)) → same v.key value.key ≡ true
     → is_true_note config before (accepting used value) (record { cause = cause_of_replaced dead covered; key = v.key; value = v.bytes })
     (Some (record { value = v; dead = dead; covered = covered; evictable = evictable; new = false })) ≡ true
-replaced_truly config before value v evictable dead covered used k = grind (arith, and_from, same-refl v.bytes, replaced_by config before value v evictable dead covered used k (same v.key value.key) k)
-
-deleted_by : (dead covered b : Bool) → b ≡ true
-    → (if b && true then same_cause (cause_of_deleted dead) (if dead then Expired else (if covered || (b && not dead) then Explicit else Replaced)) else true) ≡ true
-deleted_by dead covered false e = cc
-deleted_by true covered true e = refl
-deleted_by false true true e = refl
-deleted_by false false true e = refl
+replaced_truly config before value v evictable dead covered used k = grind (arith, and_from, same-refl v.bytes, k)
 
 -- a value that is deleted is told truly
 pub deleted_truly : (config : Config) (before : List Candidate) (key : List ℕ) (v : Value) (evictable dead covered : Bool) → same v.key key ≡ true
     → is_true_note config before (deleting key) (record { cause = cause_of_deleted dead; key = v.key; value = v.bytes })
     (Some (record { value = v; dead = dead; covered = covered; evictable = evictable; new = false })) ≡ true
-deleted_truly config before key v evictable dead covered k = grind (arith, and_from, same-refl v.bytes, same_from_equal key v.key (sym (equal_from_same v.key key k)), equal_from_same v.key key k, deleted_by dead covered true refl)
+deleted_truly config before key v evictable dead covered k = grind (arith, and_from, same-refl v.bytes, same_from_equal key v.key (sym (equal_from_same v.key key k)), equal_from_same v.key key k)

@@ -1,11 +1,12 @@
 -- What stands at the front of a stream, and more bytes behind it.
-use Rattle.std.proofs.Common.{◌≡◌, ℕ, zero, suc, ◌+◌, ◌<◌, ◌≤◌, Bool, true, false, cond, List, [], ◌∷◌, ◌++◌, length, take, drop, Option, Some, None, refl, sym, ap, ◌∙◌, subst, arith, ⊎_elim, length-append, length-drop}
+use Rattle.std.proofs.Common.{◌≡◌, ℕ, zero, suc, ◌+◌, ◌<◌, ◌≤◌, Bool, false, cond, List, [], ◌∷◌, ◌++◌, length, take, drop, Option, Some, None, refl, sym, ap, ◌∙◌, subst, arith, ⊎_elim, length-append, length-drop}
 use Rattle.std.specs.Prelude.{not, codes}
 use Rattle.std.specs.Str.{bytes_eq}
 use Rattle.std.specs.List.{position, position_or_len}
 use Rattle.std.proofs.lemmas.Bool.{cond-true, cond-false, lt-ltb, le-ltb, ltb-true, ne_eqb, cases_lt}
 use Rattle.std.proofs.lemmas.List.{take-append-le, drop-append-le, take_all, length-take-le}
 use Rattle.std.proofs.lemmas.List.Folds.{prefix_len-append}
+use Rattle.std.proofs.lemmas.Option.{cond_some}
 use Rattle.memcache_model.specs.Bytes.{is_feed, without_return}
 use Rattle.memcache_model.specs.Commands.{Command, Request, store, oversize, meta_set}
 use Rattle.memcache_model.specs.declared.command.Storage.TheVariants.{Set}
@@ -18,26 +19,16 @@ place-append : (p : ℕ → Bool) (xs ys : List ℕ) → position_or_len p xs < 
 place-append p xs ys inside =
     prefix_len-append (λ x. not (p x)) xs ys ∙ cond-false _ _ _ (ne_eqb (position_or_len p xs) (length xs) (λ same. omega (arith, same, inside)))
 
-found : (n at : ℕ) (b : Bool) → cond b (Some n) None ≡ Some at → (b ≡ true) × (n ≡ at)
-found n at true is = (refl, same is)
-  where
-    same : Some n ≡ Some at → n ≡ at
-    same e = cc
-found n at false is = absurd (no is)
-  where
-    no : None ≡ Some at → ⊥
-    no e = cc
-
 -- what is found is inside
 position-inside : (p : ℕ → Bool) (xs : List ℕ) (at : ℕ) → position p xs ≡ Some at → at < length xs
 position-inside p xs at is =
-    let place = found (position_or_len p xs) at _ is in
+    let place = cond_some _ (position_or_len p xs) at is in
     subst (λ n. n < length xs) place.1 (ltb-true (position_or_len p xs) (length xs) place.0)
 
 -- and is found with more behind it
 position-append : (p : ℕ → Bool) (xs ys : List ℕ) (at : ℕ) → position p xs ≡ Some at → position p (xs ++ ys) ≡ Some at
 position-append p xs ys at is =
-    let place = found (position_or_len p xs) at _ is in
+    let place = cond_some _ (position_or_len p xs) at is in
     let inside = ltb-true (position_or_len p xs) (length xs) place.0 in
     let same = place-append p xs ys inside in
     cond-true _ _ _ (lt-ltb (position_or_len p (xs ++ ys)) (length (xs ++ ys)) (omega (arith, same, inside, length-append xs ys))) ∙ ap Some (same ∙ place.1)

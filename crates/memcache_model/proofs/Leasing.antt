@@ -1,17 +1,18 @@
 -- What commands do to a lease.
-use Rattle.std.proofs.Common.{◌≡◌, ℕ, ◌+◌, ◌^◌, Bool, true, false, true≢false, cond, not, ◌&&◌, ◌||◌, List, [], ◌∷◌, ◌++◌, length, Option, Some, None, refl, sym, ap, ◌∙◌, ⊎_elim, nat_lt, codes}
-use Rattle.std.proofs.lemmas.Bool.{cases_Bool}
+use Rattle.std.proofs.Common.{◌≡◌, ℕ, ◌+◌, ◌^◌, Bool, true, false, true≢false, cond, not, ◌&&◌, ◌||◌, List, [], ◌∷◌, ◌++◌, Option, Some, None, refl, sym, ap, ◌∙◌, ⊎_elim, codes}
+use Rattle.std.proofs.Math.Bool.{or-true}
+use Rattle.std.proofs.lemmas.Bool.{cases_Bool, cond_both}
 use Rattle.std.proofs.lemmas.Slice.Eq.{bytes_eq-Decides}
 use Rattle.std.specs.Fmt.{decimal}
 use Rattle.std.specs.Option.{option_or, option_map_or}
-use Rattle.std.specs.Prelude.{◌==◌, is_some}
+use Rattle.std.specs.Prelude.{is_some}
 use Rattle.memcache_model.specs.Answers.{Service, answer, counts, counts_by, deletes, retimed, store_over, stores_within, touched, touches_one}
 use Rattle.memcache_model.specs.Bytes.{number_below, same}
 use Rattle.memcache_model.specs.Commands.{Command, get, gat, store, oversize, delete, arithmetic, touch, flush_all, stats, version, verbosity, quit, malformed, meta, meta_set, meta_no_op}
 use Rattle.memcache_model.specs.Items.{Item, Items, Stock, deadline_of, with_item}
 use Rattle.memcache_model.specs.Leases.{OneWins, TellsLease, is_leased, may_end, wins}
 use Rattle.memcache_model.specs.Meta as meta_of
-use Rattle.memcache_model.specs.Meta.{exptime_of, flags_fault, has_flag, is_late, is_other, is_one_of, item_text, lease_text, meta_compare, meta_count_none, meta_counted, meta_counts, meta_get_live, meta_get_none, meta_item, meta_put, meta_refuses, meta_stored, mode_fault, mode_of, number_of, retimed_by, unless_faulty, vivified}
+use Rattle.memcache_model.specs.Meta.{exptime_of, flags_fault, is_late, item_text, lease_text, meta_compare, meta_count_none, meta_counted, meta_counts, meta_get_live, meta_get_none, meta_item, meta_put, meta_refuses, meta_stored, mode_fault, mode_of, number_of, retimed_by, unless_faulty, vivified}
 use Rattle.memcache_model.specs.Outcomes.{Outcome, new_item}
 use Rattle.memcache_model.specs.declared.command.Direction.{Direction}
 use Rattle.memcache_model.specs.declared.command.Exptime.{Exptime}
@@ -19,10 +20,6 @@ use Rattle.memcache_model.specs.declared.command.Exptime.TheVariants.{Never, AtO
 use Rattle.memcache_model.specs.declared.command.Meta.TheVariants.{Get, Delete, Arithmetic}
 use Rattle.memcache_model.specs.declared.command.Storage.TheVariants.{Set, Add, Replace, Append, Prepend, Cas}
 use Rattle.memcache_model.specs.declared.fault.ProtocolError.{ProtocolError}
-
-or-right : (a : Bool) → (a || true) ≡ true
-or-right true = refl
-or-right false = refl
 
 retimed-leased : (moment : ℕ) (letter : List ℕ) (words : List (List ℕ)) (item : Item) → (retimed_by moment letter words item).leased ≡ item.leased
 retimed-leased moment letter words item = go (exptime_of letter words)
@@ -36,9 +33,8 @@ module _ (key : List ℕ) (stock : Stock) (held : is_leased (stock.items key) �
   abbrev Holds : Outcome → Type 0
   Holds o = is_leased (o.stock.items key) ≡ true
 
-  choose : (b : Bool) (x y : Outcome) → Holds x → Holds y → Holds (cond b x y)
-  choose true x y h k = h
-  choose false x y h k = k
+  choose : {b : Bool} {x y : Outcome} → Holds x → Holds y → Holds (cond b x y)
+  choose {b} {x} {y} h k = cond_both b x y Holds (λ _. h) (λ _. k)
 
   module _ (k : List ℕ) where
     -- another key's item changes
@@ -70,7 +66,7 @@ module _ (key : List ℕ) (stock : Stock) (held : is_leased (stock.items key) �
     replaces most item (Some old) e = other (Some (record item { unique = stock.uniques + 1 })) e
 
     within : (most : ℕ) (old new : Item) → stock.items k ≡ Some old → new.leased ≡ old.leased → Holds (stores_within most k new stock)
-    within most old new is lease = choose (nat_lt most (length new.bytes)) _ _ held (over old (record new { unique = stock.uniques + 1 }) is (λ h. lease ∙ h))
+    within most old new is lease = choose held (over old (record new { unique = stock.uniques + 1 }) is (λ h. lease ∙ h))
 
     appends : (most : ℕ) (item : Item) (o : Option Item) → stock.items k ≡ o → Holds (store_over most Append k item o stock)
     appends most item None is = held
@@ -82,7 +78,7 @@ module _ (key : List ℕ) (stock : Stock) (held : is_leased (stock.items key) �
 
     compares : (most unique : ℕ) (item : Item) (o : Option Item) → same key k ≡ false → Holds (store_over most (Cas unique) k item o stock)
     compares most unique item None e = held
-    compares most unique item (Some old) e = choose (old.unique == unique) _ _ (other (Some (record item { unique = stock.uniques + 1 })) e) held
+    compares most unique item (Some old) e = choose (other (Some (record item { unique = stock.uniques + 1 })) e) held
 
     -- ---- one key
 
@@ -121,7 +117,7 @@ module _ (key : List ℕ) (stock : Stock) (held : is_leased (stock.items key) �
 
     deletes_on : (moment : ℕ) (words : List (List ℕ)) (o : Option Item) → same key k ≡ false → Holds (meta_of.meta_delete moment k words o stock)
     deletes_on moment words None e = held
-    deletes_on moment words (Some item) e = choose (is_other words item) _ _ held (choose (has_flag (codes "I") words) _ _ (other _ e) (other None e))
+    deletes_on moment words (Some item) e = choose held (choose (other _ e) (other None e))
 
     first_count : (moment : ℕ) (words : List (List ℕ)) (o : Option Exptime) → stock.items k ≡ None → Holds (meta_count_none moment k words o stock)
     first_count moment words None none = held
@@ -133,18 +129,18 @@ module _ (key : List ℕ) (stock : Stock) (held : is_leased (stock.items key) �
 
     arithmetic_on : (moment : ℕ) (words : List (List ℕ)) (o : Option Item) → stock.items k ≡ o → Holds (meta_of.meta_arithmetic moment k words o stock)
     arithmetic_on moment words None none = first_count moment words (exptime_of (codes "N") words) none
-    arithmetic_on moment words (Some item) is = choose (is_other words item) _ _ held (counts_meta moment words item (number_below (2 ^ 64) item.bytes) is)
+    arithmetic_on moment words (Some item) is = choose held (counts_meta moment words item (number_below (2 ^ 64) item.bytes) is)
 
     puts : (most moment mode : ℕ) (words : List (List ℕ)) (item : Item) (o : Option Item) → same key k ≡ false → Holds (meta_put most moment mode k words item o stock)
-    puts most moment mode words item None e = choose (is_one_of (codes "SE") mode) _ _ (other _ e) held
-    puts most moment mode words item (Some old) e = choose (is_one_of (codes "SR") mode) _ _ (other _ e)
-        (choose (is_one_of (codes "A") mode) _ _ (choose (nat_lt most (length (old.bytes ++ item.bytes))) _ _ held (other _ e))
-        (choose (is_one_of (codes "P") mode) _ _ (choose (nat_lt most (length (item.bytes ++ old.bytes))) _ _ held (other _ e)) held))
+    puts most moment mode words item None e = choose (other _ e) held
+    puts most moment mode words item (Some old) e = choose (other _ e)
+        (choose (choose held (other _ e))
+        (choose (choose held (other _ e)) held))
 
     compares_meta : (most moment unique : ℕ) (words : List (List ℕ)) (item : Item) (o : Option Item) → same key k ≡ false → Holds (meta_compare most moment unique k words item o stock)
     compares_meta most moment unique words item None e = held
-    compares_meta most moment unique words item (Some old) e = choose (old.unique == unique) _ _ (puts most moment (mode_of words) words item (Some old) e)
-        (choose (has_flag (codes "I") words && nat_lt unique old.unique) _ _ (other _ e) held)
+    compares_meta most moment unique words item (Some old) e = choose (puts most moment (mode_of words) words item (Some old) e)
+        (choose (other _ e) held)
 
     sets : (most moment : ℕ) (words : List (List ℕ)) (block : List ℕ) (o : Option Item) → same key k ≡ false → Holds (meta_of.meta_set most moment k words block o stock)
     sets most moment words block o e = go (number_of (codes "C") words) refl
@@ -216,7 +212,7 @@ won moment key words stock None e = go (exptime_of (codes "N") words) e
 won moment key words stock (Some found) e =
     let item = retimed_by moment (codes "T") words found in
     let does = not item.leased && (item.stale || is_late moment words item) in
-    ap is_leased (here key (Some (record item { leased = item.leased || does })) stock.items) ∙ ap (λ b. item.leased || b) e ∙ or-right item.leased
+    ap is_leased (here key (Some (record item { leased = item.leased || does })) stock.items) ∙ ap (λ b. item.leased || b) e ∙ or-true item.leased
 
 told : (moment : ℕ) (key : List ℕ) (words : List (List ℕ)) (stock : Stock) → (is_some (stock.items key) || is_some (exptime_of (codes "N") words)) ≡ true → TellsLease moment key words stock (meta_of.meta_get moment key words (stock.items key) stock).reply
 told moment key words stock some = go (stock.items key) refl some

@@ -163,7 +163,8 @@ handed Everything old new told is h = let no : ⊥ = cc in absurd no
 handed (Prefixed prefix) old new told is h = let no : ⊥ = cc in absurd no
 
 -- A CALL THAT COVERS NOTHING TELLS EACH NOTE OF ANOTHER VALUE: that many fewer values are held, not counting the one that it accepts
-pub counted : {S : Type 0} → (a b : StoreOfParts S) (now : ℕ) (deed : Deed) → IsWhole a → deed.covers ≡ Nothing → Does now deed (view a) (view b) → length (items_of 0 b.parts) + length b.queue ≡ length (items_of 0 a.parts) + length a.queue + length (option_to_list (option_map newly_held deed.value))
+pub counted : {S : Type 0} → (a b : StoreOfParts S) (now : ℕ) (deed : Deed) → IsWhole a → deed.covers ≡ Nothing → Does now deed (view a) (view b)
+    → length (items_of 0 b.parts) + length b.queue ≡ length (items_of 0 a.parts) + length a.queue + length (option_to_list (option_map newly_held deed.value))
 counted {S} a b now deed w nothing does =
     let done = does.done (some_held a w) (some_stand a w) in
     let e = held-exact a.frame.config now (some_held a w) deed done.told done.right in
@@ -385,7 +386,8 @@ module _ {S : Type 0} (hash : S → List ℕ → ℕ) where
 -- ---- why a call of a front is refused
 
 -- the tickets of one part do not suffice
-pub tickets_from : {S : Type 0} (ways : Ways (List ℕ) Stored (List ℕ) S Weight) (rooms : Settings → ℕ) → ((s : Settings) → rooms s ≤ 2) → (parts : List (Part S)) (place : ℕ) (e : CacheError) → IsCauseOf ways rooms (slice_get parts place) e → e ≡ errors.UsedUp → LackTickets parts
+pub tickets_from : {S : Type 0} (ways : Ways (List ℕ) Stored (List ℕ) S Weight) (rooms : Settings → ℕ) → ((s : Settings) → rooms s ≤ 2) → (parts : List (Part S)) (place : ℕ) (e : CacheError)
+    → IsCauseOf ways rooms (slice_get parts place) e → e ≡ errors.UsedUp → LackTickets parts
 tickets_from {S} ways rooms few parts place e cause is = go (slice_get parts place) refl (subst (λ x. IsCauseOf ways rooms (slice_get parts place) x) is cause)
   where
     go : (o : Option (Part S)) → slice_get parts place ≡ o → IsCauseOf ways rooms o errors.UsedUp → LackTickets parts

@@ -1,7 +1,7 @@
 -- The keys of the first parts.
 use Rattle.std.proofs.Common.{◌≡◌, refl, ap, ◌∙◌, sym, ℕ, zero, suc, ◌+◌, ◌<◌, ◌≤◌, arith, List, ◌∷◌, ◌++◌, length, take, Option, None, slice_get, [], Bool, cond, true, false, true≢false, not, ◌&&◌, ◌||◌, map, option_map, Some, is_some, drop, drop-cons, add-one, get_or, Bor, subst}
 use Rattle.std.proofs.Math.Bool.{and-false, and-true, or-false}
-use Rattle.std.proofs.lemmas.Bool.{and_from, and_parts, not-true, not_from_false, or_parts, or_right}
+use Rattle.std.proofs.lemmas.Bool.{and_from, and_parts, not-true, not_from_false, or_parts, or_right, false_from_ne_true}
 use Rattle.std.proofs.lemmas.List.{append-nil, append_assoc, length-append, length-map}
 use Rattle.std.proofs.lemmas.List.Elements.{filter-append}
 use Rattle.std.proofs.lemmas.List.Folds.{list_any-append}
@@ -59,17 +59,7 @@ module _ {S : Type 0} where
 
 pub among-filter : (p : List ℕ → Bool) (q : List ℕ) (ks : List (List ℕ)) → is_among q (filter p ks) ≡ (p q && is_among q ks)
 among-filter p q [] = sym (and-false (p q))
-among-filter p q (k ∷ ks) = go (p k) refl (same q k) refl (among-filter p q ks)
-  where
-    go : (b : Bool) → p k ≡ b → (c : Bool) → same q k ≡ c → is_among q (filter p ks) ≡ (p q && is_among q ks) → is_among q (cond b (k ∷ filter p ks) (filter p ks)) ≡ (p q && (same q k || is_among q ks))
-    go true e true f later =
-        let here : p q ≡ true = ap p (equal_from_same q k f) ∙ e in
-        ap (λ c. c || is_among q (filter p ks)) f ∙ sym (ap (λ c. p q && (c || is_among q ks)) f ∙ ap (λ b. b && true) here)
-    go true e false f later = ap (λ c. c || is_among q (filter p ks)) f ∙ later ∙ sym (ap (λ c. p q && (c || is_among q ks)) f)
-    go false e true f later =
-        let here : p q ≡ false = ap p (equal_from_same q k f) ∙ e in
-        later ∙ ap (λ b. b && is_among q ks) here ∙ sym (ap (λ b. b && (same q k || is_among q ks)) here)
-    go false e false f later = later ∙ sym (ap (λ c. p q && (c || is_among q ks)) f)
+among-filter p q (k ∷ ks) = grind (arith, among-filter p q ks, equal_from_same q k)
 
 distinct-filter : (p : List ℕ → Bool) (ks : List (List ℕ)) → are_distinct ks ≡ true → are_distinct (filter p ks) ≡ true
 distinct-filter p [] d = refl
@@ -199,11 +189,7 @@ module _ {S : Type 0} where
   held-in part_of part s q placed h = grind (arith, among-entry)
 
   held-none : (part_of : List ℕ → ℕ) (part : ℕ) (s : Part S) (q : List ℕ) → ArePlaced part_of part (held_entries s.records) → (part_of q ≡ part → ⊥) → is_among q (held_keys s.records) ≡ false
-  held-none part_of part s q placed other = go (is_among q (held_keys s.records)) refl
-    where
-      go : (b : Bool) → is_among q (held_keys s.records) ≡ b → is_among q (held_keys s.records) ≡ false
-      go true e = absurd (other (held-in part_of part s q placed e))
-      go false e = e
+  held-none part_of part s q placed other = false_from_ne_true _ (λ e. other (held-in part_of part s q placed e))
 
   none-held : (part_of : List ℕ → ℕ) (first : ℕ) (parts : List (Part S)) (q : List ℕ) → AreParted part_of first parts → part_of q < first → is_among q (held_by_all parts) ≡ false
   none-held part_of first [] q p lt = refl

@@ -73,7 +73,13 @@ both-halves : (f : ℕ → ℕ) → listing 16 f ≡ listing 8 f ++ listing 8 (�
 both-halves f = refl
 
 same_listing : (f g : ℕ → ℕ) → ((i : ℕ) → f i < 256) → ((i : ℕ) → g i < 256) → from_be_bytes w128 (listing 16 f) ≡ from_be_bytes w128 (listing 16 g) → listing 16 f ≡ listing 16 g
-same_listing f g small_f small_g e = grind (arith, halves f, halves g, eight-small (λ i. f (8 + i)) (λ i. small_f (8 + i)), eight-small (λ i. g (8 + i)) (λ i. small_g (8 + i)), same_high (eight f) (eight g) (eight (λ i. f (8 + i))) (eight (λ i. g (8 + i))), same_low (eight f) (eight g) (eight (λ i. f (8 + i))) (eight (λ i. g (8 + i))), both-halves f, eight-listing f small_f, eight-listing g small_g, eight-listing (λ i. f (8 + i)) (λ i. small_f (8 + i)), eight-listing (λ i. g (8 + i)) (λ i. small_g (8 + i)), both-halves g)
+same_listing f g small_f small_g e =
+    let small = eight-small (λ i. g (8 + i)) (λ i. small_g (8 + i)) in
+    let high = same_high (eight f) (eight g) (eight (λ i. f (8 + i))) (eight (λ i. g (8 + i))) in
+    let low = same_low (eight f) (eight g) (eight (λ i. f (8 + i))) (eight (λ i. g (8 + i))) in
+    let listing = eight-listing (λ i. f (8 + i)) (λ i. small_f (8 + i)) in
+    let eight2 = eight-listing (λ i. g (8 + i)) (λ i. small_g (8 + i)) in
+    grind (arith, halves f, halves g, eight-small (λ i. f (8 + i)) (λ i. small_f (8 + i)), small, high, low, both-halves f, eight-listing f small_f, eight-listing g small_g, listing, eight2, both-halves g)
 
 sixteen : (xs : List ℕ) → is_identifier xs ≡ true → xs ≡ listing 16 (byte_of xs)
 sixteen xs is = listed xs ∙ ap (λ n. listing n (byte_of xs)) (eqb-true (length xs) 16 (and_parts (length xs == 16) _ is).0)
@@ -132,7 +138,10 @@ registered-own (x ∷ ps) (suc place) p there = or_right (x.id == p.id) (is_regi
 -- a predicate whose number is that of a drawn identifier registers that one alone
 registers-drawn : (ps : List (Registered (List ℕ))) (p : Registered (List ℕ)) (n : ℕ) (start : Stream) → is_identifier (identifier_at n start) ≡ true → p.id ≡ engine.identifier_at n start
     → (id : List ℕ) → is_registered_in (ps ++ p ∷ []) id ≡ true → (is_registered_in ps id || same id (identifier_at n start)) ≡ true
-registers-drawn ps p n start proper drawn_is id e = grind (arith, and_parts (is_identifier id) (is_registered (ps ++ p ∷ []) (from_be_bytes w128 id)) e, registered-pushed ps p (from_be_bytes w128 id), or_left (is_registered_in ps id) (same id (identifier_at n start)), and_from, or_right (is_registered_in ps id) (same id (identifier_at n start)), same_bytes id (identifier_at n start), number_is n start, same-refl id)
+registers-drawn ps p n start proper drawn_is id e =
+    let parts = and_parts (is_identifier id) (is_registered (ps ++ p ∷ []) (from_be_bytes w128 id)) e in
+    let right = or_right (is_registered_in ps id) (same id (identifier_at n start)) in
+    grind (arith, parts, registered-pushed ps p (from_be_bytes w128 id), or_left (is_registered_in ps id) (same id (identifier_at n start)), and_from, right, same_bytes id (identifier_at n start), number_is n start, same-refl id)
 
 -- ---- all parts draw
 
@@ -294,10 +303,14 @@ module _ {S : Type 0} where
   maintained-no_more now s t new e m = grind (arith, MatchBool, from-same s t e, run_no_more now t new, from-same s new)
 
   pub looked-no_more : (key : List ℕ) (hash now : ℕ) (s new : Part S) → NotesLookUp service_answers same key hash now false s new → HasNoMore S s new
-  looked-no_more key hash now s new look n h = grind (arith, maintained-no_more now s s look.mid refl look.maintains n (ap (λ ps. is_registered ps n) (sym (ap (λ (x : Part S). x.predicates) look.reads ∙ same-read (visible_record service_answers same s now key) hash now look.mid)) ∙ h), same-read (visible_record service_answers same s now key) hash now look.mid)
+  looked-no_more key hash now s new look n h =
+      let more = maintained-no_more now s s look.mid refl look.maintains n (ap (λ ps. is_registered ps n) (sym (ap (λ (x : Part S). x.predicates) look.reads ∙ same-read (visible_record service_answers same s now key) hash now look.mid)) ∙ h) in
+      grind (arith, more, same-read (visible_record service_answers same s now key) hash now look.mid)
 
   pub inserted-no_more : (key : List ℕ) (hash now step : ℕ) (value : Stored) (s new : Part S) → Inserts service_answers same key hash value now step s new → HasNoMore S s new
-  inserted-no_more key hash now step value s new call = grind (arith, from-same s new, maintained-no_more now s (inserted service_answers same key hash value now step s) new (same-sent s.next_ticket (written service_answers same (with_room s) key hash value now step) ∙ same-written (held_at same s.records key) (with_room s) key hash value now step), same-sent s.next_ticket (written service_answers same (with_room s) key hash value now step), same-written (held_at same s.records key) (with_room s) key hash value now step)
+  inserted-no_more key hash now step value s new call =
+      let more = maintained-no_more now s (inserted service_answers same key hash value now step s) new (same-sent s.next_ticket (written service_answers same (with_room s) key hash value now step) ∙ same-written (held_at same s.records key) (with_room s) key hash value now step) in
+      grind (arith, from-same s new, more, same-sent s.next_ticket (written service_answers same (with_room s) key hash value now step), same-written (held_at same s.records key) (with_room s) key hash value now step)
 
   pub removed-no_more : (key : List ℕ) (now : ℕ) (s new : Part S) → TakesOut service_answers same key now s new → HasNoMore S s new
   removed-no_more key now s new call = grind (arith, from-same s new, maintained-no_more now s, same-taken_out)

@@ -1,5 +1,5 @@
 -- What a store keeps of a part, kept by each call.
-use Rattle.std.proofs.Common.{◌≡◌, refl, ap, sym, ◌∙◌, subst, ℕ, zero, suc, Bool, true, false, cond, List, [], ◌∷◌, Option, Some, None, is_some, slice_get, remove, arith, ◌+◌, ◌≤◌, true≢false, ◌||◌, MatchBool, ◌++◌, length, option_map, is_none, IsTrue, ◌<◌, length-append, nat_lt, nat_le, MatchOption}
+use Rattle.std.proofs.Common.{◌≡◌, refl, ap, sym, ◌∙◌, subst, ℕ, zero, suc, Bool, true, false, List, [], ◌∷◌, Option, Some, None, slice_get, remove, arith, ◌+◌, ◌≤◌, true≢false, ◌||◌, MatchBool, ◌++◌, length, option_map, is_none, IsTrue, ◌<◌, length-append, nat_le, MatchOption}
 use Rattle.std.proofs.lemmas.Option.{none-some}
 use Rattle.policy_base.specs.Counts.{incremented}
 use Rattle.engine_reference.specs.declared.rules.causes.RemovalCause.{RemovalCause}
@@ -12,8 +12,8 @@ use Rattle.engine_reference.specs.declared.data.Read.TheVariants.{Hit, Miss}
 use Rattle.engine_reference.specs.declared.data.Write.{Write}
 use Rattle.engine_reference.specs.declared.data.Write.TheVariants.{Put, Removed}
 use Rattle.engine_reference.specs.Admission.{Verdict, admit, displace, refuse, verdict}
-use Rattle.engine_reference.specs.Records.{record_at, without_record, without, moved_to_back, held_at, changed_at, held_weight}
-use Rattle.engine_reference.specs.Runs.{Step, Steps, Runs, reads, writes, grows, leaves, evicts, ends, with_left, left, all_left, after_read, after_hit, after_write, after_put, after_removal, counting, put_off, judged, is_overtaken, RunsToEnd}
+use Rattle.engine_reference.specs.Records.{record_at, held_at, changed_at, held_weight}
+use Rattle.engine_reference.specs.Runs.{Step, Steps, Runs, reads, writes, grows, leaves, evicts, ends, with_left, left, all_left, after_read, after_hit, after_write, after_put, after_removal, judged, RunsToEnd}
 use Rattle.engine_reference.specs.State.{State, Answers}
 use Rattle.audit_model.specs.Bytewise.{same}
 use Rattle.audit_model.specs.History.{weight_of}
@@ -72,23 +72,18 @@ module _ {K V P S R : Type 0} where
   all_left-predicates why [] s = refl
   all_left-predicates why (r ∷ rs) s = all_left-predicates why rs (left why r.number s) ∙ left-predicates why r.number s
 
-  -- either of two states has this name
-  either-predicates : (b : Bool) (s t u : State K V P S R) → t.predicates ≡ s.predicates → u.predicates ≡ s.predicates → (cond b t u).predicates ≡ s.predicates
-  either-predicates true s t u h k = h
-  either-predicates false s t u h k = k
-
   judged-predicates : (u : Upsert) (r : Record K V) (s : State K V P S R) (v : Verdict K V) → (judged u r s v).predicates ≡ s.predicates
   judged-predicates u r s admit = refl
   judged-predicates u r s (displace victims) = all_left-predicates cause.Size victims s
-  judged-predicates u r s refuse = either-predicates (is_overtaken u r) s (put_off u s) (left cause.Size u.number s) refl (left-predicates cause.Size u.number s)
+  judged-predicates u r s refuse = grind (arith, left-predicates cause.Size u.number s)
 
   after_put-predicates : (u : Upsert) (o : Option (Record K V)) (s : State K V P S R) → (after_put u o s).predicates ≡ s.predicates
   after_put-predicates u None s = refl
-  after_put-predicates u (Some r) s = grind (arith, either-predicates (nat_lt r.applied u.write) s (cond (is_some r.counts) (counting u s) (judged u r s (verdict s u))) s (either-predicates (is_some r.counts) s (counting u s) (judged u r s (verdict s u)) refl (judged-predicates u r s (verdict s u))) refl, either-predicates (is_some r.counts) s (counting u s) (judged u r s (verdict s u)) refl (judged-predicates u r s (verdict s u)), judged-predicates u r s (verdict s u))
+  after_put-predicates u (Some r) s = grind (arith, judged-predicates u r s (verdict s u))
 
   after_removal-predicates : (o : Option (Record K V)) (s : State K V P S R) → (after_removal o s).predicates ≡ s.predicates
   after_removal-predicates None s = refl
-  after_removal-predicates (Some r) s = either-predicates r.is_held s s (record s { records = without_record r.number s.records; access = without r.number s.access; order = without r.number s.order }) refl refl
+  after_removal-predicates (Some r) s = grind arith
 
   after_write-predicates : (w : Write) (s : State K V P S R) → (after_write w s).predicates ≡ s.predicates
   after_write-predicates (Put u) s = after_put-predicates u (record_at s.records u.number) s
@@ -96,7 +91,7 @@ module _ {K V P S R : Type 0} where
 
   after_hit-predicates : (o : Option (Record K V)) (s : State K V P S R) → (after_hit o s).predicates ≡ s.predicates
   after_hit-predicates None s = refl
-  after_hit-predicates (Some r) s = either-predicates (is_some r.counts) s (record s { access = moved_to_back r.number s.access }) s refl refl
+  after_hit-predicates (Some r) s = grind arith
 
   after_read-predicates : (r : Read) (s : State K V P S R) → (after_read r s).predicates ≡ s.predicates
   after_read-predicates (Hit number hash) s = after_hit-predicates (record_at s.records number) (record s { sketch = incremented s.sketch hash })
@@ -135,9 +130,7 @@ weighs-little Bytes bytes short = short
 
 -- a value without a time of its own has no deadline of its own
 none-own : (now : ℕ) (own : Bool) (ms : Option ℕ) → IsTrue (own || is_none ms) → IsTrue (own || is_none (own_expiration now (option_map nanos ms)))
-none-own now true ms h = h
-none-own now false None h = h
-none-own now false (Some m) h = h
+none-own now own ms h = grind (arith, h)
 
 proper-later : (frame : Frame) (part step now next : ℕ) → frame.latest ≤ now → step ≤ next → (e : Entry (List ℕ) Stored) → IsProper frame part step e → IsProper (at_moment frame now) part next e
 proper-later frame part step now next less rises e p = grind arith

@@ -1,9 +1,9 @@
 -- What accepting a value does.
-use Rattle.std.proofs.Common.{◌≡◌, ℕ, zero, suc, ◌+◌, Bool, cond, true, false, true≢false, not, ◌&&◌, ◌||◌, List, [], ◌∷◌, ◌++◌, map, Option, option_map, Some, None, slice_get, refl, sym, ap, ◌∙◌, subst, arith, inl, inr, ◌⊎◌, append-nil, if◌then◌else◌, slice_set}
+use Rattle.std.proofs.Common.{◌≡◌, ℕ, zero, suc, ◌+◌, Bool, cond, true, false, not, ◌&&◌, ◌||◌, List, [], ◌∷◌, ◌++◌, map, Option, option_map, Some, None, slice_get, refl, sym, ap, ◌∙◌, subst, arith, inl, inr, ◌⊎◌, append-nil, if◌then◌else◌, slice_set}
 use Rattle.std.specs.List.{find, list_all}
-use Rattle.std.proofs.lemmas.Bool.{and_from, and_parts, not-true, not_from_false, or_from, false_from_ne_true}
+use Rattle.std.proofs.lemmas.Bool.{and_from, and_parts, not-true, not_from_false, or_from, false_from_ne_true, cond_both}
 use Rattle.std.proofs.lemmas.List.Folds.{list_all-append}
-use Rattle.std.proofs.lemmas.Option.{none-some}
+use Rattle.std.proofs.lemmas.Option.{none-some, cond_some, same_Some}
 use Rattle.audit_model.specs.Bytewise.{same}
 use Rattle.audit_model.specs.Changes.{all_held_after, held_after, left_held, newly_held, use_after}
 use Rattle.audit_model.specs.Commands.{Deed}
@@ -149,14 +149,10 @@ module _ {S : Type 0} (config : Config) (part_of : List ℕ → ℕ) (made now :
         }
       where
         causes : (dead covered : Bool) → cause_of (if dead then cause.Expired else (if covered then cause.Explicit else cause.Replaced)) ≡ cause_of_replaced dead covered
-        causes true covered = refl
-        causes false true = refl
-        causes false false = refl
+        causes dead covered = grind arith
 
         no_size_of : (dead covered : Bool) (j : ℕ) (vs : List Value) (x : Kept) → tells_size j vs (note_from (notice_of (if dead then cause.Expired else (if covered then cause.Explicit else cause.Replaced)) x) ∷ []) ≡ false
-        no_size_of true covered j vs x = refl
-        no_size_of false true j vs x = refl
-        no_size_of false false j vs x = refl
+        no_size_of dead covered j vs x = grind arith
 
     module _ (new : Part S) (maintained : Maintained now t new) where
       pub r : Ran now t new
@@ -197,21 +193,15 @@ module _ {S : Type 0} (config : Config) (part_of : List ℕ → ℕ) (made now :
       -- the look-up of the same step uses no value that stays
       pub unused : (notes : List Note) (u : Option (List ℕ)) → ((x : List ℕ) → u ≡ Some x → x ≡ key) → (q : List ℕ) (h : HeldValue) → value_at (left notes after_replaced) q ≡ Some h → use_after config now (accepting u value) h ≡ h.last_use
       unused notes None is q h found = refl
-      unused notes (Some x) is q h found = ap (λ y. cond (same y h.value.key && is_live_at config now h) now h.last_use) (is x refl) ∙ go (same key h.value.key) refl
+      unused notes (Some x) is q h found = ap (λ y. cond (same y h.value.key && is_live_at config now h) now h.last_use) (is x refl) ∙ cond_both (same key h.value.key && is_live_at config now h) now h.last_use (λ u. u ≡ h.last_use) (λ g. sym (now_is (and_parts _ _ g).0)) (λ _. refl)
         where
-          either : (b : Bool) (u : ℕ) → u ≡ now → cond b now u ≡ u
-          either true u g = sym g
-          either false u g = refl
-
-          go : (b : Bool) → same key h.value.key ≡ b → cond (same key h.value.key && is_live_at config now h) now h.last_use ≡ h.last_use
-          go false g = ap (λ b. cond (b && is_live_at config now h) now h.last_use) g
-          go true g =
+          now_is : same key h.value.key ≡ true → h.last_use ≡ now
+          now_is g =
               let is_q : q ≡ key = sym (key_from_some q (left notes after_replaced) h found) ∙ sym (equal_from_same key h.value.key g) in
               let there : value_at after_replaced q ≡ Some h = left-sub notes after_replaced q h (corresponds_written config part_of made now part s parts held k c marked key e t value w n).apart found in
-              let both : Some (newly_held value) ≡ Some h =
-              sym (ap (λ b. cond b (Some (newly_held value)) (value_at held q)) (ap (λ y. same y key) is_q ∙ same-refl key)) ∙ sym (value_at-just config part_of made now part s parts held k c marked key e t value w n q) ∙ there in
-              let one : newly_held value ≡ h = cc in
-              either (same key h.value.key && is_live_at config now h) h.last_use (ap (λ (y : HeldValue). y.last_use) (sym one) ∙ n.accepted)
+              let one : newly_held value ≡ h = same_Some (newly_held value) h
+              (sym (ap (λ b. cond b (Some (newly_held value)) (value_at held q)) (ap (λ y. same y key) is_q ∙ same-refl key)) ∙ sym (value_at-just config part_of made now part s parts held k c marked key e t value w n q) ∙ there) in
+              ap (λ (y : HeldValue). y.last_use) (sym one) ∙ n.accepted
 
       pub same_after : Corresponds (items_of 0 parts_new) (all_held_after config now held deed told)
       same_after =
@@ -233,11 +223,8 @@ module _ {S : Type 0} (config : Config) (part_of : List ℕ → ℕ) (made now :
       value_part = ap (λ (v : Value). v.part) (sym n.is)
 
       right_found : (q : List ℕ) (v : Value) → find (λ (x : Value). same q x.key) (map (λ (x : Candidate). x.value) (candidates_of config before deed)) ≡ Some v → v.part ≡ part_of q
-      right_found = find-candidates cand (λ h. refl) held (newcomer config value ∷ []) part_of (in_part config part_of now parts held k.parted c count) (λ q v found. go q v (same q value.key) refl found)
-        where
-          go : (q : List ℕ) (v : Value) (b : Bool) → same q value.key ≡ b → cond b (Some value) None ≡ Some v → v.part ≡ part_of q
-          go q v true f found = let is : value ≡ v = cc in ap (λ (x : Value). x.part) (sym is) ∙ value_part ∙ sym n.at ∙ ap part_of (sym (equal_from_same q value.key f ∙ n.is_key))
-          go q v false f found = absurd (none-some v found)
+      right_found = find-candidates cand (λ h. refl) held (newcomer config value ∷ []) part_of (in_part config part_of now parts held k.parted c count) (λ q v found. (let own = cond_some (same q value.key) value v found in
+          ap (λ (x : Value). x.part) (sym own.1) ∙ value_part ∙ sym n.at ∙ ap part_of (sym (equal_from_same q value.key own.0 ∙ n.is_key))))
 
       abbrev parts_t' : List (Part S)
       parts_t' = slice_set parts part t
@@ -295,10 +282,7 @@ module _ {S : Type 0} (config : Config) (part_of : List ℕ → ℕ) (made now :
                           ∙ f.no_size g.value.part (map (λ (x : Candidate). x.value) (candidates_of config before deed))
 
                       over_kept : (over anew evictable : Bool) → (over ≡ true) ⊎ ((anew ≡ false) × (evictable ≡ true)) → (over || (not (false || anew) && evictable)) ≡ true
-                      over_kept true anew evictable h = refl
-                      over_kept false anew evictable (inl h) = absurd (true≢false (sym h))
-                      over_kept false true evictable (inr h) = absurd (true≢false h.0)
-                      over_kept false false evictable (inr h) = h.1
+                      over_kept over anew evictable h = grind (arith, h)
 
                       by_point : PointIs config part_of made now part s parts held k c marked key e t value w n owner → (held_after config now held deed told left_values g).evictable ≡ true
                       by_point (fills a) =

@@ -1,8 +1,10 @@
 -- What maintenance leaves of a part, whether it came or not.
-use Rattle.std.proofs.Common.{◌≡◌, ℕ, true, List, [], ◌∷◌, ◌++◌, map, Some, refl, ap, ◌∙◌, inr, ◌⊎◌, append-nil, arith, ◌+◌, ◌<◌, Bool, cond, false, true≢false, ◌||◌, Option, option_map, None, slice_get, sym, subst, is_none, not, slice_set, suc, ◌≤◌, ◌&&◌}
+use Rattle.std.proofs.Common.{◌≡◌, ℕ, true, List, [], ◌∷◌, ◌++◌, map, Some, refl, ap, ◌∙◌, inr, ◌⊎◌, append-nil, arith, ◌+◌, ◌<◌, Bool, cond, false, true≢false, ◌||◌, Option, option_map, None, slice_get, sym, subst, is_none, not, slice_set, suc, ◌≤◌, ◌&&◌, inl}
+use Rattle.std.proofs.lemmas.Simd.{map-map}
+use Rattle.std.proofs.lemmas.List.{map-append}
 use Rattle.std.proofs.Math.Bool.{and_comm}
-use Rattle.std.proofs.lemmas.Bool.{and_left, or_from, or_left, or_right, and_from, and_parts, ltb-true, false_from_ne_true}
-use Rattle.std.proofs.lemmas.Option.{none-some}
+use Rattle.std.proofs.lemmas.Bool.{and_left, or_from, or_left, or_right, and_from, and_parts, ltb-true, false_from_ne_true, cases_Bool}
+use Rattle.std.proofs.lemmas.Option.{none-some, same_Some}
 use Rattle.std.specs.List.{list_all, find, list_any}
 use Rattle.policy_base.specs.Info.{kept_time}
 use Rattle.engine_reference.proofs.Accounts.{each-map}
@@ -41,10 +43,6 @@ use Rattle.cache_front.proofs.parts.Items.{ArePlaced, AreParted, value_at-part, 
 use Rattle.cache_front.proofs.parts.Writing.{Kept, notes_of, Judges, dead_is, PointsBack, itself, earlier, points_back, Fits, Fitting, Rec, same_laws, Wrote}
 use Rattle.cache_front.specs.Parts.{Stored, Part, service_answers, note_from, settings_of, held_of, value_of, items_of, AreMarked, IsBrief, nanos}
 
-pub map_append : {A B : Type 0} (f : A → B) (xs ys : List A) → map f (xs ++ ys) ≡ map f xs ++ map f ys
-map_append f [] ys = refl
-map_append f (x ∷ xs) ys = ap (λ zs. f x ∷ zs) (map_append f xs ys)
-
 notes_are : (removals : List (Removal (List ℕ) Stored)) → map note_from (map notice_of_removal removals) ≡ notes_of removals
 notes_are [] = refl
 notes_are (gone ∷ removals) = ap (λ ns. note_from (notice_of_removal gone) ∷ ns) (notes_are removals)
@@ -80,7 +78,7 @@ module _ {S : Type 0} (now : ℕ) (t new : Part S) where
         just = k.just;
         notices =
             ap (map note_from) (k.tells.notices ∙ ap (λ b. t.notices ++ notices_of b k.removals) tells)
-            ∙ map_append note_from t.notices (map notice_of_removal k.removals)
+            ∙ map-append note_from t.notices (map notice_of_removal k.removals)
             ∙ ap (λ ns. map note_from t.notices ++ ns) (notes_are k.removals);
         cover = λ q e h. (let place = entry_of-there same (held_entries new.records) q e h in keeps.covered place.0 e place.1);
         comes = k.comes;
@@ -207,27 +205,19 @@ module _ {S : Type 0} (config : Config) (part_of : List ℕ → ℕ) (made now :
 
       -- THE KEPT WEIGHT IS THE AUDIT'S: the part is over its share then exactly where what is kept beside the write is above the capacity
       pub over_written : is_over config part (map (λ (h : HeldValue). h.value) just) ≡ is_above t.settings.capacity w.upsert.kept
-      over_written = grind (arith, over_is config part (items_of 0 parts_t) just (apart-of part_of 0 parts_t parted_t) corresponds_written, apart-of part_of 0 parts_t parted_t, parted_t, corresponds_written, zero_plus, weight-part 0 part parts_t t there_t, there_t, above_is (option_map (share config) config.capacity) w.upsert.kept)
+      over_written =
+          let over = over_is config part (items_of 0 parts_t) just (apart-of part_of 0 parts_t parted_t) corresponds_written in
+          grind (arith, over, apart-of part_of 0 parts_t parted_t, parted_t, corresponds_written, zero_plus, weight-part 0 part parts_t t there_t, there_t, above_is (option_map (share config) config.capacity) w.upsert.kept)
 
       values_without : (xs : List HeldValue) → without_key (λ (v : Value). v.key) key (map (λ (x : Candidate). x.value) (map cand xs)) ≡ map (λ (h : HeldValue). h.value) (without key xs)
       values_without [] = refl
-      values_without (x ∷ xs) = go (same key x.value.key) (values_without xs)
-        where
-          go : (b : Bool) → without_key (λ (v : Value). v.key) key (map (λ (x : Candidate). x.value) (map cand xs)) ≡ map (λ (h : HeldValue). h.value) (without key xs)
-              → cond b (map (λ (x : Candidate). x.value) (map cand xs)) (x.value ∷ without_key (λ (v : Value). v.key) key (map (λ (x : Candidate). x.value) (map cand xs))) ≡ map (λ (h : HeldValue). h.value) (cond b xs (x ∷ without key xs))
-          go true next = plain_values xs
-            where
-              plain_values : (ys : List HeldValue) → map (λ (x : Candidate). x.value) (map cand ys) ≡ map (λ (h : HeldValue). h.value) ys
-              plain_values [] = refl
-              plain_values (y ∷ ys) = ap (λ vs. y.value ∷ vs) (plain_values ys)
-          go false next = ap (λ vs. x.value ∷ vs) next
-
-      map_push : (xs : List HeldValue) → map (λ (h : HeldValue). h.value) (xs ++ newly_held value ∷ []) ≡ map (λ (h : HeldValue). h.value) xs ++ value ∷ []
-      map_push [] = refl
-      map_push (x ∷ xs) = ap (λ vs. x.value ∷ vs) (map_push xs)
+      values_without (x ∷ xs) = elim (cases_Bool (same key x.value.key)) [
+        | inl e ↦ rw e (map-map (λ (x : Candidate). x.value) cand xs)
+        | inr e ↦ rw e (ap (λ vs. x.value ∷ vs) (values_without xs))
+      ]
 
       accepted_are : just_accepted (map (λ (x : Candidate). x.value) (map cand held)) (Some value) ≡ map (λ (h : HeldValue). h.value) just
-      accepted_are = grind (arith, values_without held, map_push (without key held))
+      accepted_are = grind (arith, values_without held, map-append (λ (h : HeldValue). h.value) (without key held) (newly_held value ∷ []))
 
       pub overfills_is : (used : Option (List ℕ)) → overfills config (map cand held) (accepting used value) part ≡ is_above t.settings.capacity w.upsert.kept
       overfills_is used = ap (is_over config part) accepted_are ∙ over_written
@@ -238,11 +228,45 @@ module _ {S : Type 0} (config : Config) (part_of : List ℕ → ℕ) (made now :
         was : same key owner.entry.key ≡ false → record_at s.records owner.number ≡ Some owner → HasPoint s.settings.capacity s.writes (map (λ u. u.write) s.unsent) owner.number → PointIs owner
 
       pub point_is : (owner : Rec) → record_at t.records owner.number ≡ Some owner → owner.is_held ≡ true → HasPoint t.settings.capacity t.writes (map (λ u. u.write) t.unsent) owner.number → PointIs owner
-      point_is owner there held p = grind (arith, points_back t.settings.capacity s.writes (Put w.upsert) owner.number (subst (λ us. HasPoint t.settings.capacity (s.writes ++ Put w.upsert ∷ []) us owner.number) (ap (λ us. map (λ u. u.write) us) w.unsent) (subst (λ ws. HasPoint t.settings.capacity ws (map (λ u. u.write) t.unsent) owner.number) w.writes p)), PointsBack t.settings.capacity s.writes (Put w.upsert) owner.number, itself, earlier)
+      point_is owner there held p =
+          let back = points_back t.settings.capacity s.writes (Put w.upsert) owner.number
+          (subst (λ us. HasPoint t.settings.capacity (s.writes ++ Put w.upsert ∷ []) us owner.number) (ap (λ us. map (λ u. u.write) us) w.unsent)
+          (subst (λ ws. HasPoint t.settings.capacity ws (map (λ u. u.write) t.unsent) owner.number) w.writes p)) in
+          grind (arith, back, PointsBack t.settings.capacity s.writes (Put w.upsert) owner.number, itself, earlier)
 
       -- a run that begins after the write
       pub fits_written : (used : Option (List ℕ)) → Fits (Judges config (accepting used value) (map cand held) now t) (map cand (without key held) ++ newcomer config value ∷ []) (held_entries t.records)
-      fits_written used q x there = go (same q key) refl (sym (w.found q) ∙ there)
+      fits_written used q x there = elim (cases_Bool (same q key)) [
+        | inl f ↦
+            let is : e ≡ x = same_Some e x (sym (ap (λ b. cond b (Some e) (entry_of same (held_entries s.records) q)) f) ∙ sym (w.found q) ∙ there) in
+            subst (λ y. Fitting (Judges config (accepting used value) (map cand held) now t) (map cand (without key held) ++ newcomer config value ∷ []) q y) is (record {
+              candidate = newcomer config value;
+              there = first_of-behind q (map cand (without key held)) (newcomer config value ∷ []) (first_none q f)
+                  ∙ ap (λ y. cond (same q y) (Some (newcomer config value)) None) n.is_key ∙ ap (λ b. cond b (Some (newcomer config value)) None) f;
+              is = record {
+                bytes = ap (λ (v : Value). v.bytes) (sym n.is);
+                later = refl;
+                expired = λ past. dead_new past;
+                explicit = λ covered. absurd (true≢false (sym covered ∙ n.fresh));
+                size = λ p. ap (overfills config (map cand held) (accepting used value)) (sym (ap (λ (v : Value). v.part) n.is)) ∙ new_size e refl p;
+              };
+            })
+        | inr f ↦
+            let in_s : entry_of same (held_entries s.records) q ≡ Some x = sym (ap (λ b. cond b (Some e) (entry_of same (held_entries s.records) q)) f) ∙ sym (w.found q) ∙ there in
+            let st = stands_for q x in_s in
+            record {
+              candidate = cand st.value;
+              there = first_of-append q (map cand (without key held)) (newcomer config value ∷ []) (cand st.value)
+                  (first_of-map cand (λ h. refl) q (without key held) ∙ ap (option_map cand) (value_at-without key q held c.apart ∙ ap (λ b. cond b None (value_at held q)) f ∙ st.found));
+              is = record {
+                bytes = ap (λ (h : HeldValue). h.value.bytes) st.is;
+                later = and_left _ (is_none used) (or_from (same st.value.value.key value.key) false (ap (λ y. same y value.key) (key_from_some q held st.value st.found) ∙ ap (same q) n.is_key ∙ f) refl);
+                expired = λ past. sym (dead_from q x st.value in_s st.is) ∙ ap (λ z. has_come z now x) (sym w.settings) ∙ past;
+                explicit = λ covered. ap (λ (h : HeldValue). h.covered) st.is ∙ sym (w.cover x) ∙ covered;
+                size = λ p. old_size x st.value in_s st.found (ap (λ (h : HeldValue). h.value.part) st.is) p;
+              };
+            }
+      ]
         where
           first_none : (q : List ℕ) → same q key ≡ true → first_of q (map cand (without key held)) ≡ None
           first_none q f = first_of-map cand (λ h. refl) q (without key held) ∙ ap (option_map cand) (value_at-without key q held c.apart ∙ ap (λ b. cond b None (value_at held q)) f)
@@ -273,39 +297,6 @@ module _ {S : Type 0} (config : Config) (part_of : List ℕ → ℕ) (made now :
               by_point : PointIs p.owner → (h.evictable || overfills config (map cand held) (accepting used value) h.value.part) ≡ true
               by_point (fills a) = or_right h.evictable _ (ap (overfills config (map cand held) (accepting used value)) in_part ∙ overfills_is used ∙ a)
               by_point (was other there point) = or_left h.evictable _ (marked_from q y h in_s found (record { owner = p.owner; there = there; held = p.held; entry = p.entry; point = point }))
-
-          go : (b : Bool) → same q key ≡ b → cond (same q key) (Some e) (entry_of same (held_entries s.records) q) ≡ Some x
-              → Fitting (Judges config (accepting used value) (map cand held) now t) (map cand (without key held) ++ newcomer config value ∷ []) q x
-          go true f g =
-              let both : Some e ≡ Some x = sym (ap (λ b. cond b (Some e) (entry_of same (held_entries s.records) q)) f) ∙ g in
-              let is : e ≡ x = cc in
-              subst (λ y. Fitting (Judges config (accepting used value) (map cand held) now t) (map cand (without key held) ++ newcomer config value ∷ []) q y) is (record {
-                candidate = newcomer config value;
-                there = first_of-behind q (map cand (without key held)) (newcomer config value ∷ []) (first_none q f)
-                    ∙ ap (λ y. cond (same q y) (Some (newcomer config value)) None) n.is_key ∙ ap (λ b. cond b (Some (newcomer config value)) None) f;
-                is = record {
-                  bytes = ap (λ (v : Value). v.bytes) (sym n.is);
-                  later = refl;
-                  expired = λ past. dead_new past;
-                  explicit = λ covered. absurd (true≢false (sym covered ∙ n.fresh));
-                  size = λ p. ap (overfills config (map cand held) (accepting used value)) (sym (ap (λ (v : Value). v.part) n.is)) ∙ new_size e refl p;
-                };
-              })
-          go false f g =
-              let in_s : entry_of same (held_entries s.records) q ≡ Some x = sym (ap (λ b. cond b (Some e) (entry_of same (held_entries s.records) q)) f) ∙ g in
-              let st = stands_for q x in_s in
-              record {
-                candidate = cand st.value;
-                there = first_of-append q (map cand (without key held)) (newcomer config value ∷ []) (cand st.value)
-                    (first_of-map cand (λ h. refl) q (without key held) ∙ ap (option_map cand) (value_at-without key q held c.apart ∙ ap (λ b. cond b None (value_at held q)) f ∙ st.found));
-                is = record {
-                  bytes = ap (λ (h : HeldValue). h.value.bytes) st.is;
-                  later = and_left _ (is_none used) (or_from (same st.value.value.key value.key) false (ap (λ y. same y value.key) (key_from_some q held st.value st.found) ∙ ap (same q) n.is_key ∙ f) refl);
-                  expired = λ past. sym (dead_from q x st.value in_s st.is) ∙ ap (λ z. has_come z now x) (sym w.settings) ∙ past;
-                  explicit = λ covered. ap (λ (h : HeldValue). h.covered) st.is ∙ sym (w.cover x) ∙ covered;
-                  size = λ p. old_size x st.value in_s st.found (ap (λ (h : HeldValue). h.value.part) st.is) p;
-                };
-              }
 
 -- Small facts: own deadlines, what is fresh, what is live, capacity 0.
 
@@ -349,10 +340,6 @@ module _ {S : Type 0} where
       bytes_are None = refl
       bytes_are (Some h) = refl
 
-      either : (b : Bool) (e : Kept) → option_map (λ (h : HeldValue). h.value.bytes) (cond b (Some (held_of (0 + part) s e)) None) ≡ option_map (λ (e : Kept). e.value.bytes) (cond b (Some e) None)
-      either true e = refl
-      either false e = refl
-
       by_entry : (o : Option Kept) → entry_of same (held_entries s.records) key ≡ o
           → option_map (λ (h : HeldValue). h.value.bytes) (if_live config now (option_map (held_of (0 + part) s) o)) ≡ option_map (λ (e : Kept). e.value.bytes) (passing (is_visible service_answers s now) o)
       by_entry None f = refl
@@ -361,4 +348,4 @@ module _ {S : Type 0} where
           ap (λ b. option_map (λ (h : HeldValue). h.value.bytes) (cond b (Some (held_of (0 + part) s e)) None))
           (ap (λ b. not (is_covered service_answers s e) && not b) (sym (dead_is config made now (0 + part) s e k.brief k.settings early.0 early.1))
           ∙ and_comm (not (is_covered service_answers s e)) (not (has_come s.settings now e)))
-          ∙ either (is_visible service_answers s now e) e
+          ∙ grind arith

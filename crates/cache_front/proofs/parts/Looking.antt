@@ -1,10 +1,10 @@
 -- What a run of one part comes to in a call that accepts nothing, and what such calls do: a look-up, a removal that finds nothing, a clear, a predicate.
-use Rattle.std.proofs.Common.{◌≡◌, ℕ, suc, true, false, not, List, [], ◌++◌, map, Option, Some, None, slice_get, sym, ap, ◌∙◌, subst, refl, arith, inl, inr, ◌⊎◌, append-nil, ◌+◌, Bool, cond, true≢false, ◌&&◌, ◌||◌, ◌∷◌, option_map, zero, ◌==◌, if◌then◌else◌, slice_set}
+use Rattle.std.proofs.Common.{◌≡◌, ℕ, suc, true, false, not, List, [], ◌++◌, map, Option, Some, None, slice_get, sym, ap, ◌∙◌, subst, refl, arith, inl, inr, ◌⊎◌, append-nil, ◌+◌, Bool, cond, true≢false, ◌&&◌, ◌||◌, ◌∷◌, option_map, zero, if◌then◌else◌, slice_set, ⊎_elim}
 use Rattle.std.proofs.Math.Bool.{and_comm, or-false}
 use Rattle.std.specs.List.{list_all}
 use Rattle.std.proofs.lemmas.Option.{none-some}
 use Rattle.audit_model.specs.Bytewise.{same}
-use Rattle.audit_model.specs.Changes.{held_after, left_held, use_after}
+use Rattle.audit_model.specs.Changes.{held_after, left_held}
 use Rattle.audit_model.specs.Commands.{Deed, Nothing, Covering, covers_key}
 use Rattle.audit_model.specs.Notes.{are_true_notes, candidates_of, is_succeeded, is_told_first}
 use Rattle.audit_model.specs.Situation.{HeldValue, candidate_at, is_dead_at, is_live_at}
@@ -17,7 +17,7 @@ use Rattle.engine_reference.specs.RunLaws.Points.{HasPoint, IsInOrder}
 use Rattle.engine_reference.specs.RunLaws.Just.{IsJust, ComesFrom}
 use Rattle.cache_store.specs.Held.{value_at, plain, Corresponds, is_absent}
 use Rattle.cache_store.proofs.Held.{left, value_at-map, apart-map, key_from_some, absent_from_none}
-use Rattle.cache_front.specs.Parts.{Part, service_answers, AreMarked, Stands, note_from, held_of, value_of, items_of, drained}
+use Rattle.cache_front.specs.Parts.{Part, service_answers, AreMarked, Stands, note_from, held_of, items_of, drained}
 use Rattle.cache_front.proofs.parts.Accepting.{all-untold}
 use Rattle.cache_front.proofs.parts.Joining.{Knows, fits_held, dead_from, none_deleted, Ran, Maintained, ran_from}
 use Rattle.cache_front.proofs.parts.Writing.{Judges, judged, no_point, Kept, notes_of, told_truly, Rec, same_laws, found-at, unlike_other, all_units}
@@ -34,7 +34,7 @@ use Rattle.engine_reference.proofs.run_laws.Shown.{entry-held, to-records, from-
 use Rattle.cache_store.specs.Promises.{Done, using, deleting, covering}
 use Rattle.cache_store.proofs.Steps.{none_succeeded, after_plain, corresponds-as, right_to_tell_none}
 use Rattle.cache_store.proofs.Keys.{equal_from_same}
-use Rattle.std.proofs.lemmas.Bool.{and_parts, and_left}
+use Rattle.std.proofs.lemmas.Bool.{and_parts, and_left, cases_Bool, false_from_ne_true}
 use Rattle.cache_store.specs.Handing.{TellsNone}
 
 -- a key is used, or one is deleted
@@ -98,21 +98,7 @@ used_if now b x = cond b (record x { used = now }) x
 changed-back : (m n : ℕ) (f : Rec → Rec) (rs : List Rec) (o : Rec) → ((x : Rec) → (f x).number ≡ x.number) → ((x : Rec) → (f x).is_held ≡ x.is_held) → ((x : Rec) → (f x).entry.key ≡ x.entry.key) → record_at (changed_at m f rs) n ≡ Some o
     → (y : Rec) × (record_at rs n ≡ Some y) × (y.is_held ≡ o.is_held) × (y.entry.key ≡ o.entry.key)
 changed-back m n f [] o number held key h = absurd (none-some o h)
-changed-back m n f (x ∷ rs) o number held key h = go (x.number == m) h (λ k. changed-back m n f rs o number held key k)
-  where
-    first : (y : Rec) → y.is_held ≡ x.is_held → y.entry.key ≡ x.entry.key → (c : Bool) → cond c (Some y) (record_at rs n) ≡ Some o → (z : Rec) × (cond c (Some x) (record_at rs n) ≡ Some z) × (z.is_held ≡ o.is_held) × (z.entry.key ≡ o.entry.key)
-    first y a b true e = let is : y ≡ o = cc in (x, refl, sym a ∙ ap (λ (z : Rec). z.is_held) is, sym b ∙ ap (λ (z : Rec). z.entry.key) is)
-    first y a b false e = (o, e, refl, refl)
-
-    further : (c : Bool) → cond c (Some x) (record_at (changed_at m f rs) n) ≡ Some o → (record_at (changed_at m f rs) n ≡ Some o → (y : Rec) × (record_at rs n ≡ Some y) × (y.is_held ≡ o.is_held) × (y.entry.key ≡ o.entry.key))
-        → (y : Rec) × (cond c (Some x) (record_at rs n) ≡ Some y) × (y.is_held ≡ o.is_held) × (y.entry.key ≡ o.entry.key)
-    further true e later = (o, e, refl, refl)
-    further false e later = later e
-
-    go : (b : Bool) → record_at (cond b (f x ∷ rs) (x ∷ changed_at m f rs)) n ≡ Some o → (record_at (changed_at m f rs) n ≡ Some o → (y : Rec) × (record_at rs n ≡ Some y) × (y.is_held ≡ o.is_held) × (y.entry.key ≡ o.entry.key))
-        → (y : Rec) × (record_at (x ∷ rs) n ≡ Some y) × (y.is_held ≡ o.is_held) × (y.entry.key ≡ o.entry.key)
-    go true e later = first (f x) (held x) (key x) (x.number == n) (ap (λ k. cond (k == n) (Some (f x)) (record_at rs n)) (sym (number x)) ∙ e)
-    go false e later = further (x.number == n) e later
+changed-back m n f (x ∷ rs) o number held key h = grind (arith, h, changed-back m n f rs o number held key, number x, held x, key x)
 
 no_entry : (f : Rec → Rec) (m : ℕ) (key : List ℕ) (rs : List Rec) → ((x : Rec) → (f x).is_held ≡ x.is_held) → ((x : Rec) → (f x).entry.key ≡ x.entry.key) → held_at same rs key ≡ None → held_at same (changed_at m f rs) key ≡ None
 no_entry f m key [] held keys h = refl
@@ -151,10 +137,10 @@ module _ {S : Type 0} (now : ℕ) (key : List ℕ) (hash : ℕ) (s mid : Part S)
 
       -- in the changed records
       seen : is_visible service_answers s now rec.entry ≡ true → entry_of same (held_entries changed) q ≡ option_map (λ x. used_if now (sees q x) x) (entry_of same (held_entries mid.records) q)
-      seen v = entry-held same changed q ∙ by_key (same q key) refl ∙ ap (option_map (λ x. used_if now (sees q x) x)) (sym (entry-held same mid.records q))
+      seen v = entry-held same changed q ∙ ⊎_elim matched unmatched (cases_Bool (same q key)) ∙ ap (option_map (λ x. used_if now (sees q x) x)) (sym (entry-held same mid.records q))
         where
-          by_key : (b : Bool) → same q key ≡ b → option_map (λ (y : Rec). y.entry) (held_at same changed q) ≡ option_map (λ x. used_if now (sees q x) x) (option_map (λ (y : Rec). y.entry) (held_at same mid.records q))
-          by_key false g =
+          unmatched : same q key ≡ false → option_map (λ (y : Rec). y.entry) (held_at same changed q) ≡ option_map (λ x. used_if now (sees q x) x) (option_map (λ (y : Rec). y.entry) (held_at same mid.records q))
+          unmatched g =
               ap (option_map (λ (y : Rec). y.entry)) (unmatched-changed same rec.number f q mid.records
               (each-map (ComesFrom s.records) (λ (y : Rec). y.number ≡ rec.number → (same q y.entry.key ≡ false) × (same q (f y).entry.key ≡ false))
               (λ y from at.
@@ -168,7 +154,9 @@ module _ {S : Type 0} (now : ℕ) (key : List ℕ) (hash : ℕ) (s mid : Part S)
               plain_map : (o : Option Rec) → option_map (λ (y : Rec). y.entry) o ≡ option_map (λ x. used_if now (sees q x) x) (option_map (λ (y : Rec). y.entry) o)
               plain_map None = refl
               plain_map (Some y) = ap (λ b. Some (used_if now (b && is_visible service_answers s now y.entry) y.entry)) (sym g)
-          by_key true g = by_record (held_at same mid.records q) refl
+
+          matched : same q key ≡ true → option_map (λ (y : Rec). y.entry) (held_at same changed q) ≡ option_map (λ x. used_if now (sees q x) x) (option_map (λ (y : Rec). y.entry) (held_at same mid.records q))
+          matched g = by_record (held_at same mid.records q) refl
             where
               by_record : (o : Option Rec) → held_at same mid.records q ≡ o → option_map (λ (y : Rec). y.entry) (held_at same changed q) ≡ option_map (λ x. used_if now (sees q x) x) (option_map (λ (y : Rec). y.entry) o)
               by_record None e = ap (option_map (λ (y : Rec). y.entry)) (no_entry f rec.number q mid.records (λ x. refl) (λ x. refl) e)
@@ -198,11 +186,10 @@ module _ {S : Type 0} (now : ℕ) (key : List ℕ) (hash : ℕ) (s mid : Part S)
         where
           unseen : (o : Option Kept) → entry_of same (held_entries mid.records) q ≡ o → o ≡ option_map (λ x. used_if now (sees q x) x) o
           unseen None e = refl
-          unseen (Some x) e = go (same q key) refl
-            where
-              go : (b : Bool) → same q key ≡ b → Some x ≡ Some (used_if now (sees q x) x)
-              go true g = ap (λ b. Some (used_if now b x)) (sym (ap (λ b. b && is_visible service_answers s now x) g ∙ ap (is_visible service_answers s now) (sym (is_rec x g e)) ∙ v))
-              go false g = ap (λ b. Some (used_if now (b && is_visible service_answers s now x) x)) (sym g)
+          unseen (Some x) e = elim (cases_Bool (same q key)) [
+            | inl g ↦ ap (λ b. Some (used_if now b x)) (sym (ap (λ b. b && is_visible service_answers s now x) g ∙ ap (is_visible service_answers s now) (sym (is_rec x g e)) ∙ v))
+            | inr g ↦ ap (λ b. Some (used_if now (b && is_visible service_answers s now x) x)) (sym g)
+          ]
 
   -- ---- what stays the same
 
@@ -216,18 +203,6 @@ module _ {S : Type 0} (now : ℕ) (key : List ℕ) (hash : ℕ) (s mid : Part S)
 
   pub read-apart : AreApart same (held_entries mid.records) → AreApart same (held_entries read.records)
   read-apart a = from-records same read.records (kept_apart same same_laws service_answers mid (visible_record service_answers same s now key) hash now (to-records same mid.records a))
-
-  used-value : (part : ℕ) (b : Bool) (x : Kept) → value_of part (used_if now b x) ≡ value_of part x
-  used-value part true x = refl
-  used-value part false x = refl
-
-  used-cover : (b : Bool) (x : Kept) → is_covered service_answers mid (used_if now b x) ≡ is_covered service_answers mid x
-  used-cover true x = refl
-  used-cover false x = refl
-
-  used-moment : (b : Bool) (x : Kept) → (used_if now b x).used ≡ cond b now x.used
-  used-moment true x = refl
-  used-moment false x = refl
 
   module _ (config : Config) (part_of : List ℕ → ℕ) (made part : ℕ) (parts : List (Part S)) (held : List HeldValue) (k : Knows config part_of made now part s parts held) (stands : Stands parts held)
       (count : (q : List ℕ) → (x : Part S) × (slice_get parts (part_of q) ≡ Some x)) (taken : s.notices ≡ []) (at_key : part_of key ≡ part) where
@@ -287,7 +262,7 @@ module _ {S : Type 0} (now : ℕ) (key : List ℕ) (hash : ℕ) (s mid : Part S)
         ∙ and_comm (not (is_covered service_answers s x)) (not (has_come s.settings now x)))
 
     after-is : (q : List ℕ) (x : Kept) (h : HeldValue) → entry_of same (held_entries mid.records) q ≡ Some x → value_at xs q ≡ Some h → plain h ≡ held_of (0 + part) mid x → plain (f h) ≡ held_of (0 + part) (drained read) (used_if now (sees q x) x)
-    after-is q x h in_mid found is = grind (arith, used-alike q x, or-false, used-value (0 + part), used-moment, used-cover, read-cover (visible_record service_answers same s now key))
+    after-is q x h in_mid found is = grind (arith, used-alike q x, or-false, read-cover (visible_record service_answers same s now key))
 
     pub corresponds_read : Corresponds (items_of 0 parts_new) (map f xs)
     corresponds_read =
@@ -320,11 +295,8 @@ module _ {S : Type 0} (now : ℕ) (key : List ℕ) (hash : ℕ) (s mid : Part S)
           where
             go : (o : Option HeldValue) → value_at xs q ≡ o → option_map plain (option_map f o) ≡ option_map plain o
             go None e = refl
-            go (Some h) e = ap (λ y. Some y) (after_plain config now held (using key) told (map (λ (h : HeldValue). h.value) xs) refl h (unused (same key h.value.key) refl))
-              where
-                unused : (b : Bool) → same key h.value.key ≡ b → use_after config now (using key) h ≡ h.last_use
-                unused true g = absurd (other (ap part_of (sym (key_from_some q xs h e) ∙ sym (equal_from_same key h.value.key g)) ∙ at_key ∙ sym zero_plus))
-                unused false g = ap (λ b. cond (b && is_live_at config now h) now h.last_use) g
+            go (Some h) e = ap (λ y. Some y) (after_plain config now held (using key) told (map (λ (h : HeldValue). h.value) xs) refl h
+                (ap (λ b. cond (b && is_live_at config now h) now h.last_use) (false_from_ne_true (same key h.value.key) (λ g. other (ap part_of (sym (key_from_some q xs h e) ∙ sym (equal_from_same key h.value.key g)) ∙ at_key ∙ sym zero_plus)))))
 
     -- A LOOK-UP DOES WHAT A STORE PROMISES
     pub look_up_does : Done config now (using key) held (Stands parts_new) (λ notes. notes ≡ map note_from mid.notices)
@@ -373,7 +345,9 @@ module _ {S : Type 0} (config : Config) (part_of : List ℕ → ℕ) (made now :
   absent = grind (arith, absent_from_none key held, value_at-part part_of 0 part parts s key k.parted k.there (at_key ∙ sym plus_zero), plus_zero, entry-held same s.records key, none-some)
 
   same_after : Corresponds (items_of 0 parts_then) (map left_of others)
-  same_after = grind (arith, corresponds-as left_of (items_of 0 parts_then) others (λ h. refl), after_plain config now held (deleting key) only_told (map (λ (h : HeldValue). h.value) others) refl, left only_told, append-nil held, corresponds-run part_of part s (drained new) parts held r.removals k.parted k.there r.takes r.cover stands.same)
+  same_after =
+      let run = corresponds-run part_of part s (drained new) parts held r.removals k.parted k.there r.takes r.cover stands.same in
+      grind (arith, corresponds-as left_of (items_of 0 parts_then) others (λ h. refl), after_plain config now held (deleting key) only_told (map (λ (h : HeldValue). h.value) others) refl, left only_told, append-nil held, run)
 
   -- A REMOVAL OF A KEY THAT IS NOT THERE DOES WHAT A STORE PROMISES
   pub miss_does : Done config now (deleting key) held (Stands parts_then) (λ notes. notes ≡ map note_from new.notices)

@@ -1,7 +1,7 @@
 -- The order of use of a part: keys of records, what waits, and what a read, a write and a removal move.
 use Rattle.std.proofs.Common.{◌≡◌, refl, ap, sym, ◌∙◌, subst, ℕ, arith, Bool, true, false, cond, not, List, [], ◌∷◌, ◌++◌, Option, option_map, Some, None, map, reverse, length, inl, inr, ◌⊎◌, eqb, ◌<◌, is_some, suc, ◌+◌, ◌≤◌, true≢false, take, slice_get, IsPermutation, remove, nat_lt, if◌then◌else◌}
 use Rattle.std.specs.List.{cons_option, list_any, filter}
-use Rattle.std.proofs.lemmas.Bool.{eqb-true, eqb-false, eq-eqb, ne_eqb, ltb-true, cases_eq, lt-ltb, le-ltb}
+use Rattle.std.proofs.lemmas.Bool.{eqb-true, eqb-false, eq-eqb, ne_eqb, ltb-true, cases_eq, lt-ltb, le-ltb, cases_Bool}
 use Rattle.std.proofs.lemmas.List.{reverse-append, append-nil, length-reverse, length-append, take-append-le, length-map}
 use Rattle.std.proofs.lemmas.List.Elements.{filter_map-append, filter-append}
 use Rattle.std.proofs.lemmas.List.Sorted.{IsPermutation-remove, IsPermutation-map, IsPermutation-cons, IsPermutation-trans, IsPermutation-refl, length_permutation, list_any-IsPermutation, IsPermutation-reverse}
@@ -237,12 +237,10 @@ module _ {K V P S R : Type 0} where
 -- what is so of each entry that is held is so of each record that is held
 entries-each : (Q : Entry (List ℕ) Stored → Type 0) (rs : List Rec) → ((place : ℕ) (e : Entry (List ℕ) Stored) → slice_get (held_entries rs) place ≡ Some e → Q e) → Each (λ r. r.is_held ≡ true → Q r.entry) rs
 entries-each Q [] all = tt
-entries-each Q (r ∷ rs) all = go r.is_held refl (λ k. entries-each Q rs k) all
-  where
-    go : (b : Bool) → r.is_held ≡ b → (((place : ℕ) (e : Entry (List ℕ) Stored) → slice_get (held_entries rs) place ≡ Some e → Q e) → Each (λ r. r.is_held ≡ true → Q r.entry) rs)
-        → ((place : ℕ) (e : Entry (List ℕ) Stored) → slice_get (cond b (r.entry ∷ held_entries rs) (held_entries rs)) place ≡ Some e → Q e) → (r.is_held ≡ true → Q r.entry) × Each (λ r. r.is_held ≡ true → Q r.entry) rs
-    go true t later all = ((λ held. all 0 r.entry refl), later (λ place e there. all (suc place) e there))
-    go false t later all = ((λ held. absurd (true≢false (sym held ∙ t))), later all)
+entries-each Q (r ∷ rs) all = elim (cases_Bool r.is_held) [
+  | inl t ↦ let all = rw t at all in ((λ held. all 0 r.entry refl), entries-each Q rs (λ place e there. all (suc place) e there))
+  | inr t ↦ ((λ held. absurd (true≢false (sym held ∙ t))), entries-each Q rs (rw t at all))
+]
 
 -- the keys are those of its settled records
 keys-settled : (rs : List Rec) (ns : List ℕ) → Each IsCounted rs → keys_in rs ns ≡ map (λ (r : Rec). r.entry.key) (settled_in rs ns)
@@ -432,7 +430,9 @@ module _ {S : Type 0} (n : ℕ) (s : Part S) (h : IsSteady n s) (apart : Records
 
   -- a key of no record
   unused : (key : List ℕ) → held_at same s.records key ≡ None → list_any (λ k. same k key) used ≡ false
-  unused key gone = grind (arith, used_is, list_any-IsPermutation (λ k. same k key) (keys_in s.records listed) (reverse (keys_in s.records listed)) (IsPermutation-reverse (keys_in s.records listed)), reverse (keys_in s.records listed), IsPermutation-reverse (keys_in s.records listed), keys-none s.records key listed gone held-all, held-all)
+  unused key gone =
+      let ispermutation = list_any-IsPermutation (λ k. same k key) (keys_in s.records listed) (reverse (keys_in s.records listed)) (IsPermutation-reverse (keys_in s.records listed)) in
+      grind (arith, used_is, ispermutation, reverse (keys_in s.records listed), IsPermutation-reverse (keys_in s.records listed), keys-none s.records key listed gone held-all, held-all)
 
   -- the key of a record
   module _ (key : List ℕ) (r : Rec) (some : held_at same s.records key ≡ Some r) where

@@ -1,6 +1,6 @@
 -- What a removal by key does.
 use Rattle.std.proofs.Common.{◌≡◌, ℕ, ◌+◌, Bool, cond, true, false, true≢false, not, ◌&&◌, ◌||◌, List, [], ◌∷◌, ◌++◌, map, Option, option_map, Some, None, slice_get, refl, sym, ap, ◌∙◌, subst, arith, inl, inr, ◌⊎◌, append-nil, if◌then◌else◌, slice_set}
-use Rattle.std.proofs.lemmas.Bool.{and_from, eqb-true, eq-eqb, and_left, or_left, false_from_ne_true}
+use Rattle.std.proofs.lemmas.Bool.{and_from, eqb-true, eq-eqb, and_left, or_left, false_from_ne_true, cases_Bool, cond_both}
 use Rattle.std.proofs.lemmas.Option.{none-some}
 use Rattle.audit_model.specs.Bytewise.{same}
 use Rattle.audit_model.specs.Changes.{all_held_after, held_after, left_held}
@@ -37,7 +37,7 @@ use Rattle.cache_front.specs.Parts.{Stored, Part, service_answers, cause_of, not
 use Rattle.cache_front.proofs.parts.Accepting.{replaced-twice, all-untold}
 use Rattle.cache_front.proofs.parts.Items.{ArePlaced, AreParted, AreOf, of-removals, left-elsewhere, replaced-there, parted-at, corresponds-run, placed_changed, parted_changed, corresponds_changed, marks_everywhere, candidates_placed}
 use Rattle.cache_front.proofs.parts.Joining.{Knows, stands_for, dead_from, marked_from, none_deleted, Maintained, Ran, ran_from}
-use Rattle.cache_front.proofs.parts.Writing.{Judges, judged, PointsBack, itself, earlier, points_back, no_point, Kept, Fits, Fitting, notes_of, told_truly, Rec, same_laws, changed-from, unlike_other}
+use Rattle.cache_front.proofs.parts.Writing.{Judges, judged, PointsBack, itself, earlier, points_back, no_point, Kept, Fits, notes_of, told_truly, Rec, same_laws, changed-from, unlike_other}
 
 gone-at : (key : List ℕ) (f : Rec → Rec) (rs : List Rec) (r : Rec) → ((x : Rec) → (f x).is_held ≡ false) → RecordsApart same rs → AreNumbered rs → held_at same rs key ≡ Some r → held_at same (changed_at r.number f rs) key ≡ None
 gone-at key f [] r out apart numbered h = absurd (none-some r h)
@@ -67,7 +67,7 @@ module _ {S : Type 0} (key : List ℕ) (now : ℕ) (s : Part S) (rec : Rec) wher
         settings = refl;
         cover = λ x. refl;
         notices = ap (λ b. tell b (cause_of_removal service_answers s now rec.entry) rec.entry s.notices) tells;
-        found = λ q. entry-held same records q ∙ by_key q (same q key) refl;
+        found = λ q. entry-held same records q ∙ by_key q;
         owners = λ owner there held. elim (changed-from rec.number owner.number f s.records rec owner (λ x. refl) numbered at there) [
           | inl k ↦ absurd (true≢false (sym held ∙ ap (λ (y : Rec). y.is_held) k.1))
           | inr k ↦ (unlike_other key s.records rec owner (to-records same s.records apart) numbered some k.1 held k.0, k.1)
@@ -103,15 +103,15 @@ module _ {S : Type 0} (key : List ℕ) (now : ℕ) (s : Part S) (rec : Rec) wher
       at : record_at s.records rec.number ≡ Some rec
       at = held_at-only same s.records key rec numbered some
 
-      by_key : (q : List ℕ) (b : Bool) → same q key ≡ b → option_map (λ (y : Rec). y.entry) (held_at same records q) ≡ cond b None (entry_of same (held_entries s.records) q)
-      by_key q true t = ap (option_map (λ (y : Rec). y.entry)) (ap (held_at same records) (equal_from_same q key t) ∙ gone-at key f s.records rec (λ x. refl) (to-records same s.records apart) numbered some)
-      by_key q false t =
-          ap (option_map (λ (y : Rec). y.entry)) (unmatched-changed same rec.number f q s.records
+      by_key : (q : List ℕ) → option_map (λ (y : Rec). y.entry) (held_at same records q) ≡ cond (same q key) None (entry_of same (held_entries s.records) q)
+      by_key q = cond_both (same q key) _ _ (λ o. option_map (λ (y : Rec). y.entry) (held_at same records q) ≡ o)
+          (λ t. ap (option_map (λ (y : Rec). y.entry)) (ap (held_at same records) (equal_from_same q key t) ∙ gone-at key f s.records rec (λ x. refl) (to-records same s.records apart) numbered some))
+          (λ t. ap (option_map (λ (y : Rec). y.entry)) (unmatched-changed same rec.number f q s.records
           (each-map (λ (y : Rec). y.number ≡ rec.number → y ≡ rec) (λ (y : Rec). y.number ≡ rec.number → (same q y.entry.key ≡ false) × (same q (f y).entry.key ≡ false))
           (λ y k number.
           let y_key : y.entry.key ≡ key = ap (λ (z : Rec). z.entry.key) (k number) ∙ sym (equal_from_same key rec.entry.key (held_at-match same s.records key rec some)) in
           (ap (same q) y_key ∙ t, ap (same q) y_key ∙ t)) s.records (only_one rec.number rec s.records numbered at)))
-          ∙ sym (entry-held same s.records q)
+          ∙ sym (entry-held same s.records q))
 
 module _ {S : Type 0} (config : Config) (part_of : List ℕ → ℕ) (made now : ℕ) (part : ℕ) (s : Part S) (parts : List (Part S)) (held : List HeldValue)
     (k : Knows config part_of made now part s parts held) (stands : Stands parts held)
@@ -169,29 +169,32 @@ module _ {S : Type 0} (config : Config) (part_of : List ℕ → ℕ) (made now :
 
   -- a point after the removal was there before
   point_before : (owner : Rec) → HasPoint t.settings.capacity t.writes (map (λ u. u.write) t.unsent) owner.number → HasPoint s.settings.capacity s.writes (map (λ u. u.write) s.unsent) owner.number
-  point_before owner p = grind (arith, points_back t.settings.capacity s.writes (Removed rec.number) owner.number (subst (λ us. HasPoint t.settings.capacity (s.writes ++ Removed rec.number ∷ []) us owner.number) (ap (λ us. map (λ u. u.write) us) w.unsent) (subst (λ ws. HasPoint t.settings.capacity ws (map (λ u. u.write) t.unsent) owner.number) w.writes p)), PointsBack t.settings.capacity s.writes (Removed rec.number) owner.number, itself, earlier)
+  point_before owner p =
+      let back = points_back t.settings.capacity s.writes (Removed rec.number) owner.number
+      (subst (λ us. HasPoint t.settings.capacity (s.writes ++ Removed rec.number ∷ []) us owner.number) (ap (λ us. map (λ u. u.write) us) w.unsent)
+      (subst (λ ws. HasPoint t.settings.capacity ws (map (λ u. u.write) t.unsent) owner.number) w.writes p)) in
+      grind (arith, back, PointsBack t.settings.capacity s.writes (Removed rec.number) owner.number, itself, earlier)
 
   fits_removed : Fits (Judges config (deleting key) before now t) (map cand others) (held_entries t.records)
-  fits_removed q x there = go (same q key) refl (sym (w.found q) ∙ there)
-    where
-      go : (b : Bool) → same q key ≡ b → cond (same q key) None (entry_of same (held_entries s.records) q) ≡ Some x → Fitting (Judges config (deleting key) before now t) (map cand others) q x
-      go true f g = absurd (none-some x (sym (ap (λ b. cond b None (entry_of same (held_entries s.records) q)) f) ∙ g))
-      go false f g =
-          let in_s : entry_of same (held_entries s.records) q ≡ Some x = sym (ap (λ b. cond b None (entry_of same (held_entries s.records) q)) f) ∙ g in
-          let st = stands_for config part_of made now part s parts held k c marked q x in_s in
-          record {
-            candidate = cand st.value;
-            there = first_of-map cand (λ h. refl) q others ∙ ap (option_map cand) (value_at-without key q held c.apart ∙ ap (λ b. cond b None (value_at held q)) f ∙ st.found);
-            is = record {
-              bytes = ap (λ (h : HeldValue). h.value.bytes) st.is;
-              later = and_left (same key st.value.value.key) true (ap (same key) (key_from_some q held st.value st.found) ∙ same-flip_false q key f);
-              expired = λ past. sym (dead_from config part_of made now part s parts held k c marked q x st.value in_s st.is) ∙ ap (λ z. has_come z now x) (sym w.settings) ∙ past;
-              explicit = λ covered. ap (λ (h : HeldValue). h.covered) st.is ∙ sym (w.cover x) ∙ covered;
-              size = λ p. or_left st.value.evictable (overfills config before (deleting key) st.value.value.part)
-                  (let own = w.owners p.owner p.there p.held in
-                  marked_from config part_of made now part s parts held k c marked q x st.value in_s st.found (record { owner = p.owner; there = own.1; held = p.held; entry = p.entry; point = point_before p.owner p.point }));
-            };
-          }
+  fits_removed q x there = elim (cases_Bool (same q key)) [
+    | inl f ↦ absurd (none-some x (sym (ap (λ b. cond b None (entry_of same (held_entries s.records) q)) f) ∙ sym (w.found q) ∙ there))
+    | inr f ↦
+        let in_s : entry_of same (held_entries s.records) q ≡ Some x = sym (ap (λ b. cond b None (entry_of same (held_entries s.records) q)) f) ∙ sym (w.found q) ∙ there in
+        let st = stands_for config part_of made now part s parts held k c marked q x in_s in
+        record {
+          candidate = cand st.value;
+          there = first_of-map cand (λ h. refl) q others ∙ ap (option_map cand) (value_at-without key q held c.apart ∙ ap (λ b. cond b None (value_at held q)) f ∙ st.found);
+          is = record {
+            bytes = ap (λ (h : HeldValue). h.value.bytes) st.is;
+            later = and_left (same key st.value.value.key) true (ap (same key) (key_from_some q held st.value st.found) ∙ same-flip_false q key f);
+            expired = λ past. sym (dead_from config part_of made now part s parts held k c marked q x st.value in_s st.is) ∙ ap (λ z. has_come z now x) (sym w.settings) ∙ past;
+            explicit = λ covered. ap (λ (h : HeldValue). h.covered) st.is ∙ sym (w.cover x) ∙ covered;
+            size = λ p. or_left st.value.evictable (overfills config before (deleting key) st.value.value.part)
+                (let own = w.owners p.owner p.there p.held in
+                marked_from config part_of made now part s parts held k c marked q x st.value in_s st.found (record { owner = p.owner; there = own.1; held = p.held; entry = p.entry; point = point_before p.owner p.point }));
+          };
+        }
+  ]
 
   st_key : record { value : HeldValue; found : value_at held key ≡ Some value; is : plain value ≡ held_of part s rec.entry }
   st_key = let st = stands_for config part_of made now part s parts held k c marked key rec.entry entry in record { value = st.value; found = st.found; is = st.is }
@@ -200,8 +203,7 @@ module _ {S : Type 0} (config : Config) (part_of : List ℕ → ℕ) (made now :
   rec_key = ap (λ (g : HeldValue). g.value.key) (sym st_key.is) ∙ key_from_some key held st_key.value st_key.found
 
   causes : (dead : Bool) → cause_of (if dead then cause.Expired else cause.Explicit) ≡ cause_of_deleted dead
-  causes true = refl
-  causes false = refl
+  causes dead = grind arith
 
   note_is : own_note ≡ record { cause = cause_of_deleted (is_dead_at config now st_key.value); key = st_key.value.value.key; value = st_key.value.value.bytes }
   note_is =
@@ -249,16 +251,13 @@ module _ {S : Type 0} (config : Config) (part_of : List ℕ → ℕ) (made now :
   stays_other q f = value_at-without key q held c.apart ∙ ap (λ b. cond b None (value_at held q)) f
 
   no_size_of : (dead : Bool) (j : ℕ) (vs : List Value) (x : Kept) → tells_size j vs (note_from (notice_of (if dead then cause.Expired else cause.Explicit) x) ∷ []) ≡ false
-  no_size_of true j vs x = refl
-  no_size_of false j vs x = refl
+  no_size_of dead j vs x = grind arith
 
   marked_here : AreMarked (drained new) (all_held_after config now held (deleting key) told)
   marked_here = by_run r.left
     where
       kept : (over anew evictable : Bool) → anew ≡ false → evictable ≡ true → (over || (not (false || anew) && evictable)) ≡ true
-      kept true anew evictable e f = refl
-      kept false true evictable e f = absurd (true≢false e)
-      kept false false evictable e f = f
+      kept over anew evictable e f = grind (arith, e, f)
 
       by_run : ((new ≡ t) × (r.removals ≡ [])) ⊎ (new.writes ≡ []) → AreMarked (drained new) (all_held_after config now held (deleting key) told)
       by_run (inr nothing) = λ owner at held_now p h found. absurd (no_point new.settings.capacity (map (λ u. u.write) new.unsent) owner.number (subst (λ ws. HasPoint new.settings.capacity ws (map (λ u. u.write) new.unsent) owner.number) nothing p))
@@ -290,7 +289,8 @@ module _ {S : Type 0} (config : Config) (part_of : List ℕ → ℕ) (made now :
       same = same_after;
       marked =
           marks_everywhere config part_of now parts held k.parted c (deleting key) told part s (drained new) xs (map (λ (h : HeldValue). h.value) xs) refl of_told k.there count (candidates_placed config part_of now parts held k.parted c count)
-          (λ q other. ap (λ ys. value_at ys q) xs_are ∙ left-elsewhere part_of part (notes_of r.removals) others q (apart-without key held c.apart) of_told.1 other ∙ stays_other q (false_from_ne_true (same q key) (λ f. other (ap part_of (equal_from_same q key f) ∙ at_key)))) stands.marked marked_here;
+          (λ q other. ap (λ ys. value_at ys q) xs_are ∙ left-elsewhere part_of part (notes_of r.removals) others q (apart-without key held c.apart) of_told.1 other ∙ stays_other q
+          (false_from_ne_true (same q key) (λ f. other (ap part_of (equal_from_same q key f) ∙ at_key)))) stands.marked marked_here;
     };
     handed = handed;
   }

@@ -253,7 +253,9 @@ module _ {S : Type 0} where
 
   -- and so is their weight
   pub weight_is : (part_of : List ℕ → ℕ) (parts : List (Part S)) (held : List HeldValue) → AreParted part_of 0 parts → Stands parts held → sum_by (λ (h : HeldValue). h.value.weight) held ≡ sum_by (λ (s : Part S). held_weight s.records) parts
-  weight_is part_of parts held parted stands = grind (arith, weight-plain held, sum_by-IsPermutation (λ (h : HeldValue). h.value.weight) (map plain held) (items_of 0 parts) (permutation (items_of 0 parts) held (apart-of part_of 0 parts parted) stands.same), permutation (items_of 0 parts) held (apart-of part_of 0 parts parted) stands.same, apart-of part_of 0 parts parted, weight-items 0 parts)
+  weight_is part_of parts held parted stands =
+      let ispermutation = sum_by-IsPermutation (λ (h : HeldValue). h.value.weight) (map plain held) (items_of 0 parts) (permutation (items_of 0 parts) held (apart-of part_of 0 parts parted) stands.same) in
+      grind (arith, weight-plain held, ispermutation, permutation (items_of 0 parts) held (apart-of part_of 0 parts parted) stands.same, apart-of part_of 0 parts parted, weight-items 0 parts)
 
   -- ---- what the engine counts
 
@@ -299,11 +301,10 @@ all_by_key p [] a each = refl
 all_by_key p (x ∷ xs) a each =
     let parts = and_parts (is_absent x.value.key xs) (are_apart xs) a in
     and_from _ _ (each x.value.key x (ap (λ b. cond b (Some x) (value_at xs x.value.key)) (same-refl x.value.key)))
-    (all_by_key p xs parts.1 (λ q h found. each q h (behind q h found (same q x.value.key) refl parts.0)))
+    (all_by_key p xs parts.1 (λ q h found. each q h (behind q h found parts.0)))
   where
-    behind : (q : List ℕ) (h : HeldValue) → value_at xs q ≡ Some h → (b : Bool) → same q x.value.key ≡ b → is_absent x.value.key xs ≡ true → cond (same q x.value.key) (Some x) (value_at xs q) ≡ Some h
-    behind q h found true e absent = absurd (none-some h (sym (ap (value_at xs) (equal_from_same q x.value.key e) ∙ none_from_absent x.value.key xs absent) ∙ found))
-    behind q h found false e absent = ap (λ b. cond b (Some x) (value_at xs q)) e ∙ found
+    behind : (q : List ℕ) (h : HeldValue) → value_at xs q ≡ Some h → is_absent x.value.key xs ≡ true → value_at (x ∷ xs) q ≡ Some h
+    behind q h found absent = grind (arith, equal_from_same q x.value.key, none_from_absent x.value.key xs absent, none-some h)
 
 module _ {S : Type 0} (config : Config) (part_of : List ℕ → ℕ) (made : ℕ) (parts : List (Part S)) (held : List HeldValue) (parted : AreParted part_of 0 parts) (c : Corresponds (items_of 0 parts) held)
     (count : (q : List ℕ) → (x : Part S) × (slice_get parts (part_of q) ≡ Some x)) (settings : (k : ℕ) (x : Part S) → slice_get parts k ≡ Some x → x.settings ≡ settings_of config made) where

@@ -1,6 +1,6 @@
 -- What is told of a part's entries is true, if each is told for a cause that is true of the candidate of its key.
-use Rattle.std.proofs.Common.{◌≡◌, ℕ, zero, suc, Bool, cond, true, false, List, [], ◌∷◌, ◌++◌, map, Some, None, slice_get, remove, refl, sym, ap, ◌∙◌, arith, Option, subst, inl, inr, ◌⊎◌, append-nil, ◌<◌, ◌≤◌, true≢false, ◌||◌, option_map, ◌+◌}
-use Rattle.std.proofs.lemmas.Bool.{and_from, or_left, eqb-true, eq-eqb}
+use Rattle.std.proofs.Common.{◌≡◌, ℕ, zero, suc, cond, true, false, List, [], ◌∷◌, ◌++◌, map, Some, None, slice_get, remove, refl, sym, ap, ◌∙◌, arith, Option, subst, inl, inr, ◌⊎◌, append-nil, ◌<◌, ◌≤◌, true≢false, ◌||◌, option_map, ◌+◌}
+use Rattle.std.proofs.lemmas.Bool.{and_from, or_left, eqb-true, eq-eqb, cases_Bool, cond-false}
 use Rattle.std.proofs.lemmas.Option.{none-some}
 use Rattle.std.specs.Cmp.{IsEquivalence}
 use Rattle.engine_reference.proofs.Accounts.{each-map, only_one}
@@ -85,13 +85,12 @@ notes_of removals = map (λ (gone : Removal (List ℕ) Stored). note_of gone.cau
 
 module _ (J : Candidate → Kept → Type 0) where
   pub fits-remove : (cs : List Candidate) (es : List Kept) (i : ℕ) (e : Kept) → AreApart same es → slice_get es i ≡ Some e → Fits J cs es → Fits J (without_key key_of e.key cs) (remove es i)
-  fits-remove cs es i e a there f q x here = go (same q e.key) refl
-    where
-      go : (b : Bool) → same q e.key ≡ b → Fitting J (without_key key_of e.key cs) q x
-      go true t = absurd (none-some x (sym (ap (entry_of same (remove es i)) (equal_from_same q e.key t) ∙ entry_of-gone es i e a there) ∙ here))
-      go false t =
-          let k = f q x (sym (entry_of-other es i e q there t) ∙ here) in
-          record { candidate = k.candidate; there = first_of-other e.key q cs t ∙ k.there; is = k.is }
+  fits-remove cs es i e a there f q x here = elim (cases_Bool (same q e.key)) [
+    | inl t ↦ absurd (none-some x (sym (ap (entry_of same (remove es i)) (equal_from_same q e.key t) ∙ entry_of-gone es i e a there) ∙ here))
+    | inr t ↦
+        let k = f q x (sym (entry_of-other es i e q there t) ∙ here) in
+        record { candidate = k.candidate; there = first_of-other e.key q cs t ∙ k.there; is = k.is }
+  ]
 
   module _ (config : Config) (deed : Deed) (before : List Candidate) (Q : RemovalCause → Kept → Type 0)
       (ok : (why : RemovalCause) (e : Kept) (c : Candidate) → J c e → Q why e → is_true_note config before deed (note_of why e) (Some c) ≡ true) where
@@ -155,10 +154,6 @@ no_point capacity unsent number p = no_parts p.before (Put p.peak) p.after p.sta
 
 -- ---- causes
 
-otherwise : (b x y : Bool) → b ≡ false → y ≡ true → cond b x y ≡ true
-otherwise true x y e f = absurd (true≢false e)
-otherwise false x y e f = f
-
 module _ (config : Config) (deed : Deed) (before : List Candidate) {S : Type 0} (now : ℕ) (t : Part S) where
   -- what the candidate of an entry's key has to be, so that a run from this state tells it truly
   pub record Judges (c : Candidate) (e : Kept) : Type 0 where
@@ -169,7 +164,7 @@ module _ (config : Config) (deed : Deed) (before : List Candidate) {S : Type 0} 
     pub size : IsPointed t e → (c.evictable || overfills config before deed c.value.part) ≡ true
 
   pub judged : (why : RemovalCause) (e : Kept) (c : Candidate) → Judges c e → IsJust service_answers now t why e → is_true_note config before deed (note_of why e) (Some c) ≡ true
-  judged why e c j just = grind (arith, and_from, same_from_equal e.value.bytes c.value.bytes (sym j.bytes), otherwise (is_told_first deed c) (same_cause (note_of why e).cause (first_cause config before deed c)) (is_true_cause config before deed c (note_of why e).cause) j.later, or_left c.covered)
+  judged why e c j just = grind (arith, and_from, same_from_equal e.value.bytes c.value.bytes (sym j.bytes), cond-false (is_told_first deed c) (same_cause (note_of why e).cause (first_cause config before deed c)) (is_true_cause config before deed c (note_of why e).cause) j.later, or_left c.covered)
 
 -- ---- deadlines
 
@@ -190,7 +185,10 @@ module _ {S : Type 0} where
   -- an entry is past its deadline where the value held is dead
   pub dead_is : (config : Config) (made now part : ℕ) (s : Part S) (e : Kept) → IsBrief config → s.settings ≡ settings_of config made → e.written < 9223372036854775808 → e.used < 9223372036854775808
       → is_past s.settings now e ≡ is_dead_at config now (held_of part s e)
-  dead_is config made now part s e brief settings written used = grind (arith, end_is e.written config.live_ms written brief.live, end_is e.used config.idle_ms used brief.idle, earlier_is (option_map (after_ms e.written) config.live_ms) (option_map (after_ms e.used) config.idle_ms), earlier_is e.expires (earlier_of (option_map (after_ms e.written) config.live_ms) (option_map (after_ms e.used) config.idle_ms)), reached_is (deadline config (value_of part e) e.used) now)
+  dead_is config made now part s e brief settings written used =
+      let earlier = earlier_is (option_map (after_ms e.written) config.live_ms) (option_map (after_ms e.used) config.idle_ms) in
+      let earlier2 = earlier_is e.expires (earlier_of (option_map (after_ms e.written) config.live_ms) (option_map (after_ms e.used) config.idle_ms)) in
+      grind (arith, end_is e.written config.live_ms written brief.live, end_is e.used config.idle_ms used brief.idle, earlier, earlier2, reached_is (deadline config (value_of part e) e.used) now)
 
 -- What a write leaves of a part.
 

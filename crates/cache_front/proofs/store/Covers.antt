@@ -1,5 +1,6 @@
 -- Calls that cover, whatever they answer.
-use Rattle.std.proofs.Common.{◌≡◌, refl, ap, sym, ◌∙◌, subst, ℕ, suc, ◌≤◌, ◌^◌, ◌⊎◌, inl, inr, Bool, true, false, ◌||◌, List, Result, Ok, Err, OnOk, OnErr}
+use Rattle.std.proofs.Common.{◌≡◌, ap, sym, ◌∙◌, subst, ℕ, suc, ◌≤◌, ◌^◌, ◌⊎◌, inl, inr, Bool, true, false, ◌||◌, List, Result, Ok, Err, OnOk, OnErr}
+use Rattle.std.proofs.lemmas.Bool.{cases_Bool}
 use Rattle.std.proofs.Math.Bool.{or-false, or-true}
 use Rattle.rand_core.specs.Stream.{Stream}
 use Rattle.audit_model.specs.Commands.{Everything, Prefixed}
@@ -15,7 +16,8 @@ use Rattle.front_state.specs.Covering.{CoversAll}
 use Rattle.cache_front.specs.Data.{FrontData, LackTickets, parted_by}
 use Rattle.cache_front.proofs.data.Calls.{clear, drop, lack, lacks_steps, lacks_tickets}
 
-module _ {S : Type 0} (hash : S → List ℕ → ℕ) (d : FrontData S) (g : Lent S) (count room now : ℕ) (r : Result (Unit {0}) StoreError) (f : IsFit (parted_by hash d) count room) (moment : IsMoment (view (parted_by hash d)) now) (clears : OnOk r (CallsAll now (suc d.front.step) (λ s t. t ≡ cleared_by (suc d.front.step) s) d.front g)) where
+module _ {S : Type 0} (hash : S → List ℕ → ℕ) (d : FrontData S) (g : Lent S) (count room now : ℕ) (r : Result (Unit {0}) StoreError) (f : IsFit (parted_by hash d) count room)
+    (moment : IsMoment (view (parted_by hash d)) now) (clears : OnOk r (CallsAll now (suc d.front.step) (λ s t. t ≡ cleared_by (suc d.front.step) s) d.front g)) where
   pub cleared_does : OnOk r (Does now (covering Everything) (view (parted_by hash d)) (view (parted_by hash (record d { front = g }))))
   cleared_does = go r clears
     where
@@ -60,8 +62,7 @@ module _ {S : Type 0} (hash : S → List ℕ → ℕ) (d : FrontData S) (g : Len
       subst (λ (x : FrontData S). LacksIdentifiers (view (parted_by hash d)) (view (parted_by hash x))) (sym (if_lacking is t.1)) (lack hash d left count room f t.0).0
 
   pub covered_fits : IsFit (parted_by hash after) count room
-  covered_fits = go covers refl
-    where
-      go : (b : Bool) → covers ≡ b → IsFit (parted_by hash after) count room
-      go true is = let t = taken is in subst (λ (x : FrontData S). IsFit (parted_by hash x) count room) (sym (if_taken is)) (drop hash d g left t.0 count room now prefix f moment t.1).1
-      go false is = let t = lacks is in subst (λ (x : FrontData S). IsFit (parted_by hash x) count room) (sym (if_lacking is t.1)) (lack hash d left count room f t.0).1
+  covered_fits = elim (cases_Bool covers) [
+    | inl is ↦ let t = taken is in subst (λ (x : FrontData S). IsFit (parted_by hash x) count room) (sym (if_taken is)) (drop hash d g left t.0 count room now prefix f moment t.1).1
+    | inr is ↦ let t = lacks is in subst (λ (x : FrontData S). IsFit (parted_by hash x) count room) (sym (if_lacking is t.1)) (lack hash d left count room f t.0).1
+  ]

@@ -1,9 +1,9 @@
 -- The parts stand for a list of values, each of which may be evicted; and after a call for at most as many as before it, and one more.
-use Rattle.std.proofs.Common.{◌≡◌, refl, ap, ◌∙◌, sym, ℕ, suc, ◌+◌, ◌≤◌, arith, true, List, [], ◌∷◌, ◌++◌, map, length, Option, option_map, Some, None, slice_get, Bool, false, cond, not, ◌&&◌, is_some, option_to_list, subst, ◌<◌, ◌^◌, max, ◌||◌, is_none, slice_set, if◌then◌else◌, IfSome, IsSome, IsTrue, MatchOption}
+use Rattle.std.proofs.Common.{◌≡◌, refl, ap, ◌∙◌, sym, ℕ, suc, ◌+◌, ◌≤◌, arith, true, List, [], ◌∷◌, ◌++◌, map, length, Option, option_map, Some, None, slice_get, Bool, false, not, ◌&&◌, is_some, option_to_list, subst, ◌<◌, ◌^◌, max, ◌||◌, is_none, slice_set, if◌then◌else◌, IfSome, IsSome, IsTrue, MatchOption}
 use Rattle.std.proofs.Math.Bool.{and_comm, or-false}
-use Rattle.std.proofs.lemmas.Bool.{both_ways}
+use Rattle.std.proofs.lemmas.Bool.{both_ways, cond_both}
 use Rattle.std.proofs.lemmas.List.{length-append, length-map}
-use Rattle.std.proofs.lemmas.Option.{none-some}
+use Rattle.std.proofs.lemmas.Option.{cond_some, none-some}
 use Rattle.std.specs.Option.{option_map_or}
 use Rattle.engine_reference.proofs.SoundSteps.{runs_stay_sound}
 use Rattle.engine_reference.proofs.StayingVisible.{visible_by_entries}
@@ -112,12 +112,9 @@ module _ {S : Type 0} (a : StoreOfParts S) (w : IsWhole a) where
 
 -- ---- the live keys of a store of parts
 
-some-if : (b : Bool) (e : Kept) → b ≡ is_some (cond b (Some e) None)
-some-if true e = refl
-some-if false e = refl
-
 -- of keys that are each there once, exactly those of which something is visible are the live keys, once in byte order
-pub live_keys : {S : Type 0} → (a : StoreOfParts S) (now : ℕ) (keys : List (List ℕ)) → IsWhole a → are_distinct keys ≡ true → ((key : List ℕ) (s : Part S) → slice_get a.parts (a.frame.part_of key) ≡ Some s → is_among key keys ≡ is_some (visible service_answers same s now key)) → AreLive (view a) now (λ live. live ≡ sorted keys)
+pub live_keys : {S : Type 0} → (a : StoreOfParts S) (now : ℕ) (keys : List (List ℕ)) → IsWhole a → are_distinct keys ≡ true
+    → ((key : List ℕ) (s : Part S) → slice_get a.parts (a.frame.part_of key) ≡ Some s → is_among key keys ≡ is_some (visible service_answers same s now key)) → AreLive (view a) now (λ live. live ≡ sorted keys)
 live_keys {S} a now keys w distinct among = λ held stands.
     live_keys_are a.frame.config now (items_of 0 a.parts) held (apart-of a.frame.part_of 0 a.parts (parted a w)) stands.same
     ∙ live_keys_from a.frame.config now (items_of 0 a.parts) keys (apart-of a.frame.part_of 0 a.parts (parted a w)) distinct (λ q. (let x = parts_are a w q in among q x.0 x.1 ∙ sym (live-is q x.0 x.1)))
@@ -137,7 +134,7 @@ live_keys {S} a now keys w distinct among = λ held stands.
             let early = k.early q e found in
             ap (λ b. not (is_covered service_answers s e) && not b) (sym (dead_is a.frame.config a.frame.made now (0 + a.frame.part_of q) s e k.brief k.settings early.0 early.1))
             ∙ and_comm (not (is_covered service_answers s e)) (not (has_come s.settings now e))
-            ∙ some-if (is_visible service_answers s now e) e
+            ∙ cond_both (is_visible service_answers s now e) (Some e) None (λ o. is_visible service_answers s now e ≡ is_some o) (λ t. t) (λ t. t)
 
 -- The calls that come to one part: what is seen, used, accepted and removed.
 
@@ -197,7 +194,14 @@ peek {S} a now key s w there = λ held stands.
 
 pub look_up : {S : Type 0} (a : StoreOfParts S) (w : IsWhole a) (now next hash : ℕ) (key : List ℕ) (s new : Part S) → ComesTo a now next → slice_get a.parts (a.frame.part_of key) ≡ Some s
     → NotesLookUp service_answers same key hash now false s new → Does now (using key) (view a) (view (changed a w now next (a.frame.part_of key) new)) × IsWhole (changed a w now next (a.frame.part_of key) new)
-look_up {S} a w now next hash key s new at there look = (does, record { kept = keeps-look_up a.frame a.step now next k a.parts s new key hash (comes a w now next at) w.kept there look; small = (let l = no_more-after a w now (using key) (changed a w now next k new) refl does in let small = w.small in omega (arith, l, small)); unreserved = unreserved-with k s new a.parts there w.unreserved room })
+look_up {S} a w now next hash key s new at there look = (
+  does,
+  record {
+    kept = keeps-look_up a.frame a.step now next k a.parts s new key hash (comes a w now next at) w.kept there look;
+    small = (let l = no_more-after a w now (using key) (changed a w now next k new) refl does in let small = w.small in omega (arith, l, small));
+    unreserved = unreserved-with k s new a.parts there w.unreserved room;
+  },
+)
   where
     k : ℕ
     k = a.frame.part_of key
@@ -244,19 +248,13 @@ look_up {S} a w now next hash key s new at there look = (does, record { kept = k
 
 -- ---- `accept`
 
-own_used : (key : List ℕ) (b : Bool) (x : List ℕ) → (if b then Some key else None) ≡ Some x → x ≡ key
-own_used key true x is = cc
-own_used key false x is = absurd (none-some x is)
-
 -- the milliseconds of a value are few, and stand where there are own deadlines
 brief-ms : (own : Bool) (ms : Option ℕ) → IfSome ms (λ n. (n ≤ 999999999999) × IsTrue own) → (n : ℕ) → ms ≡ Some n → n ≤ 999999999999
 brief-ms own None fits n e = absurd (none-some n e)
 brief-ms own (Some m) fits n e = let is : m ≡ n = cc in let f = fits.0 in omega (arith, is, f)
 
 timed-ms : (own : Bool) (ms : Option ℕ) → IfSome ms (λ n. (n ≤ 999999999999) × IsTrue own) → IsTrue (own || is_none ms)
-timed-ms true ms fits = refl
-timed-ms false None fits = refl
-timed-ms false (Some m) fits = fits.1
+timed-ms own ms fits = grind (arith, fits)
 
 own-ms : (own : Bool) (ms : Option ℕ) → IfSome ms (λ n. (n ≤ 999999999999) × IsTrue own) → IsSome ms → IsTrue own
 own-ms own None fits some = absurd (both_ways false refl some)
@@ -265,7 +263,15 @@ own-ms own (Some m) fits some = fits.1
 pub accept : {S : Type 0} (a : StoreOfParts S) (w : IsWhole a) (now next hash : ℕ) (key bytes : List ℕ) (ms : Option ℕ) (looked_up : Bool) (s new : Part S) → ComesTo a now next → IsAcceptable a.frame.config bytes ms → length (items_of 0 a.parts) < 2 ^ 50
     → slice_get a.parts (a.frame.part_of key) ≡ Some s → Inserts service_answers same key hash (stored bytes ms) now next s new
     → Does now (accepting (if looked_up then Some key else None) (value_for a.frame now key bytes ms)) (view a) (view (changed a w now next (a.frame.part_of key) new)) × IsWhole (changed a w now next (a.frame.part_of key) new)
-accept {S} a w now next hash key bytes ms looked_up s new at fits few there call = (does, record { kept = keeps-accept a.frame a.step now next k a.parts s new key hash (stored bytes ms) (comes a w now next at) w.kept there fits.takes acceptable call; small = (let l = one_more-after a w now deed (changed a w now next k new) does in omega (arith, l, few)); unreserved = unreserved-with k s new a.parts there w.unreserved (maintained-room now t new maintained ∙ put-room key hash (stored bytes ms) now next s) })
+accept {S} a w now next hash key bytes ms looked_up s new at fits few there call = (
+  does,
+  record {
+    kept = keeps-accept a.frame a.step now next k a.parts s new key hash (stored bytes ms) (comes a w now next at) w.kept there fits.takes acceptable call;
+    small = (let l = one_more-after a w now deed (changed a w now next k new) does in omega (arith, l, few));
+    unreserved = unreserved-with k s new a.parts there w.unreserved
+        (maintained-room now t new maintained ∙ put-room key hash (stored bytes ms) now next s);
+  },
+)
   where
     k : ℕ
     k = a.frame.part_of key
@@ -300,7 +306,7 @@ accept {S} a w now next hash key bytes ms looked_up s new at fits few there call
         let front = part.front in
         handed a w now deed held _ (map note_from new.notices)
         (accept_does a.frame.config a.frame.part_of a.frame.made now k s a.parts held known stands (parts_are a w) (tells a w k s there) part.taken key (put_entry s key (stored bytes ms) now next) t value
-        (wrote key hash (stored bytes ms) now next s front.ordered front.apart (tells a w k s there) front.sent) used (own_used key looked_up)
+        (wrote key hash (stored bytes ms) now next s front.ordered front.apart (tells a w k s there) front.sent) used (λ x is. sym (cond_some looked_up key x is).1)
         (value-new a.frame a.step now next k a.parts s held key hash (stored bytes ms) known stands.same (stands.marked k s known.there) (comes a w now next at) part acceptable (brief-ms a.frame.config.own_deadlines ms fits.own)) new maintained)
 
     ticket : DrawsTicket s new
@@ -319,7 +325,15 @@ accept {S} a w now next hash key bytes ms looked_up s new at fits few there call
 
 pub remove : {S : Type 0} (a : StoreOfParts S) (w : IsWhole a) (now next : ℕ) (key : List ℕ) (s new : Part S) → ComesTo a now next → slice_get a.parts (a.frame.part_of key) ≡ Some s → TakesOut service_answers same key now s new
     → Does now (deleting key) (view a) (view (changed a w now next (a.frame.part_of key) new)) × IsWhole (changed a w now next (a.frame.part_of key) new)
-remove {S} a w now next key s new at there call = (does, record { kept = keeps-remove a.frame a.step now next k a.parts s new key (comes a w now next at) w.kept there call; small = (let l = no_more-after a w now (deleting key) (changed a w now next k new) refl does in let small = w.small in omega (arith, l, small)); unreserved = unreserved-with k s new a.parts there w.unreserved (room (held_at same s.records key) call) })
+remove {S} a w now next key s new at there call = (
+  does,
+  record {
+    kept = keeps-remove a.frame a.step now next k a.parts s new key (comes a w now next at) w.kept there call;
+    small = (let l = no_more-after a w now (deleting key) (changed a w now next k new) refl does in let small = w.small in omega (arith, l, small));
+    unreserved = unreserved-with k s new a.parts there w.unreserved
+        (room (held_at same s.records key) call);
+  },
+)
   where
     k : ℕ
     k = a.frame.part_of key
@@ -343,7 +357,9 @@ remove {S} a w now next key s new at there call = (does, record { kept = keeps-r
       where
         go : (o : Option Rec) → held_at same s.records key ≡ o → Ends o → Done a.frame.config now (deleting key) held (Stands (slice_set a.parts k (drained new))) (λ notes. notes ≡ map note_from new.notices)
         go None e is = miss_does a.frame.config a.frame.part_of a.frame.made now k s new a.parts held (knows a w now k s there held) stands (parts_are a w) (tells a w k s there) part.taken part.front.apart key refl e (idle is)
-        go (Some r) e m = remove_does a.frame.config a.frame.part_of a.frame.made now k s a.parts held (knows a w now k s there held) stands (parts_are a w) (tells a w k s there) part.taken key r e (removed key now s r) (took_out key now s r part.front.ordered part.front.apart (tells a w k s there) part.front.sent e) new (maintained_some r m)
+        go (Some r) e m =
+            remove_does a.frame.config a.frame.part_of a.frame.made now k s a.parts held (knows a w now k s there held) stands (parts_are a w) (tells a w k s there) part.taken key r e (removed key now s r)
+            (took_out key now s r part.front.ordered part.front.apart (tells a w k s there) part.front.sent e) new (maintained_some r m)
 
     room : (o : Option Rec) → Ends o → new.reserved ≡ s.reserved
     room None is = ap (λ (x : Part S). x.reserved) is

@@ -91,13 +91,15 @@ module _ {S : Type 0} where
   -- ---- the clauses
 
   -- `look_up`
-  pub look_ups : (frame : Frame) (step : ℕ) (parts : List (Part S)) (part : ℕ) (s mid : Part S) (key : List ℕ) (hash now : ℕ) → AreKeptParts frame step parts → slice_get parts part ≡ Some s → Maintained now s mid → MovesRecency frame.config parts (slice_set parts part (drained (with_read service_answers (visible_record service_answers same s now key) hash now mid))) (used_first key)
+  pub look_ups : (frame : Frame) (step : ℕ) (parts : List (Part S)) (part : ℕ) (s mid : Part S) (key : List ℕ) (hash now : ℕ) → AreKeptParts frame step parts → slice_get parts part ≡ Some s → Maintained now s mid
+      → MovesRecency frame.config parts (slice_set parts part (drained (with_read service_answers (visible_record service_answers same s now key) hash now mid))) (used_first key)
   look_ups frame step parts part s mid key hash now kept there maintained =
       moves frame.config parts part s (with_read service_answers (visible_record service_answers same s now key) hash now mid) (used_first key) kept.number there
       (λ n keys p r. look-recent n now hash s mid key keys (plain_kept frame n part step s p (kept.each part s there)) r (may_run now s mid maintained))
 
   -- `accept`
-  pub accepts : (frame : Frame) (step next : ℕ) (parts : List (Part S)) (part : ℕ) (s new : Part S) (key : List ℕ) (value : Stored) (hash now : ℕ) → AreKeptParts frame step parts → slice_get parts part ≡ Some s → step ≤ next → (IsSome value.milliseconds → IsTrue frame.config.own_deadlines) → Maintained now (put key hash value now next s) new → MovesRecency frame.config parts (slice_set parts part (drained new)) (put_first key)
+  pub accepts : (frame : Frame) (step next : ℕ) (parts : List (Part S)) (part : ℕ) (s new : Part S) (key : List ℕ) (value : Stored) (hash now : ℕ) → AreKeptParts frame step parts → slice_get parts part ≡ Some s
+      → step ≤ next → (IsSome value.milliseconds → IsTrue frame.config.own_deadlines) → Maintained now (put key hash value now next s) new → MovesRecency frame.config parts (slice_set parts part (drained new)) (put_first key)
   accepts frame step next_step parts part s new key value hash now kept there later timed maintained =
       moves frame.config parts part s new (put_first key) kept.number there
       (λ n keys p r.
@@ -107,7 +109,8 @@ module _ {S : Type 0} where
       after-run n now t new (put_first key keys) m.0 m.1 (may_run now t new maintained))
 
   -- `remove`
-  pub removes : (frame : Frame) (step : ℕ) (parts : List (Part S)) (part : ℕ) (s new : Part S) (key : List ℕ) (now : ℕ) → AreKeptParts frame step parts → slice_get parts part ≡ Some s → Maintained now (taken_out key now s) new → MovesRecency frame.config parts (slice_set parts part (drained new)) (keys_without key)
+  pub removes : (frame : Frame) (step : ℕ) (parts : List (Part S)) (part : ℕ) (s new : Part S) (key : List ℕ) (now : ℕ) → AreKeptParts frame step parts → slice_get parts part ≡ Some s
+      → Maintained now (taken_out key now s) new → MovesRecency frame.config parts (slice_set parts part (drained new)) (keys_without key)
   removes frame step parts part s new key now kept there maintained =
       moves frame.config parts part s new (keys_without key) kept.number there
       (λ n keys p r.
@@ -123,7 +126,8 @@ module _ {S : Type 0} where
   keys-items part s (e ∷ es) = ap (λ ks. e.key ∷ ks) (keys-items part s es)
 
   -- a run of the one part
-  pub runs_all : (frame : Frame) (step now : ℕ) (parts news : List (Part S)) (notes : List Note) → AreKeptParts frame step parts → AllRan now parts news notes → (n : ℕ) (settled : Bool) (keys : List (List ℕ)) → IsPlainLru frame.config n → IsRecentOver frame.config parts settled keys → IsRecentOver frame.config news true (take (suc n) keys)
+  pub runs_all : (frame : Frame) (step now : ℕ) (parts news : List (Part S)) (notes : List Note) → AreKeptParts frame step parts → AllRan now parts news notes → (n : ℕ) (settled : Bool) (keys : List (List ℕ))
+      → IsPlainLru frame.config n → IsRecentOver frame.config parts settled keys → IsRecentOver frame.config news true (take (suc n) keys)
   runs_all frame step now [] news notes kept all n settled keys p r = absurd (let one : 0 ≡ 1 = kept.number ∙ p.parts in omega (arith, one))
   runs_all frame step now (x ∷ y ∷ parts) news notes kept all n settled keys p r = absurd (let one : suc (suc (length parts)) ≡ 1 = kept.number ∙ p.parts in omega (arith, one))
   runs_all frame step now (x ∷ []) news notes kept (next s new run none) n settled keys p r = record {

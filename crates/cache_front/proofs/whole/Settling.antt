@@ -1,7 +1,7 @@
 -- A clear of all parts, a predicate in all, and identifiers drawn in vain.
-use Rattle.std.proofs.Common.{◌≡◌, refl, ap, ◌∙◌, sym, subst, ℕ, zero, suc, ◌≤◌, ◌<◌, max, arith, Bool, true, false, nat_eq, nat_lt, List, [], ◌∷◌, length, Some, slice_get, ◌+◌, ◌^◌, ◌++◌, Option}
+use Rattle.std.proofs.Common.{◌≡◌, refl, ap, ◌∙◌, sym, subst, ℕ, zero, suc, ◌≤◌, ◌<◌, max, arith, true, nat_eq, nat_lt, List, [], ◌∷◌, length, Some, slice_get, ◌+◌, ◌^◌, ◌++◌, Option}
 use Rattle.std.proofs.Math.Bool.{or-false, or-true, or_assoc}
-use Rattle.std.proofs.lemmas.Bool.{lt-ltb}
+use Rattle.std.proofs.lemmas.Bool.{lt-ltb, true_from_ne_false}
 use Rattle.std.proofs.lemmas.List.Folds.{list_any-append}
 use Rattle.std.proofs.lemmas.Option.{none-some}
 use Rattle.std.specs.List.{sum_by}
@@ -63,8 +63,16 @@ keeps-each {S} a Rel news calls more = grind (arith, keeps_identifiers a.stream 
 clear-covers : {S : Type 0} (step n : ℕ) (s : Part S) → step < n → ((q : List ℕ) (e : Kept) → entry_of same (held_entries s.records) q ≡ Some e → e.step ≤ step) → CoversToo Everything s (cleared_by n s)
 clear-covers step n s lt early = grind (arith, less-later, or-true, Kept)
 
-pub clear : {S : Type 0} → (a : StoreOfParts S) (now next : ℕ) (parts : List (Part S)) → IsWhole a → ComesTo a now next → a.step < next → CallsEach (λ s t. t ≡ cleared_by next s) a.parts parts → Does now (covering Everything) (view a) (view (passed now next parts a)) × IsWhole (passed now next parts a)
-clear {S} a now n parts w at lt calls = (does, record { kept = keeps-clear a.frame a.step now n a.parts parts (comes a w now n at) w.kept calls; small = (let l = no_more-after a w now (covering Everything) (passed now n parts a) refl does in let small = w.small in omega (arith, l, small)); unreserved = free })
+pub clear : {S : Type 0} → (a : StoreOfParts S) (now next : ℕ) (parts : List (Part S)) → IsWhole a → ComesTo a now next → a.step < next → CallsEach (λ s t. t ≡ cleared_by next s) a.parts parts
+    → Does now (covering Everything) (view a) (view (passed now next parts a)) × IsWhole (passed now next parts a)
+clear {S} a now n parts w at lt calls = (
+  does,
+  record {
+    kept = keeps-clear a.frame a.step now n a.parts parts (comes a w now n at) w.kept calls;
+    small = (let l = no_more-after a w now (covering Everything) (passed now n parts a) refl does in let small = w.small in omega (arith, l, small));
+    unreserved = free;
+  },
+)
   where
     cover : AllCover Everything a.parts parts
     cover = all-cover Everything a.parts parts calls.count (λ k s there.
@@ -117,8 +125,16 @@ first-of : {S : Type 0} (parts : List (Part S)) → 0 < length parts → (x : Pa
 first-of [] lt = absurd (omega (arith, lt))
 first-of (x ∷ parts) lt = (x, refl)
 
-pub drop : {S : Type 0} → (a : StoreOfParts S) (now next : ℕ) (prefix : List ℕ) (stream : Stream) (ids : List ℕ) → IsWhole a → ComesTo a now next → a.step < next → DrawAll a.parts a.stream stream ids → let b = record a { frame = record a.frame { dropped = true; latest = now }; parts = registered_in prefix next ids a.parts; stream = stream; step = next } in Does now (covering (Prefixed prefix)) (view a) (view b) × IsWhole b
-drop {S} a now n prefix stream ids w at lt drawn = (does, record { kept = keeps-cover a.frame a.step now n a.parts news (comes a w now n at) w.kept (covers-all n prefix a.parts a.stream stream ids drawn); small = (let l = no_more-after a w now (covering (Prefixed prefix)) b refl does in let small = w.small in omega (arith, l, small)); unreserved = free })
+pub drop : {S : Type 0} → (a : StoreOfParts S) (now next : ℕ) (prefix : List ℕ) (stream : Stream) (ids : List ℕ) → IsWhole a → ComesTo a now next → a.step < next → DrawAll a.parts a.stream stream ids
+    → let b = record a { frame = record a.frame { dropped = true; latest = now }; parts = registered_in prefix next ids a.parts; stream = stream; step = next } in Does now (covering (Prefixed prefix)) (view a) (view b) × IsWhole b
+drop {S} a now n prefix stream ids w at lt drawn = (
+  does,
+  record {
+    kept = keeps-cover a.frame a.step now n a.parts news (comes a w now n at) w.kept (covers-all n prefix a.parts a.stream stream ids drawn);
+    small = (let l = no_more-after a w now (covering (Prefixed prefix)) b refl does in let small = w.small in omega (arith, l, small));
+    unreserved = free;
+  },
+)
   where
     news : List (Part S)
     news = registered_in prefix n ids a.parts
@@ -168,16 +184,12 @@ lacks {S} a stream w vain = (
     registered = λ part id e. e;
     stands = λ held stands. stands;
     frame = refl;
-    dropped = go a.frame.dropped refl;
+    dropped = true_from_ne_false _ (λ e. never_in_vain a.parts a.stream stream (λ part s there. (w.kept.each part s there).own.undropped e) vain);
     untaken = refl;
     spent = refl;
   },
   record { kept = w.kept; small = w.small; unreserved = w.unreserved },
 )
-  where
-    go : (b : Bool) → a.frame.dropped ≡ b → a.frame.dropped ≡ true
-    go true e = e
-    go false e = absurd (never_in_vain a.parts a.stream stream (λ part s there. (w.kept.each part s there).own.undropped e) vain)
 
 -- A run of all parts, and what is so of every store of parts.
 
@@ -266,7 +278,8 @@ module _ {S : Type 0} (a : StoreOfParts S) (w : IsWhole a) (now n : ℕ) (at : C
         sym (ap (λ (y : Part S). y.predicates) one) ∙ ap (λ (y : Part S). y.predicates) x.2.is ∙ x.2.runs.done.ended);
   }
 
-pub run_all : {S : Type 0} → (a : StoreOfParts S) (now next : ℕ) (parts : List (Part S)) → IsWhole a → ComesTo a now next → CallsEach (RunsPart service_answers now) a.parts parts → Does now syncing (view a) (view (after now next parts a)) × IsWhole (after now next parts a) × IsSettled (view (after now next parts a)) (total_number parts) (total_weight parts)
+pub run_all : {S : Type 0} → (a : StoreOfParts S) (now next : ℕ) (parts : List (Part S)) → IsWhole a → ComesTo a now next → CallsEach (RunsPart service_answers now) a.parts parts
+    → Does now syncing (view a) (view (after now next parts a)) × IsWhole (after now next parts a) × IsSettled (view (after now next parts a)) (total_number parts) (total_weight parts)
 run_all {S} a now n parts w at calls = (ran-does a w now n at parts calls, ran-whole a w now n at parts calls, ran-settled a w now n at parts calls)
 
 -- ---- `sound`
@@ -295,7 +308,10 @@ pub no_steps : {S : Type 0} (a : StoreOfParts S) → 2 ^ 64 ≤ suc a.step → I
 no_steps a lack = omega (arith, lack)
 
 -- a store that was just created holds nothing
-pub made : {S : Type 0} → (a : StoreOfParts S) (name : Option (List ℕ)) (hasher : S) → length a.parts ≡ part_count a.frame.config → ((key : List ℕ) → a.frame.part_of key < part_count a.frame.config) → IsBrief a.frame.config → a.frame.made < 2 ^ 63 → a.frame.latest ≡ a.frame.made → a.step ≡ 0 → ((part : ℕ) (s : Part S) → slice_get a.parts part ≡ Some s → IsNew name (settings_of a.frame.config a.frame.made) hasher a.frame.config.weight s) → IsWhole a × ((view a).count ≡ 0) × IsRecentOver a.frame.config a.parts true []
+pub made : {S : Type 0} → (a : StoreOfParts S) (name : Option (List ℕ)) (hasher : S) → length a.parts ≡ part_count a.frame.config → ((key : List ℕ) → a.frame.part_of key < part_count a.frame.config)
+    → IsBrief a.frame.config → a.frame.made < 2 ^ 63 → a.frame.latest ≡ a.frame.made → a.step ≡ 0
+    → ((part : ℕ) (s : Part S) → slice_get a.parts part ≡ Some s → IsNew name (settings_of a.frame.config a.frame.made) hasher a.frame.config.weight s)
+    → IsWhole a × ((view a).count ≡ 0) × IsRecentOver a.frame.config a.parts true []
 made {S} a name hasher number placed brief range first step new =
     let none = none-yet 0 a.parts (λ k s there. (new k s there).records) in
     let count = ap (λ xs. length xs) none in (

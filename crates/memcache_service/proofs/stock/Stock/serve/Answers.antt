@@ -19,4 +19,5 @@ returns-clause-served g c =
     let start_is : c.len-start.result ≡ length c.reserve.new.self.items = c.len-start.ensures ∙ c.reserve.new.self.ok.0 in
     let wrote = subst (λ (n : ℕ). c.end_reply.new.output.items ≡ take n after ++ (if request.quiet then [] else said_from n after c.answer-reply.result)) start_is c.end_reply.ensures in
     subst (λ (before : List ℕ). WritesReply view c.args.moment all request c.args.self.now final before c.end_reply.new.output.items) c.reserve.ensures.items
-    (served view c.args.moment request all c.args.self.now c.flush_if_due.new.self c.answer-reply.new.self final c.reserve.new.self.items after c.end_reply.new.output.items c.answer-reply.result c.flush_if_due.ensures.most c.flush_if_due.ensures.capacity c.in_ok-flush_if_due.ensures.ok c.answer-reply.ensures.answered c.count_removals.ensures refl refl (c.answer-reply.ensures.most ∙ c.flush_if_due.ensures.most) wrote)
+    (served view c.args.moment request all c.args.self.now c.flush_if_due.new.self c.answer-reply.new.self final c.reserve.new.self.items after c.end_reply.new.output.items c.answer-reply.result c.flush_if_due.ensures.most c.flush_if_due.ensures.capacity
+    c.in_ok-flush_if_due.ensures.ok c.answer-reply.ensures.answered c.count_removals.ensures refl refl (c.answer-reply.ensures.most ∙ c.flush_if_due.ensures.most) wrote)
