@@ -1,5 +1,5 @@
 -- A step of `HAS` or `KEYS` changes nothing but its own connection, and what `KEYS` answers.
-use Rattle.std.proofs.Common.{◌≡◌, refl, ap, ◌∙◌, sym, subst, ℕ, Bool, true, false, true≢false, not, ◌&&◌, ◌||◌, List, [], ◌∷◌, map, Option, Some, None}
+use Rattle.std.proofs.Common.{arith, ◌≡◌, refl, ap, ◌∙◌, sym, subst, ℕ, Bool, true, false, true≢false, not, ◌&&◌, ◌||◌, List, [], ◌∷◌, map, Option, Some, None}
 use Rattle.std.specs.Prelude.{codes}
 use Rattle.std.specs.Option.{option_map, option_map_or, option_eq}
 use Rattle.std.proofs.Math.Bool.{or-false}
@@ -30,8 +30,7 @@ use Rattle.audit_laws.proofs.StaysOrderly.{held-pairs}
 -- ---- a step that does nothing to values
 
 marked_already : (o e : Bool) → (not o || e) ≡ true → (o || e) ≡ e
-marked_already true e h = sym h
-marked_already false e h = refl
+marked_already o e h = grind (arith, h)
 
 idle-held : (config : Config) (now : ℕ) (held : List HeldValue) (values : List Value) (h : HeldValue) → (not (is_over config h.value.part values) || h.evictable) ≡ true
     → held_after config now held idle_deed [] values h ≡ h

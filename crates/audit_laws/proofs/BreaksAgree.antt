@@ -14,7 +14,7 @@ use Rattle.audit_model.specs.declared.event.Instant.{Instant}
 use Rattle.audit_model.specs.declared.transcript.Record.{Record}
 use Rattle.audit_model.specs.declared.transcript.Transcript.{Transcript}
 use Rattle.audit_laws.specs.Placing.{accepted_in}
-use Rattle.audit_laws.specs.Breaking.{first_break_from, IsFaultless, front_of, BreaksFirstAt}
+use Rattle.audit_laws.specs.Breaking.{first_break_from, IsFaultless, transcript_front, BreaksFirstAt}
 use Rattle.audit_laws.specs.Laws.{BreaksAgree, BreaksWhereUnfollowed, FirstBreakIsFirst}
 use Rattle.audit_laws.proofs.Fronts.{parts_front}
 use Rattle.audit_laws.proofs.Following.{after_records-append}
@@ -183,13 +183,13 @@ module _ (config : Config) (transcript : Transcript) where
   found-first : (o : Option ℕ) → Finds test 0 (length transcript.records) o → MatchOption o (IsFaultless config transcript) (BreaksFirstAt config transcript)
   found-first None f =
       subst (λ rs. IsFaultless config (record transcript { records = rs })) (take-all transcript.records)
-      ((good_is_faultless config (front_of (length transcript.records) transcript)).0 (all-pass f))
+      ((good_is_faultless config (transcript_front (length transcript.records) transcript)).0 (all-pass f))
   found-first (Some n) f =
       record {
         above = f.above;
         within = subst (λ m. n ≤ m) (zero-add (length transcript.records)) f.within;
-        faulty = λ good. true≢false (sym ((good_is_faultless config (front_of n transcript)).1 good) ∙ f.fails);
-        before = λ m below. (good_is_faultless config (front_of m transcript)).0 (earlier-pass n f.before m below);
+        faulty = λ good. true≢false (sym ((good_is_faultless config (transcript_front n transcript)).1 good) ∙ f.fails);
+        before = λ m below. (good_is_faultless config (transcript_front m transcript)).0 (earlier-pass n f.before m below);
       }
 
 pub first_break_is_first : FirstBreakIsFirst

@@ -3,6 +3,7 @@ use Rattle.std.proofs.Common.{inr, inl, ◌≡◌, refl, ap, ◌∙◌, sym, ℕ
 use Rattle.std.proofs.lemmas.Bool.Decides.{nat_tests}
 use Rattle.std.specs.Prelude.{◌==◌, unwrap_or}
 use Rattle.std.specs.List.{filter}
+use Rattle.std.proofs.Math.Bool.{and-false, and-true}
 use Rattle.std.proofs.lemmas.Bool.{cases_Bool, eqb-true}
 use Rattle.audit_model.specs.Bytewise.{cut_at}
 use Rattle.audit_model.specs.Changes.{connection_after}
@@ -21,9 +22,8 @@ put_connection connection connections = map (λ c. cond (c.number == connection.
 abbrev pub connections_by : (ℕ → Facts) → List ℕ → List Connection
 connections_by f cs = map (λ c. connection_of_facts c (f c)) (filter (λ c. open_in (f c)) cs)
 
-mapped_both : {X Y : Type 0} (g : X → Y) (b : Bool) (x : X) (xs : List X) → map g (cond b (x ∷ xs) xs) ≡ cond b (g x ∷ map g xs) (map g xs)
-mapped_both g true x xs = refl
-mapped_both g false x xs = refl
+connections-cons : (f : ℕ → Facts) (d : ℕ) (ds : List ℕ) → connections_by f (d ∷ ds) ≡ cond (open_in (f d)) (connection_of_facts d (f d) ∷ connections_by f ds) (connections_by f ds)
+connections-cons f d ds = elim (cases_Bool (open_in (f d))) [ inl e ↦ rw e | inr e ↦ rw e ]
 
 pub eqb-turned : (a b : ℕ) → (a == b) ≡ (b == a)
 eqb-turned a b = grind (arith, nat_tests)
@@ -48,9 +48,9 @@ module _ (c : ℕ) (f g : ℕ → Facts) (others : (d : ℕ) → (c == d) ≡ fa
     pub connections-stay : (ds : List ℕ) → connections_by g ds ≡ put_connection (connection_of_facts c (g c)) (connections_by f ds)
     connections-stay [] = refl
     connections-stay (d ∷ ds) =
-        mapped_both (λ x. connection_of_facts x (g x)) (open_in (g d)) d (filter (λ x. open_in (g x)) ds)
+        connections-cons g d ds
         ∙ stay_one d (d == c) (connections_by f ds) (connections_by g ds) refl (eqb-turned c d) (connections-stay ds)
-        ∙ ap (put_connection (connection_of_facts c (g c))) (sym (mapped_both (λ x. connection_of_facts x (f x)) (open_in (f d)) d (filter (λ x. open_in (f x)) ds)))
+        ∙ ap (put_connection (connection_of_facts c (g c))) (sym (connections-cons f d ds))
 
     open-stay : (d : ℕ) (same : Bool) → (c == d) ≡ same → open_in (g d) ≡ open_in (f d)
     open-stay d true e = ap (λ x. open_in (g x)) (sym (eqb-true c d e)) ∙ stays ∙ sym (ap (λ x. open_in (f x)) (sym (eqb-true c d e)) ∙ was)
@@ -65,16 +65,8 @@ module _ (c : ℕ) (f g : ℕ → Facts) (others : (d : ℕ) → (c == d) ≡ fa
   -- it closes
   module _ (closes : open_in (g c) ≡ false) where
     open-close : (d : ℕ) (same : Bool) → (d == c) ≡ same → (c == d) ≡ same → open_in (g d) ≡ (open_in (f d) && not (d == c))
-    open-close d true e e' = ap (λ x. open_in (g x)) (eqb-true d c e) ∙ closes ∙ sym (ap (λ b. open_in (f d) && not b) e ∙ never (open_in (f d)))
-      where
-        never : (a : Bool) → (a && false) ≡ false
-        never true = refl
-        never false = refl
-    open-close d false e e' = ap open_in (others d e') ∙ sym (ap (λ b. open_in (f d) && not b) e ∙ always (open_in (f d)))
-      where
-        always : (a : Bool) → (a && true) ≡ a
-        always true = refl
-        always false = refl
+    open-close d true e e' = ap (λ x. open_in (g x)) (eqb-true d c e) ∙ closes ∙ sym (ap (λ b. open_in (f d) && not b) e ∙ and-false (open_in (f d)))
+    open-close d false e e' = ap open_in (others d e') ∙ sym (ap (λ b. open_in (f d) && not b) e ∙ and-true (open_in (f d)))
 
     both_filters : (d : ℕ) (a b : Bool) (xs ys : List ℕ) → (d == c) ≡ b → xs ≡ filter (λ x. not (x == c)) ys
         → cond (a && not b) (d ∷ xs) xs ≡ filter (λ x. not (x == c)) (cond a (d ∷ ys) ys)
@@ -102,10 +94,10 @@ module _ (c : ℕ) (f g : ℕ → Facts) (others : (d : ℕ) → (c == d) ≡ fa
     pub connections-close : (ds : List ℕ) → connections_by g ds ≡ filter (λ l. not (l.number == c)) (connections_by f ds)
     connections-close [] = refl
     connections-close (d ∷ ds) =
-        mapped_both (λ x. connection_of_facts x (g x)) (open_in (g d)) d (filter (λ x. open_in (g x)) ds)
+        connections-cons g d ds
         ∙ ap (λ b. cond b (connection_of_facts d (g d) ∷ connections_by g ds) (connections_by g ds)) (open-close d (d == c) refl (eqb-turned c d))
         ∙ close_one d (open_in (f d)) (d == c) (connections_by f ds) (connections_by g ds) refl (eqb-turned c d) (connections-close ds)
-        ∙ ap (filter (λ l. not (l.number == c))) (sym (mapped_both (λ x. connection_of_facts x (f x)) (open_in (f d)) d (filter (λ x. open_in (f x)) ds)))
+        ∙ ap (filter (λ l. not (l.number == c))) (sym (connections-cons f d ds))
 
 -- ---- the connection after a step of its own
 

@@ -3,6 +3,7 @@ use Rattle.std.proofs.Common.{inr, inl, ◌≡◌, refl, ap, ◌∙◌, sym, ℕ
 use Rattle.std.specs.Prelude.{◌==◌, unwrap_or}
 use Rattle.std.specs.List.{filter, find, list_any}
 use Rattle.std.specs.Option.{option_map_or}
+use Rattle.std.proofs.lemmas.List.{append-nil}
 use Rattle.std.proofs.lemmas.List.Folds.{list_any-append}
 use Rattle.std.proofs.lemmas.Bool.{cases_Bool, eqb-true, eq-eqb}
 use Rattle.audit_model.specs.Bytewise.{cut_at}
@@ -59,10 +60,6 @@ closing_in f =
 abbrev pub open_in : Facts → Bool
 open_in f = f.opened && is_none (closing_in f)
 
-pub append-nil : {X : Type 0} (xs : List X) → xs ++ [] ≡ xs
-append-nil [] = refl
-append-nil (x ∷ xs) = ap (λ ys. x ∷ ys) (append-nil xs)
-
 pub facts-opened : (c d : ℕ) (past : History) → (d == c) ≡ false → facts c (Opened d ∷ past) ≡ facts c past
 facts-opened c d past e = ap (λ b. record (facts c past) { opened = b || was_opened c past }) e
 
@@ -93,13 +90,7 @@ facts-own c effect past = ap (ran_by c effect past) (eqb-self c)
 open_by : (q b n : Bool) (A B : Bool) (w r : List ℕ)
     → is_none (cond q (Some by.Quit) (cond ((n && not b) && A) (Some by.Behind) (cond (not (n && not b) && not b && B) (Some by.Long) None)))
     ≡ not (q || ((is_ready (cond b (Held w) (cond (n && not b) (Waiting r) Ready)) && B) || (is_waiting_now (cond b (Held w) (cond (n && not b) (Waiting r) Ready)) && A)))
-open_by true b n A B w r = refl
-open_by false true true A B w r = refl
-open_by false true false A B w r = refl
-open_by false false true true B w r = refl
-open_by false false true false B w r = refl
-open_by false false false A true w r = refl
-open_by false false false A false w r = refl
+open_by q b n A B w r = grind arith
 
 pub open-now : (c : ℕ) (f : Facts) (effect : Effect) → f.opened ≡ true → f.closed ≡ false → f.effect ≡ Some effect → open_in f ≡ not (f.quit || is_overlong (connection_of_facts c f))
 open-now c f effect o cl e =
@@ -132,10 +123,7 @@ opened-listed c (Opened d ∷ past) =
     list_any-append (λ x. x == c) (opened_conns past) (d ∷ []) ∙ ap (λ b. b || ((d == c) || false)) (opened-listed c past) ∙ turn_round (was_opened c past) (d == c)
   where
     turn_round : (a b : Bool) → (a || (b || false)) ≡ (b || a)
-    turn_round true true = refl
-    turn_round true false = refl
-    turn_round false true = refl
-    turn_round false false = refl
+    turn_round a b = grind arith
 opened-listed c (Closed d ∷ past) = opened-listed c past
 opened-listed c (Fed d piece moment ∷ past) = opened-listed c past
 opened-listed c (Settled load moment ∷ past) = opened-listed c past
@@ -171,8 +159,7 @@ connection-of config made past c =
     ∙ ap (λ b. cond b (Some (connection_from past c)) None) (again (was_opened c past) (is_none (closing c past)))
   where
     again : (a b : Bool) → (a && (a && b)) ≡ (a && b)
-    again true b = refl
-    again false b = refl
+    again a b = grind arith
 
 pub open-same : (config : Config) (made : ℕ) (past : History) (c : ℕ) → is_open c past ≡ is_some (connection_in c (situation_of config made past))
 open-same config made past c = sym (ap is_some (connection-of config made past c) ∙ (elim (cases_Bool (is_open c past)) [ inl e ↦ rw e | inr e ↦ rw e ]))
@@ -180,11 +167,7 @@ open-same config made past c = sym (ap is_some (connection-of config made past c
 ready_by : (o b n : Bool) (w r : List ℕ) (B : Bool) (l : Connection)
     → l.standing ≡ cond b (Held w) (cond n (Waiting r) Ready) → is_some (first_line l.unread) ≡ B
     → option_map_or (λ m. is_ready m.standing && is_some (first_line m.unread)) (cond o (Some l) None) false ≡ (o && not n && not b && B)
-ready_by false b n w r B l e f = refl
-ready_by true true true w r B l e f = ap (λ st. is_ready st && is_some (first_line l.unread)) e
-ready_by true true false w r B l e f = ap (λ st. is_ready st && is_some (first_line l.unread)) e
-ready_by true false true w r B l e f = ap (λ st. is_ready st && is_some (first_line l.unread)) e
-ready_by true false false w r B l e f = ap (λ st. is_ready st && is_some (first_line l.unread)) e ∙ f
+ready_by o b n w r B l e f = grind (arith, e, f)
 
 pub ready-same : (config : Config) (made : ℕ) (past : History) (c : ℕ) → may_run c past ≡ may_run_in (situation_of config made past) c
 ready-same config made past c =

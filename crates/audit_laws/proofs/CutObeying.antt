@@ -74,7 +74,7 @@ module _ (config : Config) where
   whole-ran t effect n line l silent w c =
       elim (cases_Bool (n == c)) [
         | inl is ↦ rw is (complete-after (t.connection c) effect line silent (ap (λ d. first_line (bytes_left (t.connection d))) (sym (eqb-true n c is)) ∙ l) (w c))
-        | inr is ↦ rw is (subst Complete (sym (ran-other effect (t.connection c) false refl)) (w c))
+        | inr is ↦ rw is (subst Complete (sym (ran-other effect (t.connection c))) (w c))
       ]
 
   silent-of : (t : Traces) (o : Option Task) (x : Step) → is_right config (placed_by config t o x) ≡ true → is_held (effect_by config t o x) ≡ true → is_none (effect_by config t o x).reply ≡ true
@@ -119,10 +119,6 @@ module _ (config : Config) where
       let p = and_parts (is_right_by config t entry) _ r in
       let one : RightRecord t entry = right-record t entry p.0 in
       whole-records entries (walked_by config t entry).after p.1 (whole-walk (steps_of entry) (then_traces config (happening_of entry.event) t) (tasks_by config t entry.event) one.steps (whole-event t entry.event w))
-
-  empty-is : {X : Type 0} (xs : List X) → is_empty xs ≡ true → xs ≡ []
-  empty-is [] e = refl
-  empty-is (x ∷ xs) e = absurd (true≢false (sym e))
 
   mixed : (l r1 r2 a : Bool) → ((true && l && true && (r1 && r2)) && a) ≡ ((true && true && true && r1) && ((true && l && true && r2) && a))
   mixed l true r2 a = refl

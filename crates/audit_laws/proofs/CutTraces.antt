@@ -3,7 +3,8 @@ use Rattle.std.proofs.Common.{inr, inl, ◌≡◌, refl, ap, ◌∙◌, sym, sub
 use Rattle.std.specs.Prelude.{◌==◌, Ok, Err}
 use Rattle.std.specs.List.{list_all}
 use Rattle.std.proofs.Math.Path.{fun_ext}
-use Rattle.std.proofs.lemmas.Bool.{not-true, cases_Bool, and_parts, and_from, eqb-true}
+use Rattle.std.proofs.lemmas.Bool.{not-true, cases_Bool, and_parts, and_from, eqb-true, true_from_ne_false}
+use Rattle.std.proofs.lemmas.List.{append-nil}
 use Rattle.audit_model.specs.Bytewise.{is_empty, cut_at}
 use Rattle.audit_model.specs.Grammar.{Reading, reading}
 use Rattle.audit_model.specs.History.{Happening, Opened, Closed, Fed, Settled, Stored, Ran, Effect, Holding}
@@ -15,7 +16,7 @@ use Rattle.audit_model.specs.declared.command.Closing.TheVariants as by
 use Rattle.audit_model.specs.declared.config.Config.{Config}
 use Rattle.audit_model.specs.declared.transcript.Step.{Step}
 use Rattle.audit_laws.specs.Cutting.{none_held}
-use Rattle.audit_laws.proofs.Connections.{Facts, last_is, bytes_left, unread_in, open_in, eqb-self, append-nil}
+use Rattle.audit_laws.proofs.Connections.{Facts, last_is, bytes_left, unread_in, open_in, eqb-self}
 use Rattle.audit_laws.proofs.ConnectionSteps.{eqb-turned}
 use Rattle.audit_laws.proofs.FedMore.{has_line}
 use Rattle.audit_laws.proofs.LinesRead.{Complete, with_bytes, cut-more, first_line-more, behind-more, connection-fed, ran_itself, complete-after}
@@ -56,12 +57,11 @@ runs-more f rest h e =
     (ap (λ bs. is_some (first_line bs)) unread ∙ ap is_some (first_line-more (unread_in f) rest whole) ∙ p3.1)
 
 -- another one's step leaves a connection's facts
-pub ran-other : (effect : Effect) (f : Facts) (b : Bool) → b ≡ false → ran_on effect f b ≡ f
-ran-other effect f b e = ap (ran_on effect f) e ∙ ap (λ n. record f { replies = n }) (zero-add f.replies)
+pub ran-other : (effect : Effect) (f : Facts) → ran_on effect f false ≡ f
+ran-other effect f = ap (λ n. record f { replies = n }) (zero-add f.replies)
 
 twice : (a b : Bool) → (a || (a || b)) ≡ (a || b)
-twice true b = refl
-twice false b = refl
+twice a b = grind arith
 
 unheld_by : (r : Reading) (effect : Effect) → is_held (record effect { action = action_by r }) ≡ false
 unheld_by (Ok command) effect = refl
@@ -144,9 +144,6 @@ module _ (config : Config) (conn : ℕ) where
 
     abbrev pub task_of : Bool → Task
     task_of held = cond held (RunHeld conn) (RunLines conn)
-
-    abbrev at_line : Bool → Traces → Step → List ℕ → PlacedStep
-    at_line held t x line = record (placed_by config t (Some (task_of held)) x) { line = Some line }
 
     line-of : (held : Bool) (t : Traces) (n : ℕ) → line_by config t (Some (task_of held)) n ≡ first_line (bytes_left (t.connection n))
     line-of true t n = refl
@@ -325,20 +322,14 @@ module _ (config : Config) (conn : ℕ) where
     pub join-lines : (first second : List Step) (t : Traces) → Good t → Unheld t → none_held first ≡ true → Right (walk_by config t (RunLines conn ∷ []) first) → is_empty (walk_by config t (RunLines conn ∷ []) first).left ≡ true
         → InTwo (own t).opened (walk_by config (more t) (RunLines conn ∷ []) (first ++ second)) (walk_by config t (RunLines conn ∷ []) first) second
     join-lines [] second t g u none r l = elim (cases_Bool (may_by config t conn)) [ inl e ↦ absurd (true≢false (sym l ∙ lines_left t e)) | inr e ↦ here t second g u e ]
-    join-lines (x ∷ first) second t g u none r l = go (may_by config t conn) refl (λ s. join-lines first second s)
-      where
-        go : (b : Bool) → may_by config t conn ≡ b
-            → ((s : Traces) → Good s → Unheld s → none_held first ≡ true → Right (walk_by config s (RunLines conn ∷ []) first) → is_empty (walk_by config s (RunLines conn ∷ []) first).left ≡ true
-            → InTwo (own s).opened (walk_by config (more s) (RunLines conn ∷ []) (first ++ second)) (walk_by config s (RunLines conn ∷ []) first) second)
-            → InTwo (own t).opened (walk_by config (more t) (RunLines conn ∷ []) (x ∷ first ++ second)) (walk_by config t (RunLines conn ∷ []) (x ∷ first)) second
-        go false may ih = absurd (true≢false (sym r ∙ none_due t x first may))
-        go true may ih =
-            let s = then_step config t (Some (RunLines conn)) x in
-            let same = first-walk false t x first (λ z. may) in
-            let right = and_parts (is_right config (placed_by config t (Some (RunLines conn)) x)) _ (sym (ap (λ (w : Walked). list_all (is_right config) w.placed) same) ∙ r) in
-            let e = in-turn false t x right.0 in
-            there false t x first second (λ z. may) (λ z. may-more t g.complete may) e g.complete (came-lines t may)
-            (ih s (good-then false t x right.0 g) (unheld-then false t x e (unheld-first x first none)) (and_parts (not x.held) (none_held first) none).1 right.1 (sym (ap (λ (w : Walked). is_empty w.left) same) ∙ l))
+    join-lines (x ∷ first) second t g u none r l =
+        let may : may_by config t conn ≡ true = true_from_ne_false _ (λ out. true≢false (sym r ∙ none_due t x first out)) in
+        let s = then_step config t (Some (RunLines conn)) x in
+        let same = first-walk false t x first (λ z. may) in
+        let right = and_parts (is_right config (placed_by config t (Some (RunLines conn)) x)) _ (sym (ap (λ (w : Walked). list_all (is_right config) w.placed) same) ∙ r) in
+        let e = in-turn false t x right.0 in
+        there false t x first second (λ z. may) (λ z. may-more t g.complete may) e g.complete (came-lines t may)
+        (join-lines first second s (good-then false t x right.0 g) (unheld-then false t x e (unheld-first x first none)) (and_parts (not x.held) (none_held first) none).1 right.1 (sym (ap (λ (w : Walked). is_empty w.left) same) ∙ l))
 
     pub join-steps : (held : Bool) (first second : List Step) (t : Traces) → Good t → last_is is_held (own t).effect ≡ held → none_held first ≡ true
         → Right (walk_by config t (tasks_to_feed conn held) first) → is_empty (walk_by config t (tasks_to_feed conn held) first).left ≡ true

@@ -1,5 +1,5 @@
 -- The test of a good transcript says that it is faultless.
-use Rattle.std.proofs.Common.{◌≡◌, refl, ap, ◌∙◌, sym, Bool, true, false, ◌&&◌, List, [], ◌∷◌, is_some}
+use Rattle.std.proofs.Common.{arith, ◌≡◌, refl, ap, ◌∙◌, sym, Bool, ◌&&◌, List, [], ◌∷◌, is_some}
 use Rattle.std.specs.List.{list_all}
 use Rattle.std.proofs.lemmas.Bool.{and_parts, and_from}
 use Rattle.audit_model.specs.Belongs.{is_admitted, is_good}
@@ -14,21 +14,10 @@ use Rattle.audit_laws.proofs.TranscriptsAgree.{agrees, follow-good}
 
 list_all-and : {X : Type 0} (p q : X → Bool) (xs : List X) → list_all (λ x. p x && q x) xs ≡ (list_all p xs && list_all q xs)
 list_all-and p q [] = refl
-list_all-and p q (x ∷ xs) = ap (λ b. (p x && q x) && b) (list_all-and p q xs) ∙ mixed (p x) (q x) (list_all p xs) (list_all q xs)
-  where
-    mixed : (a b c d : Bool) → ((a && b) && (c && d)) ≡ ((a && c) && (b && d))
-    mixed false b c d = refl
-    mixed true true c d = refl
-    mixed true false true d = refl
-    mixed true false false d = refl
+list_all-and p q (x ∷ xs) = let next = list_all-and p q xs in grind (arith, next)
 
 turned : (r g a : Bool) → ((r && g) && a) ≡ ((a && r) && g)
-turned true true true = refl
-turned true true false = refl
-turned true false true = refl
-turned true false false = refl
-turned false g true = refl
-turned false g false = refl
+turned r g a = grind arith
 
 -- a transcript is good exactly where its records follow and each key has one part
 pub good-test : (config : Config) (transcript : Transcript)

@@ -7,7 +7,7 @@ use Rattle.std.proofs.lemmas.Bool.{cases_Bool, eqb-true}
 use Rattle.std.proofs.lemmas.Bool.Decides.{nat_tests}
 use Rattle.std.proofs.Common.{length-append}
 use Rattle.audit_model.specs.Bytewise.{cut_at}
-use Rattle.audit_model.specs.Situation.{Situation, Connection, Standing, Ready, Held, Waiting, connection_in, may_run_in, is_ready, is_holding, is_holding_in, is_waiting_now, is_overlong, without_waiting, without_number, with_connection}
+use Rattle.audit_model.specs.Situation.{Situation, Connection, Standing, Ready, Held, Waiting, connection_in, may_run_in, is_ready, is_holding, is_holding_in, is_overlong, without_waiting, without_number, with_connection}
 use Rattle.audit_model.specs.Stream.{first_line}
 use Rattle.audit_laws.proofs.Connections.{eqb-self}
 use Rattle.audit_laws.proofs.LinesRead.{cut-more, first_line-more}
@@ -37,15 +37,6 @@ has_line xs = grind (arith, nat_tests)
 
 over_more : (m n : ℕ) → m ≤ n → nat_lt 8192 m ≡ true → nat_lt 8192 n ≡ true
 over_more m n h e = grind (arith, nat_tests)
-
-either_true : (a b : Bool) → (a || b) ≡ true → (a ≡ false → b ≡ true)
-either_true true b e f = absurd (true≢false f)
-either_true false b e f = e
-
-or_both : (a b c d : Bool) → (a ≡ true → c ≡ true) → (b ≡ true → d ≡ true) → (a || b) ≡ true → (c || d) ≡ true
-or_both true b c d f g e = ap (λ x. x || d) (f refl)
-or_both false b true d f g e = refl
-or_both false b false d f g e = g e
 
 -- ---- one connection among many
 
@@ -176,16 +167,10 @@ module _ (conn : ℕ) where
     -- what is too long stays too long
     pub overlong-more : (d : Body) → is_overlong (own d) ≡ true → is_overlong (own (more d)) ≡ true
     overlong-more d e =
-        or_both (is_ready d.standing && nat_lt 8192 (length (cut_at 10 d.unread).0)) (is_waiting_now d.standing && nat_lt 8192 (length d.unread)) _ _
-        (under (is_ready d.standing) (over_more _ _ (cut-longer d.unread rest)))
-        (under (is_waiting_now d.standing) (over_more _ _ (longer d.unread))) e
-      where
-        longer : (xs : List ℕ) → length xs ≤ length (xs ++ rest)
-        longer xs = omega (arith, length-append xs rest)
-
-        under : (a : Bool) {b c : Bool} → (b ≡ true → c ≡ true) → (a && b) ≡ true → (a && c) ≡ true
-        under true f g = f g
-        under false f g = g
+        let longer : length d.unread ≤ length (d.unread ++ rest) = omega (arith, length-append d.unread rest) in
+        let first = over_more _ _ (cut-longer d.unread rest) in
+        let all = over_more _ _ longer in
+        grind (arith, e, first, all)
 
     -- what closes still closes
     pub closes-more : (q : Bool) (d : Body) → closes q d ≡ true → closes q (more d) ≡ true

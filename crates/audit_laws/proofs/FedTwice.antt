@@ -3,7 +3,7 @@ use Rattle.std.proofs.Common.{◌≡◌, refl, ap, ◌∙◌, sym, subst, ℕ, B
 use Rattle.std.specs.Prelude.{◌==◌}
 use Rattle.std.specs.List.{find}
 use Rattle.std.specs.Option.{option_map_or}
-use Rattle.std.proofs.lemmas.Bool.{not-true, cases_Bool, and_parts, and_from}
+use Rattle.std.proofs.lemmas.Bool.{not-true, cases_Bool, and_parts, and_from, true_from_ne_false}
 use Rattle.audit_model.specs.Follows.{after_event, after_steps, placed_step_in, tasks_in}
 use Rattle.audit_model.specs.Commands.{quits}
 use Rattle.audit_model.specs.Changes.{after_step}
@@ -207,16 +207,14 @@ module _ (config : Config) (conn : ℕ) (moment : Instant) (rest : List ℕ) whe
         | inr is ↦ cut-here q d u [] t g unheld is e
       ]
   cut-lines (x ∷ steps) q d u t g unheld none e =
-      go (may_run_in (lesser q d u) conn) refl (λ p c v k w o. cut-lines steps p c v t k w (and_parts (not x.held) (none_held steps) none).1 o)
-    where
-      go : (b : Bool) → may_run_in (lesser q d u) conn ≡ b
-          → ((p : Bool) (c : Body) (v : Situation) → Ground v → is_holding c.standing ≡ false → after_steps config (greater p c v) (RunLines conn ∷ []) steps ≡ Some t → InTwo false p c v steps t)
-          → InTwo false q d u (x ∷ steps) t
-      go false may ih = cut-here q d u (x ∷ steps) t g unheld may e
-      go true may ih =
-          let r : Runs u g q d = runs-of u g q d may in
-          cut-first false q d u x steps t g r.is_open (runs-due conn rest d r.lines) (λ z. may) (λ z. may-greater u g q d may) e
-          (λ p c v k w o. ih p c v k (ap (λ (y : Body). is_holding y.standing) w ∙ next-unheld config conn false x u d (not-true x.held (and_parts (not x.held) (none_held steps) none).0)) o)
+      let unheld_too = and_parts (not x.held) (none_held steps) none in
+      let ih : (p : Bool) (c : Body) (v : Situation) → Ground v → c ≡ next config conn false x (effect_at config conn u x) d
+      → after_steps config (greater p c v) (RunLines conn ∷ []) steps ≡ Some t → InTwo false p c v steps t =
+      λ p c v k w o. cut-lines steps p c v t k (ap (λ (y : Body). is_holding y.standing) w ∙ next-unheld config conn false x u d (not-true x.held unheld_too.0)) unheld_too.1 o in
+      elim (cases_Bool (may_run_in (lesser q d u) conn)) [
+        | inl may ↦ let r : Runs u g q d = runs-of u g q d may in cut-first false q d u x steps t g r.is_open (runs-due conn rest d r.lines) (λ z. may) (λ z. may-greater u g q d may) e ih
+        | inr may ↦ cut-here q d u (x ∷ steps) t g unheld may e
+      ]
 
   -- ---- from two to one
 
@@ -267,16 +265,11 @@ module _ (config : Config) (conn : ℕ) (moment : Instant) (rest : List ℕ) whe
         | inr h ↦ let is : lesser q d u ≡ middle = some_same (lesser q d u) middle (sym (at-end config conn (lesser q d u) ∙ ap (λ b. cond b None (Some (lesser q d u))) h) ∙ e) in let on : GoesOn u g q d unheld second t = goes-on u g q d unheld second t (subst (λ s. Ends s second t) (sym is) ends) in record { leads = on.leads; places = on.places ∙ ap (λ s. placed_steps_in config (then_fed s) (tasks_in s (event.Feed conn rest moment)) second) is }
       ]
   join-lines (x ∷ first) q d u second middle t g unheld none e ends =
-      go (may_run_in (lesser q d u) conn) refl (λ p c v k w o. join-lines first p c v second middle t k w (and_parts (not x.held) (none_held first) none).1 o ends)
-    where
-      go : (b : Bool) → may_run_in (lesser q d u) conn ≡ b
-          → ((p : Bool) (c : Body) (v : Situation) → Ground v → is_holding c.standing ≡ false → after_steps config (lesser p c v) (RunLines conn ∷ []) first ≡ Some middle → InOne false p c v first second middle t)
-          → InOne false q d u (x ∷ first) second middle t
-      go false may ih = absurd (true≢false (sym (ap is_some (sym (none-due config conn (lesser q d u) x first may) ∙ e))))
-      go true may ih =
-          let r : Runs u g q d = runs-of u g q d may in
-          join-first false q d u x first second middle t g r.is_open (runs-due conn rest d r.lines) (λ z. may) (λ z. may-greater u g q d may) e
-          (λ p c v k w o. ih p c v k (ap (λ (y : Body). is_holding y.standing) w ∙ next-unheld config conn false x u d (not-true x.held (and_parts (not x.held) (none_held first) none).0)) o)
+      let may : may_run_in (lesser q d u) conn ≡ true = true_from_ne_false _ (λ out. true≢false (sym (ap is_some (sym (none-due config conn (lesser q d u) x first out) ∙ e)))) in
+      let r : Runs u g q d = runs-of u g q d may in
+      let unheld_too = and_parts (not x.held) (none_held first) none in
+      join-first false q d u x first second middle t g r.is_open (runs-due conn rest d r.lines) (λ z. may) (λ z. may-greater u g q d may) e
+      (λ p c v k w o. join-lines first p c v second middle t k (ap (λ (y : Body). is_holding y.standing) w ∙ next-unheld config conn false x u d (not-true x.held unheld_too.0)) unheld_too.1 o ends)
 
   -- a held command runs first
   pub join-held : (first : List Step) (d : Body) (u : Situation) (second : List Step) (middle t : Situation) → Ground u → IsDue conn rest true d.standing d.unread → none_held first ≡ true

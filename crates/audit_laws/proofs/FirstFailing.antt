@@ -31,9 +31,6 @@ abbrev pub Finds : (ℕ → Bool) → ℕ → ℕ → Option ℕ → Type 0
 Finds p m k None = (j : ℕ) → m < j → j ≤ m + k → p j ≡ true
 Finds p m k (Some n) = First p m k n
 
-next-one : (p : ℕ → Bool) (m : ℕ) (j : ℕ) → p (suc m) ≡ true → m < j → (suc m < j → p j ≡ true) → p j ≡ true
-next-one p m j here above later = grind (arith, nat_tests)
-
 pub finds-from : (p : ℕ → Bool) (k m : ℕ) → Finds p m k (first_from p m k)
 finds-from p zero m = λ j above within. absurd (omega arith)
 finds-from p (suc k) m = let next = first_from p (suc m) k in let next2 = finds-from p k (suc m) in grind (arith, nat_tests, next, next2)

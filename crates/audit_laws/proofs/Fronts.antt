@@ -1,7 +1,8 @@
 -- A front of an obeying transcript obeys.
-use Rattle.std.proofs.Common.{◌≡◌, refl, ap, ◌∙◌, sym, subst, ℕ, Bool, true, false, ◌&&◌, true≢false, List, [], ◌∷◌, ◌++◌}
+use Rattle.std.proofs.Common.{◌≡◌, refl, ap, ◌∙◌, sym, subst, ℕ, Bool, List, [], ◌∷◌, ◌++◌}
 use Rattle.std.specs.List.{list_all, flat_map}
 use Rattle.std.specs.Prelude.{IsTrue}
+use Rattle.std.proofs.lemmas.Bool.{and_parts, and_from}
 use Rattle.std.proofs.lemmas.List.Folds.{list_all-append}
 use Rattle.std.proofs.lemmas.Grind.{flat_map-append}
 use Rattle.std.proofs.lemmas.List.Elements.{filter_map-append}
@@ -20,25 +21,14 @@ placed_records_after-append config made past [] ys = refl
 placed_records_after-append config made past (x ∷ xs) ys =
     ap (λ rs. placed_record config made past x ∷ rs) (placed_records_after-append config made (placed_record config made past x).walked.after xs ys)
 
-pub left_of_and : (a b : Bool) → IsTrue (a && b) → IsTrue a
-left_of_and true b h = refl
-left_of_and false b h = h
-
 pub front_passes : {X : Type 0} (p : X → Bool) (xs ys : List X) → IsTrue (list_all p (xs ++ ys)) → IsTrue (list_all p xs)
-front_passes p xs ys h = left_of_and _ _ (sym (list_all-append p xs ys) ∙ h)
-
-pub right_of_and : (a b : Bool) → IsTrue (a && b) → IsTrue b
-right_of_and true b h = h
-right_of_and false b h = absurd (true≢false (sym h))
-
-pub both : (a b : Bool) → IsTrue a → IsTrue b → IsTrue (a && b)
-both true b h k = k
-both false b h k = h
+front_passes p xs ys h = (and_parts (list_all p xs) (list_all p ys) (sym (list_all-append p xs ys) ∙ h)).0
 
 pub front_agrees : (xs ys : List Value) → IsTrue (agree_on_parts (xs ++ ys)) → IsTrue (agree_on_parts xs)
 front_agrees [] ys h = refl
 front_agrees (x ∷ xs) ys h =
-    both _ _ (front_passes _ xs ys (left_of_and _ _ h)) (front_agrees xs ys (right_of_and _ _ h))
+    let parts = and_parts _ (agree_on_parts (xs ++ ys)) h in
+    and_from _ (agree_on_parts xs) (front_passes _ xs ys parts.0) (front_agrees xs ys parts.1)
 
 module _ (config : Config) (made : ℕ) (front rest : List Record) where
   abbrev first : List PlacedRecord

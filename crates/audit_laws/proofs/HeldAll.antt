@@ -16,7 +16,7 @@ use Rattle.audit_model.specs.Notes.{candidates_of, is_succeeded, are_true_notes}
 use Rattle.audit_model.specs.Seen.{was_over, view_of}
 use Rattle.audit_model.specs.Situation.{HeldValue, Situation}
 use Rattle.audit_model.specs.Summary.{held_from, situation_of}
-use Rattle.audit_model.specs.Values.{deadline, has_come, is_value_of, accepts, is_covered, without_key, untold, held_values, is_told, last_use}
+use Rattle.audit_model.specs.Values.{deadline, deadline_has_come, is_value_of, accepts, is_key_covered, without_key, untold, held_values, is_told, last_use}
 use Rattle.audit_model.specs.View.{Candidate, View}
 use Rattle.audit_model.specs.declared.config.Config.{Config}
 use Rattle.audit_model.specs.declared.transcript.Note.{Note}
@@ -95,8 +95,8 @@ module _ (config : Config) (made : ℕ) (past : History) (h : Happening) (effect
   cand t =
       record {
         value = t.value;
-        dead = cond t.new (has_come (deadline config t.value t.value.accepted_at) t.value.accepted_at) (has_come (deadline config t.value (last_use config t.value.key past)) now);
-        covered = cond t.new false (is_covered t.value.key past);
+        dead = cond t.new (deadline_has_come (deadline config t.value t.value.accepted_at) t.value.accepted_at) (deadline_has_come (deadline config t.value (last_use config t.value.key past)) now);
+        covered = cond t.new false (is_key_covered t.value.key past);
         evictable = cond t.new false (was_over config t.value.key t.value.part past);
         new = t.new;
       }
@@ -106,7 +106,7 @@ module _ (config : Config) (made : ℕ) (past : History) (h : Happening) (effect
       record {
         value = t.value;
         last_use = cond t.new t.value.accepted_at (last_use config t.value.key past);
-        covered = cond t.new false (is_covered t.value.key past);
+        covered = cond t.new false (is_key_covered t.value.key past);
         evictable = cond t.new false (was_over config t.value.key t.value.part past);
       }
 

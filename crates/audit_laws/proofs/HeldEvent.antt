@@ -1,12 +1,12 @@
 -- Events leave the values held as they were.
-use Rattle.std.proofs.Common.{◌≡◌, refl, ap, sym, subst, ℕ, Bool, true, false, ◌||◌, List, [], ◌∷◌, map, Option, Some, None, nat_lt, arith}
+use Rattle.std.proofs.Common.{◌≡◌, refl, ap, sym, subst, ℕ, Bool, false, ◌||◌, List, [], ◌∷◌, map, Option, Some, None, nat_lt, arith}
 use Rattle.audit_model.specs.History.{Value, History, share}
 use Rattle.audit_model.specs.Notes.{is_over}
 use Rattle.audit_model.specs.Places.{happening_of}
 use Rattle.audit_model.specs.Seen.{was_over}
 use Rattle.audit_model.specs.Situation.{HeldValue}
 use Rattle.audit_model.specs.Summary.{held_from}
-use Rattle.audit_model.specs.Values.{is_covered, held_values, last_use}
+use Rattle.audit_model.specs.Values.{is_key_covered, held_values, last_use}
 use Rattle.std.proofs.Math.Path.{fun_ext}
 use Rattle.audit_model.specs.declared.config.Config.{Config}
 use Rattle.audit_model.specs.declared.event.Event.{Event}
@@ -18,8 +18,7 @@ none_less : (n : ℕ) → nat_lt n 0 ≡ false
 none_less n = grind (arith)
 
 twice : (a b : Bool) → (a || (a || b)) ≡ (a || b)
-twice true b = refl
-twice false b = refl
+twice a b = grind arith
 
 never_over : (config : Config) (part : ℕ) → is_over config part [] ≡ false
 never_over config part = go config.capacity
@@ -34,7 +33,7 @@ over_already config key part [] = ap (λ b. b || false) (never_over config part)
 over_already config key part (h ∷ past) = twice (is_over config part (held_values (h ∷ past))) _
 
 abbrev with_evictable : Config → History → Value → Bool → HeldValue
-with_evictable config past v b = record { value = v; last_use = last_use config v.key past; covered = is_covered v.key past; evictable = b }
+with_evictable config past v b = record { value = v; last_use = last_use config v.key past; covered = is_key_covered v.key past; evictable = b }
 
 pub held_from-event : (config : Config) (past : History) (e : Event) → map (held_from config (happening_of e ∷ past)) (held_values past) ≡ map (held_from config past) (held_values past)
 held_from-event config past e = ap (λ f. map f (held_values past)) (fun_ext (one e))

@@ -1,5 +1,5 @@
 -- The values that a step leaves, as the history says.
-use Rattle.std.proofs.Common.{inr, inl, ◌≡◌, refl, ap, ◌∙◌, sym, ℕ, Bool, true, false, not, ◌&&◌, ◌||◌, cond, List, [], ◌∷◌, ◌++◌, map, Option, Some, None}
+use Rattle.std.proofs.Common.{inr, inl, arith, ◌≡◌, refl, ap, ◌∙◌, sym, ℕ, Bool, true, false, not, ◌&&◌, ◌||◌, cond, List, [], ◌∷◌, ◌++◌, map, Option, Some, None}
 use Rattle.std.specs.Prelude.{is_some}
 use Rattle.std.specs.List.{find, list_any}
 use Rattle.std.specs.Option.{option_map, option_to_list}
@@ -15,11 +15,11 @@ use Rattle.audit_model.specs.Notes.{is_over, newcomer, candidates_of, tells_size
 use Rattle.audit_model.specs.Seen.{step_tells_size, was_over}
 use Rattle.audit_model.specs.Situation.{Situation, is_live_at, candidate_at}
 use Rattle.audit_model.specs.Summary.{held_from, situation_of}
-use Rattle.audit_model.specs.Values.{deadline, has_come, is_value_of, accepts, last_accepted, is_covered, is_deleted, held_values, is_told, lives, if_lives, moment_of, last_use}
+use Rattle.audit_model.specs.Values.{deadline, deadline_has_come, is_value_of, accepts, last_accepted, is_key_covered, is_deleted, held_values, is_told, lives, if_lives, moment_of, last_use}
 use Rattle.audit_model.specs.View.{Candidate}
 use Rattle.audit_model.specs.declared.config.Config.{Config}
 use Rattle.audit_laws.proofs.StepReads.{Reads}
-use Rattle.std.proofs.lemmas.Bool.{cases_Bool}
+use Rattle.std.proofs.lemmas.Bool.{cases_Bool, cond_both}
 
 -- a value held is its key's last accepted one, and no `DEL` of the key came since
 pub record Stands (past : History) (v : Value) : Type 0 where
@@ -31,18 +31,8 @@ same-refl key = (bytes_eq-Decides key key).1 refl
 
 -- ---- small facts on tests
 
-pub is_some-cond : {X : Type 0} (b : Bool) (v : X) → is_some (cond b (Some v) None) ≡ b
-is_some-cond true v = refl
-is_some-cond false v = refl
-
-pub cond_same : {X : Type 0} (b : Bool) (x : X) → cond b x x ≡ x
-cond_same true x = refl
-cond_same false x = refl
-
 anew : (s t w : Bool) → (not (s || t) && w) ≡ (not false && not s && not t && w)
-anew true t w = refl
-anew false true w = refl
-anew false false w = refl
+anew s t w = grind arith
 
 pub find-map : {X Y : Type 0} (f : X → Y) (p : Y → Bool) (xs : List X) → find p (map f xs) ≡ option_map f (find (λ x. p (f x)) xs)
 find-map f p [] = refl
@@ -93,22 +83,23 @@ module _ (config : Config) (made : ℕ) (past : History) (h : Happening) (effect
     module _ (stands : Stands past v) (there : is_told key past ≡ false) (other : accepts key h ≡ false) where
       lives-now : lives config key past used now v ≡ is_live_at config now (held_from config past v)
       lives-now =
-          ap (λ d. not d && not (is_covered key past) && not (is_told key past) && not (has_come (deadline config v used) now)) stands.kept
-          ∙ ap (λ t. true && not (is_covered key past) && not t && not (has_come (deadline config v used) now)) there
-          ∙ ap (λ b. b && not (has_come (deadline config v used) now)) (and-true (not (is_covered key past)))
+          ap (λ d. not d && not (is_key_covered key past) && not (is_told key past) && not (deadline_has_come (deadline config v used) now)) stands.kept
+          ∙ ap (λ t. true && not (is_key_covered key past) && not t && not (deadline_has_come (deadline config v used) now)) there
+          ∙ ap (λ b. b && not (deadline_has_come (deadline config v used) now)) (and-true (not (is_key_covered key past)))
 
       old-use : last_use config key (h ∷ past) ≡ cond (looks_up key effect && is_live_at config now (held_from config past v)) now used
       old-use =
+          let found : is_some (if_lives config key past used now (Some v)) ≡ lives config key past used now v = grind arith in
           ap (λ b. use_by b (is_step_that (looks_up key) h) (moment_of h) (last_accepted key past)) other
           ∙ ap (λ b. use_by false b (moment_of h) (last_accepted key past)) (reads.looks key)
           ∙ ap (λ m. use_by false (looks_up key effect) m (last_accepted key past)) (reads.moment ∙ at_now)
           ∙ ap (λ l. use_by false (looks_up key effect) now l) stands.last
-          ∙ ap (λ b. cond (looks_up key effect && b) now used) (is_some-cond _ v ∙ lives-now)
+          ∙ ap (λ b. cond (looks_up key effect && b) now used) (found ∙ lives-now)
 
-      old-covered : is_covered key (h ∷ past) ≡ (is_covered key past || covers key effect)
+      old-covered : is_key_covered key (h ∷ past) ≡ (is_key_covered key past || covers key effect)
       old-covered =
-          ap (λ b. cond b false (is_step_that (covers key) h || is_covered key past)) other
-          ∙ ap (λ b. b || is_covered key past) (reads.covers key) ∙ or_comm (covers key effect) (is_covered key past)
+          ap (λ b. cond b false (is_step_that (covers key) h || is_key_covered key past)) other
+          ∙ ap (λ b. b || is_key_covered key past) (reads.covers key) ∙ or_comm (covers key effect) (is_key_covered key past)
 
       abbrev starts_anew : Bool
       starts_anew = syncs effect || tells_size v.part (map (λ c. c.value) (candidates_of config candidates (deed_of effect))) effect.notes
@@ -126,9 +117,9 @@ module _ (config : Config) (made : ℕ) (past : History) (h : Happening) (effect
       pub old-held : (held : List Value) → held ≡ held_values (h ∷ past)
           → held_after config now s.held (deed_of effect) effect.notes held (held_from config past v) ≡ held_from config (h ∷ past) v
       old-held held e =
-          ap (λ u. record { value = v; last_use = u; covered = is_covered key past || covers key effect; evictable = is_over config v.part held || (not starts_anew && was_over config key v.part past) }) (sym old-use)
+          ap (λ u. record { value = v; last_use = u; covered = is_key_covered key past || covers key effect; evictable = is_over config v.part held || (not starts_anew && was_over config key v.part past) }) (sym old-use)
           ∙ ap (λ b. record { value = v; last_use = last_use config key (h ∷ past); covered = b; evictable = is_over config v.part held || (not starts_anew && was_over config key v.part past) }) (sym old-covered)
-          ∙ ap (λ b. record { value = v; last_use = last_use config key (h ∷ past); covered = is_covered key (h ∷ past); evictable = b }) (sym (old-evictable held e))
+          ∙ ap (λ b. record { value = v; last_use = last_use config key (h ∷ past); covered = is_key_covered key (h ∷ past); evictable = b }) (sym (old-evictable held e))
 
       pub old-stands : deletes key effect ≡ false → Stands (h ∷ past) v
       old-stands spared =
@@ -148,12 +139,12 @@ module _ (config : Config) (made : ℕ) (past : History) (h : Happening) (effect
       new-held held e =
           ap (λ u. record { value = v; last_use = u; covered = covers key effect; evictable = is_over config v.part held || (not (syncs effect || tells_size v.part (map (λ c. c.value) (candidates_of config candidates (deed_of effect))) effect.notes) && false) })
           (ap (cond (looks_up key effect && is_live_at config now (newly_held v)) now) (dated ∙ at_now)
-          ∙ cond_same (looks_up key effect && is_live_at config now (newly_held v)) now
+          ∙ cond_both (looks_up key effect && is_live_at config now (newly_held v)) now now (λ n. n ≡ now) (λ _. refl) (λ _. refl)
           ∙ sym at_now
           ∙ sym (ap (λ b. use_by b (is_step_that (looks_up key) h) (moment_of h) (last_accepted key past)) accepted ∙ reads.moment))
           ∙ ap (λ b. record { value = v; last_use = last_use config key (h ∷ past); covered = b; evictable = is_over config v.part held || (not (syncs effect || tells_size v.part (map (λ c. c.value) (candidates_of config candidates (deed_of effect))) effect.notes) && false) })
-          (uncovered ∙ sym (ap (λ b. cond b false (is_step_that (covers key) h || is_covered key past)) accepted))
-          ∙ ap (λ b. record { value = v; last_use = last_use config key (h ∷ past); covered = is_covered key (h ∷ past); evictable = b })
+          (uncovered ∙ sym (ap (λ b. cond b false (is_step_that (covers key) h || is_key_covered key past)) accepted))
+          ∙ ap (λ b. record { value = v; last_use = last_use config key (h ∷ past); covered = is_key_covered key (h ∷ past); evictable = b })
           (ap (λ b. is_over config v.part held || b) (and-false (not (syncs effect || tells_size v.part (map (λ c. c.value) (candidates_of config candidates (deed_of effect))) effect.notes)))
           ∙ ap (λ vs. is_over config v.part vs || false) e
           ∙ sym (ap (λ b. is_over config v.part (held_values (h ∷ past)) || (not b && not (is_step_that syncs h) && not (step_tells_size v.part h past) && was_over config key v.part past)) accepted))

@@ -1,8 +1,9 @@
 -- What is due: each task finds its connection as it should be, and no two tasks await one connection.
-use Rattle.std.proofs.Common.{◌≡◌, refl, ap, ◌∙◌, sym, subst, ℕ, Bool, true, false, true≢false, not, ◌&&◌, cond, List, [], ◌∷◌, ◌++◌, map, Option, Some, None, is_some, is_none, nat_lt, length, ◌||◌}
+use Rattle.std.proofs.Common.{inr, inl, ◌≡◌, refl, ap, ◌∙◌, sym, subst, ℕ, Bool, true, false, true≢false, not, ◌&&◌, cond, List, [], ◌∷◌, ◌++◌, map, Option, Some, None, is_some, is_none, nat_lt, length, ◌||◌}
 use Rattle.std.specs.Prelude.{◌==◌}
 use Rattle.std.specs.List.{filter}
-use Rattle.std.proofs.lemmas.Bool.{not-true, cond_both, and_parts}
+use Rattle.std.proofs.Math.Bool.{and-false}
+use Rattle.std.proofs.lemmas.Bool.{not-true, cases_Bool, cond_both, and_parts}
 use Rattle.std.proofs.lemmas.List.{append-nil}
 use Rattle.audit_laws.proofs.Connections.{last_is}
 use Rattle.audit_model.specs.Bytewise.{cut_at}
@@ -285,11 +286,7 @@ idle-away c past e =
 -- a connection that holds a command stays open as it is fed
 exclusive : (o : Option Effect) → last_is is_held o ≡ true → last_is is_waiting o ≡ false
 exclusive None e = absurd (true≢false (sym e))
-exclusive (Some effect) e = ap (λ b. is_none effect.reply && not b) e ∙ never (is_none effect.reply)
-  where
-    never : (a : Bool) → (a && false) ≡ false
-    never true = refl
-    never false = refl
+exclusive (Some effect) e = ap (λ b. is_none effect.reply && not b) e ∙ and-false (is_none effect.reply)
 
 stays_open : (f : Facts) → IsOpen f → last_is is_held f.effect ≡ true → open_in f ≡ true
 stays_open f h e =
@@ -309,11 +306,11 @@ fed_open c piece moment past is held =
     ap open_in (facts-own_fed c piece moment past) ∙ stays_open (with_bytes piece (facts c past)) (record { opened = parts.opened; closed = parts.closed; quit = parts.quit }) held
 
 pub in_order-feed : (c : ℕ) (piece : List ℕ) (moment : ℕ) (past : History) → is_open c past ≡ true → InOrder (Fed c piece moment ∷ past) (tasks_to_feed c (holds c past))
-in_order-feed c piece moment past is = go (holds c past) (λ e. e)
-  where
-    go : (b : Bool) → (b ≡ true → holds c past ≡ true) → InOrder (Fed c piece moment ∷ past) (tasks_to_feed c b)
-    go true f = record { awaits = ((fed_open c piece moment past is (f refl), f refl), (tt, tt)); apart = ((tt, tt), (tt, tt)) }
-    go false f = record { awaits = (tt, tt); apart = (tt, tt) }
+in_order-feed c piece moment past is =
+    elim (cases_Bool (holds c past)) [
+      | inl e ↦ subst (λ b. InOrder (Fed c piece moment ∷ past) (tasks_to_feed c b)) (sym e) (record { awaits = ((fed_open c piece moment past is e, e), (tt, tt)); apart = ((tt, tt), (tt, tt)) })
+      | inr e ↦ subst (λ b. InOrder (Fed c piece moment ∷ past) (tasks_to_feed c b)) (sym e) (record { awaits = (tt, tt); apart = (tt, tt) })
+    ]
 
 pub in_order-event : (e : Event) (past : History) → Sound past → Admitted past e → InOrder (happening_of e ∷ past) (tasks_of past e)
 in_order-event (event.Open c) past h a = record { awaits = tt; apart = tt }

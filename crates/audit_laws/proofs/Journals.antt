@@ -1,9 +1,9 @@
 -- A transcript grows by a record that follows.
-use Rattle.std.proofs.Common.{◌≡◌, refl, ap, ◌∙◌, sym, ℕ, Bool, true, false, true≢false, not, ◌||◌, List, [], ◌∷◌, ◌++◌, append_assoc, Option, Some, None, is_some}
+use Rattle.std.proofs.Common.{inr, inl, ◌≡◌, refl, ap, ◌∙◌, sym, ℕ, true, true≢false, not, ◌||◌, List, [], ◌∷◌, ◌++◌, append_assoc, Option, Some, None, is_some}
 use Rattle.std.specs.Prelude.{IsTrue, ◌==◌}
 use Rattle.std.specs.List.{list_all}
 use Rattle.std.specs.Option.{option_and_then, option_map_or}
-use Rattle.std.proofs.lemmas.Bool.{and_parts, and_from, eqb-true, eq-eqb}
+use Rattle.std.proofs.lemmas.Bool.{cases_Bool, and_parts, and_from, eqb-true, eq-eqb}
 use Rattle.std.proofs.lemmas.List.Elements.{filter_map-append}
 use Rattle.std.proofs.lemmas.List.Folds.{list_all-append}
 use Rattle.std.proofs.lemmas.List.{append-nil}
@@ -19,7 +19,7 @@ use Rattle.audit_model.specs.declared.event.Instant.{Instant}
 use Rattle.audit_model.specs.declared.transcript.Record.{Record}
 use Rattle.audit_model.specs.declared.transcript.Transcript.{Transcript}
 use Rattle.audit_laws.specs.Placing.{placed_in, accepted_in, all_placed_in}
-use Rattle.audit_laws.specs.Leading.{LeadsTo, LeadsBy, is_parted}
+use Rattle.audit_laws.specs.Leading.{LeadsTo, is_parted}
 use Rattle.audit_laws.specs.Laws.{LeadsOn, LeadsOnBy, LedObeys, PlacesAgree}
 use Rattle.audit_laws.proofs.Following.{after_records-append}
 use Rattle.audit_laws.proofs.Views.{same-true}
@@ -29,11 +29,11 @@ use Rattle.audit_laws.proofs.TranscriptsAgree.{agrees, all-more, follow-good}
 -- ---- one part a key
 
 parts_same : (part_of : List ℕ → ℕ) (v w : Value) → is_parted part_of v ≡ true → is_parted part_of w ≡ true → (not (same v.key w.key) || (v.part == w.part)) ≡ true
-parts_same part_of v w p q = go (same v.key w.key) (λ e. eq-eqb v.part w.part (eqb-true v.part (part_of v.key) p ∙ ap part_of (same-true v.key w.key e) ∙ sym (eqb-true w.part (part_of w.key) q)))
-  where
-    go : (b : Bool) → (b ≡ true → (v.part == w.part) ≡ true) → (not b || (v.part == w.part)) ≡ true
-    go true f = f refl
-    go false f = refl
+parts_same part_of v w p q =
+    elim (cases_Bool (same v.key w.key)) [
+      | inl e ↦ rw e (eq-eqb v.part w.part (eqb-true v.part (part_of v.key) p ∙ ap part_of (same-true v.key w.key e) ∙ sym (eqb-true w.part (part_of w.key) q)))
+      | inr e ↦ rw e
+    ]
 
 -- where each value has its key's part, each key has one part
 pub parts-by : (part_of : List ℕ → ℕ) (vs : List Value) → list_all (is_parted part_of) vs ≡ true → IsTrue (agree_on_parts vs)
@@ -86,10 +86,6 @@ module _ (config : Config) (made : Instant) (records : List Record) (added : Rec
   -- the values that the longer transcript accepts
   pub accepted-more : accepted_values (placed_steps config longer) ≡ accepted_values (placed_steps config (record { made = made; records = records })) ++ accepted_in config s added
   accepted-more = ap accepted_values placed-more ∙ filter_map-append (λ (placed : PlacedStep). placed.effect.value) (placed_steps config (record { made = made; records = records })) (placed_in config s added)
-
--- no record yet
-pub leads_by-none : (config : Config) (part_of : List ℕ → ℕ) (made : Instant) → LeadsBy config part_of (record { made = made; records = [] }) (empty_situation made.nanos)
-leads_by-none config part_of made = record { leads = refl; parted = refl }
 
 pub leads_by-more : LeadsOnBy
 leads_by-more config part_of made records added s t l f p =

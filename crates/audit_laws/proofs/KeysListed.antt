@@ -75,11 +75,6 @@ keys-rise config now held h =
 
 -- ---- which keys are listed
 
-or_swap : (a b c : Bool) → (a || (b || c)) ≡ (b || (a || c))
-or_swap true true c = refl
-or_swap true false c = refl
-or_swap false b c = refl
-
 any-put : (p : List ℕ → Bool) (x : List ℕ) (ks : List (List ℕ)) → list_any p (put_sorted x ks) ≡ (p x || list_any p ks)
 any-put p x [] = refl
 any-put p x (k ∷ ks) = let next = any-put p x ks in grind (arith, nat_tests, next)

@@ -3,7 +3,7 @@ use Rattle.std.proofs.Common.{◌≡◌, refl, ap, ◌∙◌, sym, subst, ℕ, �
 use Rattle.std.specs.Prelude.{IsTrue}
 use Rattle.std.specs.List.{find, filter}
 use Rattle.std.specs.Option.{option_map, option_to_list}
-use Rattle.std.proofs.lemmas.Bool.{cond_both, cases_Bool, and_parts}
+use Rattle.std.proofs.lemmas.Bool.{cond_both, cases_Bool, and_parts, or_parts, or_right}
 use Rattle.std.proofs.lemmas.Bool.Decides.{nat_tests}
 use Rattle.std.proofs.lemmas.List.{map-append}
 use Rattle.std.proofs.lemmas.List.Elements.{filter-append}
@@ -13,9 +13,9 @@ use Rattle.audit_model.specs.Bytewise.{same}
 use Rattle.audit_model.specs.Changes.{newly_held, left_held, use_after, held_after, all_held_after}
 use Rattle.audit_model.specs.Commands.{Deed, is_this, covers_key}
 use Rattle.audit_model.specs.History.{Value}
-use Rattle.audit_model.specs.Notes.{same_cause, newcomer, candidates_of, is_rewritten, is_succeeded, is_true_cause, is_told_first, is_true_note, first_of, are_true_notes}
+use Rattle.audit_model.specs.Notes.{same_cause, newcomer, candidates_of, is_succeeded, is_true_cause, is_told_first, is_true_note, first_with_key, are_true_notes}
 use Rattle.audit_model.specs.Situation.{HeldValue, is_dead_at, is_live_at, candidate_at}
-use Rattle.audit_model.specs.Values.{earlier_of, after_ms, deadline, has_come, is_value_of, without_key, untold}
+use Rattle.audit_model.specs.Values.{earlier_deadline, after_ms, deadline, deadline_has_come, is_value_of, without_key, untold}
 use Rattle.audit_model.specs.View.{Candidate}
 use Rattle.audit_model.specs.declared.config.Config.{Config}
 use Rattle.audit_model.specs.declared.transcript.Note.{Note}
@@ -26,7 +26,6 @@ use Rattle.audit_laws.proofs.HeldAll.{none_succeeded}
 use Rattle.audit_laws.proofs.Pairs.{Pairs, Differ}
 use Rattle.audit_laws.proofs.Told.{each-passed, each-filter, Each, each-more, each_of_map, each_passing, without_key-map, untold-map}
 use Rattle.audit_laws.proofs.Views.{same-true}
-use Rattle.audit_laws.proofs.HeldStep.{cond_same}
 
 -- ---- lists
 
@@ -88,11 +87,11 @@ living_of h = record { bytes = h.value.bytes; accepted_at = h.value.accepted_at;
 
 -- its deadline
 abbrev pub ends_at : Config → Living → Option ℕ
-ends_at config l = earlier_of l.own_deadline (earlier_of (option_map (after_ms l.accepted_at) config.live_ms) (option_map (after_ms l.last_use) config.idle_ms))
+ends_at config l = earlier_deadline l.own_deadline (earlier_deadline (option_map (after_ms l.accepted_at) config.live_ms) (option_map (after_ms l.last_use) config.idle_ms))
 
 -- it, unless its deadline has come
 abbrev pub still : Config → ℕ → Living → Option Living
-still config now l = cond (has_come (ends_at config l) now) None (Some l)
+still config now l = cond (deadline_has_come (ends_at config l) now) None (Some l)
 
 -- the same of what there may be
 abbrev pub still_some : Config → ℕ → Option Living → Option Living
@@ -141,7 +140,7 @@ one-of_key key (g ∷ gs) (e, h) = cond_both (same key g.value.key) _ _ AtMostOn
 
 -- ---- time passes
 
-come-on : (d : Option ℕ) (now later : ℕ) → now ≤ later → has_come d now ≡ true → has_come d later ≡ true
+come-on : (d : Option ℕ) (now later : ℕ) → now ≤ later → deadline_has_come d now ≡ true → deadline_has_come d later ≡ true
 come-on None now later h e = e
 come-on (Some moment) now later h e = after moment now later h e
   where
@@ -151,9 +150,9 @@ come-on (Some moment) now later h e = after moment now later h e
 -- later the same is live, unless its deadline has come
 pub alive-later : (config : Config) (now later : ℕ) (o : Option HeldValue) → now ≤ later → alive config later o ≡ still_some config later (alive config now o)
 alive-later config now later None le = refl
-alive-later config now later (Some h) le = go h.covered (has_come (ends_at config (living_of h)) now) refl
+alive-later config now later (Some h) le = go h.covered (deadline_has_come (ends_at config (living_of h)) now) refl
   where
-    go : (c d : Bool) → has_come (ends_at config (living_of h)) now ≡ d
+    go : (c d : Bool) → deadline_has_come (ends_at config (living_of h)) now ≡ d
         → cond c None (still config later (living_of h)) ≡ still_some config later (cond c None (cond d None (Some (living_of h))))
     go true d e = refl
     go false true e = ap (λ b. cond b None (Some (living_of h))) (come-on (ends_at config (living_of h)) now later le e)
@@ -205,41 +204,20 @@ module _ (key : List ℕ) where
     abbrev gone : Paired → Bool
     gone z = z.dead || z.covered || is_succeeded deed (seen_of z)
 
-    or-last : (a b : Bool) → (a || b || true) ≡ true
-    or-last true b = refl
-    or-last false true = refl
-    or-last false false = refl
-
-    or-middle : (a b : Bool) → (a || true || b) ≡ true
-    or-middle true b = refl
-    or-middle false b = refl
-
     gone-by : (cause : RemovalCause) (z : Paired) → same_cause cause Size ≡ false → is_true_cause config olds deed (seen_of z) cause ≡ true → gone z ≡ true
     gone-by Expired z other e = ap (λ b. b || z.covered || is_succeeded deed (seen_of z)) e
-    gone-by Explicit z other e = go z.covered (is_this z.value.key deed.deletes) e
-      where
-        go : (c d : Bool) → (c || (d && not z.dead)) ≡ true → (z.dead || c || (is_rewritten deed (seen_of z) || d)) ≡ true
-        go true d e = or-middle z.dead (is_rewritten deed (seen_of z) || d)
-        go false true e = last z.dead (is_rewritten deed (seen_of z))
-          where
-            last : (a b : Bool) → (a || false || (b || true)) ≡ true
-            last true b = refl
-            last false true = refl
-            last false false = refl
-        go false false e = absurd (true≢false (sym e))
-    gone-by Replaced z other e =
-        let p = and_parts (is_rewritten deed (seen_of z)) (not z.dead) (and_parts (is_rewritten deed (seen_of z) && not z.dead) (not z.covered) e).0 in
-        ap (λ b. z.dead || z.covered || (b || is_this z.value.key deed.deletes)) p.0 ∙ or-last z.dead z.covered
+    gone-by Explicit z other e = grind (arith, e)
+    gone-by Replaced z other e = grind (arith, e)
     gone-by Size z other e = absurd (true≢false other)
 
     gone-told : (note : Note) (z : Paired) → same_cause note.cause Size ≡ false → is_true_note config olds deed note (Some (seen_of z)) ≡ true → gone z ≡ true
     gone-told note z other e =
         elim (cases_Bool (is_told_first deed (seen_of z))) [
-          | inl is ↦ ap (λ b. z.dead || z.covered || b) (and_parts (is_succeeded deed (seen_of z)) _ is).0 ∙ or-last z.dead z.covered
+          | inl is ↦ or_right (z.dead || z.covered) _ (and_parts (is_succeeded deed (seen_of z)) _ is).0
           | inr is ↦ gone-by note.cause z other (rw is at (and_parts (same note.value z.value.bytes) _ e).1)
         ]
 
-    first-seen : (k : List ℕ) (zs : List Paired) → same key k ≡ true → first_of k (map seen_of zs) ≡ option_map seen_of (first (filter mine zs))
+    first-seen : (k : List ℕ) (zs : List Paired) → same key k ≡ true → first_with_key k (map seen_of zs) ≡ option_map seen_of (first (filter mine zs))
     first-seen k zs e =
         find-first (λ c. same k c.value.key) (map seen_of zs)
         ∙ ap first (filter-mapped (λ c. same k c.value.key) seen_of zs)
@@ -260,7 +238,7 @@ module _ (key : List ℕ) where
         → Pops (λ z. gone z ≡ true) (filter mine zs) (filter mine (untold key_of notes zs))
     pops [] zs e n = pops-none (λ z. gone z ≡ true) (filter mine zs)
     pops (note ∷ notes) zs e n =
-        let told = and_parts (is_true_note config olds deed note (first_of note.key (map seen_of zs))) _ e in
+        let told = and_parts (is_true_note config olds deed note (first_with_key note.key (map seen_of zs))) _ e in
         let sizes = none-of_size note notes n in
         elim (cases_Bool (same key note.key)) [
           | inl is ↦ popped note (filter mine (untold key_of notes (without_key key_of note.key zs))) (filter mine zs) sizes.0 (ap (is_true_note config olds deed note) (sym (first-seen note.key zs is)) ∙ told.0) (subst (λ xs. Pops (λ z. gone z ≡ true) xs (filter mine (untold key_of notes (without_key key_of note.key zs)))) (ap (λ k. filter mine (without_key key_of k zs)) (sym (same-true key note.key is)) ∙ without_mine zs) (pops notes (without_key key_of note.key zs) (ap (λ cs. are_true_notes config olds deed cs notes) (sym (without_key-map seen_of (λ (c : Candidate). c.value.key) note.key zs)) ∙ told.1) sizes.1))
@@ -275,10 +253,10 @@ old_of config now h =
 
 abbrev new_of : Config → Value → Paired
 new_of config v =
-    record { value = v; last_use = v.accepted_at; covered = false; evictable = false; dead = has_come (deadline config v v.accepted_at) v.accepted_at; new = true }
+    record { value = v; last_use = v.accepted_at; covered = false; evictable = false; dead = deadline_has_come (deadline config v v.accepted_at) v.accepted_at; new = true }
 
 module _ (config : Config) (now : ℕ) (key : List ℕ) where
-  left-cases : (h : HeldValue) (c d x u del : Bool) → has_come (ends_at config (living_of h)) now ≡ d → del ≡ false
+  left-cases : (h : HeldValue) (c d x u del : Bool) → deadline_has_come (ends_at config (living_of h)) now ≡ d → del ≡ false
       → cond (c || x) None (still config now (record (living_of h) { last_use = cond (u && (not c && not d)) now h.last_use }))
       ≡ left_by config now del x u (cond c None (cond d None (Some (living_of h))))
   left-cases h true d x u del e k = refl
@@ -379,18 +357,14 @@ module _ (config : Config) (now : ℕ) (key : List ℕ) where
 
       kept-one : (h : HeldValue) → same key h.value.key ≡ true → is_this h.value.key deed.deletes ≡ false → alive config now (Some (then_held h)) ≡ kept (alive config now (Some h))
       kept-one h k spare =
-          left-cases h h.covered (has_come (ends_at config (living_of h)) now) (covers_key h.value.key deed.covers) (is_this h.value.key deed.uses) (is_this h.value.key deed.deletes) refl spare
+          left-cases h h.covered (deadline_has_come (ends_at config (living_of h)) now) (covers_key h.value.key deed.covers) (is_this h.value.key deed.uses) (is_this h.value.key deed.deletes) refl spare
           ∙ ap (λ x. left_by config now (is_this x deed.deletes) (covers_key x deed.covers) (is_this x deed.uses) (alive config now (Some h))) (sym (same-true key h.value.key k))
 
       gone-one : (h : HeldValue) → same key h.value.key ≡ true → is_value_of key deed.value ≡ false → Gone (old_of config now h) → None ≡ kept (alive config now (Some h))
       gone-one h k unwritten g =
-          sym (gone-cases h h.covered (has_come (ends_at config (living_of h)) now) (covers_key key deed.covers) (is_this key deed.uses) (is_this key deed.deletes)
-          (ap (λ b. has_come (ends_at config (living_of h)) now || h.covered || (b || is_this key deed.deletes)) (sym unwritten)
-          ∙ ap (λ x. has_come (ends_at config (living_of h)) now || h.covered || (is_value_of x deed.value || is_this x deed.deletes)) (same-true key h.value.key k) ∙ g))
-
-      second_false : (a b : Bool) → (a || b) ≡ false → b ≡ false
-      second_false true b e = absurd (true≢false e)
-      second_false false b e = e
+          sym (gone-cases h h.covered (deadline_has_come (ends_at config (living_of h)) now) (covers_key key deed.covers) (is_this key deed.uses) (is_this key deed.deletes)
+          (ap (λ b. deadline_has_come (ends_at config (living_of h)) now || h.covered || (b || is_this key deed.deletes)) (sym unwritten)
+          ∙ ap (λ x. deadline_has_come (ends_at config (living_of h)) now || h.covered || (is_value_of x deed.value || is_this x deed.deletes)) (same-true key h.value.key k) ∙ g))
 
       unwritten-left : (hs : List HeldValue) → Each (λ h. same key h.value.key ≡ true) hs → is_value_of key deed.value ≡ false → AtMostOne hs
           → (xs : List Paired) → Each (λ z. is_succeeded deed (seen_of z) ≡ false) xs → Pops Gone (map (old_of config now) hs ++ []) xs
@@ -407,7 +381,7 @@ module _ (config : Config) (now : ℕ) (key : List ℕ) where
           go : Pops Gone (old_of config now h ∷ []) xs → alive config now (option_map then_held (option_map held_of (first xs))) ≡ kept (alive config now (Some h))
           go (inl is) =
               ap (λ ys. alive config now (option_map then_held (option_map held_of (first ys)))) is
-              ∙ kept-one h k (second_false (is_value_of h.value.key deed.value) (is_this h.value.key deed.deletes) (subst (Each (λ z. is_succeeded deed (seen_of z) ≡ false)) is spare).0)
+              ∙ kept-one h k (or_parts (is_value_of h.value.key deed.value) (is_this h.value.key deed.deletes) (subst (Each (λ z. is_succeeded deed (seen_of z) ≡ false)) is spare).0).1
           go (inr g) = ap (λ ys. alive config now (option_map then_held (option_map held_of (first ys)))) g.1 ∙ gone-one h k e g.0
 
       -- ---- the deed writes the key
@@ -418,13 +392,13 @@ module _ (config : Config) (now : ℕ) (key : List ℕ) where
             ap (λ b. cond b None (still config now (record (living_of (newly_held v)) { last_use = use_after config now deed (newly_held v) }))) (is_fresh v value).0
             ∙ ap (λ u. still config now (record (living_of (newly_held v)) { last_use = u }))
             (ap (cond (is_this v.key deed.uses && is_live_at config now (newly_held v)) now) (is_fresh v value).2
-            ∙ cond_same (is_this v.key deed.uses && is_live_at config now (newly_held v)) now ∙ sym (is_fresh v value).2)
+            ∙ cond_both (is_this v.key deed.uses && is_live_at config now (newly_held v)) now now (λ n. n ≡ now) (λ _. refl) (λ _. refl) ∙ sym (is_fresh v value).2)
 
         newest-gone : Gone (new_of config v) → None ≡ still config now (living_of (newly_held v))
         newest-gone g =
             sym (ap (λ b. cond b None (Some (living_of (newly_held v))))
-            (ap (has_come (deadline config v v.accepted_at)) (sym (is_fresh v value).2)
-            ∙ only (has_come (deadline config v v.accepted_at) v.accepted_at) (is_this v.key deed.deletes) (is_fresh v value).1 g))
+            (ap (deadline_has_come (deadline config v v.accepted_at)) (sym (is_fresh v value).2)
+            ∙ only (deadline_has_come (deadline config v v.accepted_at) v.accepted_at) (is_this v.key deed.deletes) (is_fresh v value).1 g))
           where
             only : (d del : Bool) → del ≡ false → (d || false || (false || del)) ≡ true → d ≡ true
             only true del e k = refl
@@ -455,7 +429,7 @@ module _ (config : Config) (now : ℕ) (key : List ℕ) where
       -- what is live of the key after the deed
       pub lasting-deed : Pairs (λ g h. Differ g.value.key h.value.key) held
           → lasting config now (all_held_after config now held deed notes) key ≡ living_after config now key deed (lasting config now held key)
-      lasting-deed distinct = lasting-left ∙ go deed.value refl (is_value_of key deed.value) refl
+      lasting-deed distinct = lasting-left ∙ (elim (cases_Bool (is_value_of key deed.value)) [ inl w ↦ written deed.value refl w | inr w ↦ unwritten w ])
         where
           own : Each (λ h. same key h.value.key ≡ true) (of_key key held)
           own = each-passed (λ h. same key h.value.key) held
@@ -463,14 +437,16 @@ module _ (config : Config) (now : ℕ) (key : List ℕ) where
           off : Pops Gone (map (old_of config now) (of_key key held) ++ filter (mine key) (option_to_list (option_map (new_of config) deed.value))) left
           off = subst (λ xs. Pops Gone xs left) sorted_zs popped-off
 
-          go : (o : Option Value) → deed.value ≡ o → (b : Bool) → is_value_of key deed.value ≡ b
-              → alive config now (option_map then_held (option_map held_of (first left))) ≡ living_after config now key deed (lasting config now held key)
-          go o e false w =
+          unwritten : is_value_of key deed.value ≡ false → alive config now (option_map then_held (option_map held_of (first left))) ≡ living_after config now key deed (lasting config now held key)
+          unwritten w =
               unwritten-left (of_key key held) own w (one-of_key key held distinct) left spared
               (subst (λ xs. Pops Gone (map (old_of config now) (of_key key held) ++ xs) left) (none-new deed.value w) off)
               ∙ sym (unwritten-after deed.value w (kept (lasting config now held key)))
-          go None e true w = absurd (true≢false (sym w ∙ ap (is_value_of key) e))
-          go (Some v) e true w =
+
+          written : (o : Option Value) → deed.value ≡ o → is_value_of key deed.value ≡ true
+              → alive config now (option_map then_held (option_map held_of (first left))) ≡ living_after config now key deed (lasting config now held key)
+          written None e w = absurd (true≢false (sym w ∙ ap (is_value_of key) e))
+          written (Some v) e w =
               let s : same key v.key ≡ true = sym (ap (is_value_of key) e) ∙ w in
               written-left v e s (of_key key held) own (one-of_key key held distinct) left spared
               (subst (λ xs. Pops Gone (map (old_of config now) (of_key key held) ++ xs) left)

@@ -1,14 +1,14 @@
 -- A connection that runs a step is in no list of a load under way.
-use Rattle.std.proofs.Common.{arith, ◌≡◌, refl, ap, ◌∙◌, sym, subst, ℕ, Bool, true, false, true≢false, not, ◌&&◌, ◌||◌, cond, List, [], ◌∷◌, ◌++◌, map, Option, Some, None, is_some}
+use Rattle.std.proofs.Common.{inr, inl, arith, ◌≡◌, refl, ap, ◌∙◌, sym, subst, ℕ, Bool, true, false, true≢false, not, ◌&&◌, ◌||◌, cond, List, [], ◌∷◌, ◌++◌, map, Option, Some, None, is_some}
 use Rattle.std.specs.Prelude.{◌==◌}
 use Rattle.std.specs.List.{filter, find, list_any}
 use Rattle.std.proofs.lemmas.Simd.{map-map}
-use Rattle.std.proofs.lemmas.Bool.{not-true, cond_both, and_parts, or_parts, or_from, false_from_ne_true}
+use Rattle.std.proofs.lemmas.Bool.{not-true, cases_Bool, cond_both, and_parts, or_parts, or_from, false_from_ne_true}
 use Rattle.std.proofs.lemmas.List.Folds.{list_any-append}
 use Rattle.audit_laws.proofs.Connections.{last_is}
 use Rattle.audit_model.specs.Bytewise.{same}
 use Rattle.audit_model.specs.History.{Effect, History, Opened, Closed, Fed, Settled, Stored, Ran}
-use Rattle.audit_model.specs.Loads.{Sent, key_loaded, sent_by, loads_sent, is_settled, loads_under_way, is_key_of, waits_for, sends_for, joined}
+use Rattle.audit_model.specs.Loads.{Sent, key_loaded, sent_by, loads_sent, is_load_settled, loads_under_way, is_key_of, waits_for, sends_for, joined}
 use Rattle.audit_model.specs.Situation.{without_waiting}
 use Rattle.audit_model.specs.Stream.{last_effect, is_waiting}
 use Rattle.audit_laws.proofs.Told.{each-filter, each-passed, Each, each-append, each-more, each-both, map-same}
@@ -18,6 +18,7 @@ use Rattle.audit_laws.proofs.Connections.{facts-ran, facts-own}
 use Rattle.audit_laws.proofs.ConnectionSteps.{eqb-turned}
 use Rattle.audit_laws.proofs.PendingLoads.{pending_by, settled-filter}
 use Rattle.std.proofs.lemmas.Bool.Decides.{nat_tests}
+use Rattle.std.proofs.lemmas.Option.{same_Some}
 
 abbrev pub is_in : ℕ → List ℕ → Bool
 is_in c cs = list_any (λ d. d == c) cs
@@ -88,25 +89,16 @@ differs k j e q = true≢false (sym (ap (λ x. same k x) (sym q) ∙ same-refl k
 each_found : (P : Sent → Type 0) (p : Sent → Bool) (xs : List Sent) (s : Sent) → Each P xs → find p xs ≡ Some s → P s
 each_found P p [] s h e = absurd (true≢false (sym (ap is_some e)))
 each_found P p (x ∷ xs) s (a, h) e = let next = each_found P p xs s h in grind (arith, nat_tests, e, next)
-  where
-    some_same : (x y : Sent) → Some x ≡ Some y → x ≡ y
-    some_same x y q = cc
 
 module _ (c load : ℕ) (past : History) where
   settled_one : (xs : List Sent) (s : Sent) → Distinct xs → find (λ sent. sent.number == load) xs ≡ Some s → is_in c (joined s.key past) ≡ true
       → Each (λ sent. is_in c (joined sent.key past) ≡ false) (filter (λ sent. not (sent.number == load)) xs)
   settled_one [] s d e i = tt
-  settled_one (x ∷ xs) s (a, d) e i = go (x.number == load) e (λ q. settled_one xs s d q i)
-    where
-      some_same : (x y : Sent) → Some x ≡ Some y → x ≡ y
-      some_same x y q = cc
-
-      go : (b : Bool) → cond b (Some x) (find (λ sent. sent.number == load) xs) ≡ Some s
-          → (find (λ sent. sent.number == load) xs ≡ Some s → Each (λ sent. is_in c (joined sent.key past) ≡ false) (filter (λ sent. not (sent.number == load)) xs))
-          → Each (λ sent. is_in c (joined sent.key past) ≡ false) (cond (not b) (x ∷ filter (λ sent. not (sent.number == load)) xs) (filter (λ sent. not (sent.number == load)) xs))
-      go true q f =
-          each-filter _ _ xs (each-more _ _ xs (λ y n. elsewhere c past s.key y.key i (λ m. differs y.key x.key n (sym m ∙ sym (ap (λ z. z.key) (some_same x s q))))) a)
-      go false q f = (elsewhere c past s.key x.key i (differs s.key x.key (each_found (λ y. same y.key x.key ≡ false) (λ sent. sent.number == load) xs s a q)), f q)
+  settled_one (x ∷ xs) s (a, d) e i =
+      elim (cases_Bool (x.number == load)) [
+        | inl is ↦ rw is (each-filter _ _ xs (each-more _ _ xs (λ y n. elsewhere c past s.key y.key i (λ m. differs y.key x.key n (sym m ∙ sym (ap (λ z. z.key) (same_Some x s (rw is at e)))))) a))
+        | inr is ↦ let found = rw is at e in rw is (elsewhere c past s.key x.key i (differs s.key x.key (each_found (λ y. same y.key x.key ≡ false) (λ sent. sent.number == load) xs s a found)), settled_one xs s d found i)
+      ]
 
   -- those who waited for a load that is settled are in no list
   pub away-settled : (moment : ℕ) (s : Sent) → Distinct (loads_under_way past) → find (λ sent. sent.number == load) (loads_under_way past) ≡ Some s → is_in c (joined s.key past) ≡ true → NotJoined (Settled load moment ∷ past) c
@@ -139,11 +131,11 @@ away-ran c d effect past e h = go (key_loaded effect.action) effect.load refl re
     sends key n k l = ap (λ o. is_some o && is_key_of key (key_loaded effect.action)) l ∙ ap (is_key_of key) k ∙ same-refl key
 
     go : (ko : Option (List ℕ)) (lo : Option ℕ) → key_loaded effect.action ≡ ko → effect.load ≡ lo
-        → Each (λ sent. is_in d (joined sent.key (Ran c effect ∷ past)) ≡ false) (filter (λ sent. not (is_settled sent.number past)) (sent_by ko lo ++ loads_sent past))
+        → Each (λ sent. is_in d (joined sent.key (Ran c effect ∷ past)) ≡ false) (filter (λ sent. not (is_load_settled sent.number past)) (sent_by ko lo ++ loads_sent past))
     go None lo k l = old
     go (Some key) None k l = old
     go (Some key) (Some n) k l =
-        cond_both (not (is_settled n past)) _ _ (Each (λ sent. is_in d (joined sent.key (Ran c effect ∷ past)) ≡ false))
+        cond_both (not (is_load_settled n past)) _ _ (Each (λ sent. is_in d (joined sent.key (Ran c effect ∷ past)) ≡ false))
         (λ _. (in_then c d (sends_for key effect) (waits_for key effect) (joined key past) e (λ q. absurd (true≢false (sym (sends key n k l) ∙ q))), old)) (λ _. old)
 
 -- ---- leaving changes nothing

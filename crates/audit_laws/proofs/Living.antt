@@ -1,21 +1,20 @@
 -- What is not live becomes live only by a newly accepted value.
-use Rattle.std.proofs.Common.{inr, inl, ◌≡◌, refl, ap, ◌∙◌, sym, subst, ℕ, ◌≤◌, Bool, true, false, true≢false, not, ◌&&◌, cond, List, [], ◌∷◌, ◌++◌, map, Option, Some, None, is_some, nat_le, arith}
+use Rattle.std.proofs.Common.{inr, inl, ◌≡◌, refl, ap, sym, subst, ℕ, ◌≤◌, Bool, true, true≢false, not, ◌&&◌, List, [], ◌∷◌, ◌++◌, map, Option, Some, None, is_some, nat_le, arith}
 use Rattle.std.specs.List.{find, cons_option, All, Contains}
 use Rattle.std.specs.Option.{option_map, option_map_or, option_and_then, option_to_list}
-use Rattle.std.proofs.lemmas.Bool.{cases_Bool, and_parts}
+use Rattle.std.proofs.lemmas.Bool.{cases_Bool, and_parts, and_from}
 use Rattle.std.proofs.lemmas.Bool.Decides.{nat_tests}
 use Rattle.std.proofs.lemmas.List.Elements.{All-contains_itself, All-head, All-tail, filter_map-append}
-use Rattle.std.proofs.Math.Bool.{and-false}
 use Rattle.audit_model.specs.Bytewise.{same}
-use Rattle.audit_model.specs.Changes.{newly_held, use_after, held_after, left_held, all_held_after, after_step}
-use Rattle.audit_model.specs.Commands.{Deed, deed_of, is_this}
+use Rattle.audit_model.specs.Changes.{newly_held, held_after, left_held, all_held_after, after_step}
+use Rattle.audit_model.specs.Commands.{Deed, deed_of}
 use Rattle.audit_model.specs.Follows.{after_event, tasks_in, placed_step_in, after_steps, after_record, after_records}
 use Rattle.audit_model.specs.History.{Value}
 use Rattle.audit_model.specs.Obeys.{accepted_values}
 use Rattle.audit_model.specs.Places.{due, first_due, left_after, steps_of}
 use Rattle.audit_model.specs.Situation.{Situation, HeldValue, may_run_in, is_live_at, live_at}
 use Rattle.audit_model.specs.Steps.{Task, PlacedStep, is_right}
-use Rattle.audit_model.specs.Values.{deadline, has_come}
+use Rattle.audit_model.specs.Values.{deadline, deadline_has_come}
 use Rattle.audit_model.specs.declared.config.Config.{Config}
 use Rattle.audit_model.specs.declared.event.Event.{Event}
 use Rattle.audit_model.specs.declared.transcript.Note.{Note}
@@ -36,15 +35,12 @@ found p f Q (x ∷ xs) (q, h) y e = let next = found p f Q xs h y in grind (arit
 
 missed : {X Y : Type 0} (p : X → Bool) (f : X → Y) (Q : Y → Type 0) (xs : List X) → option_map f (find p xs) ≡ None → Each (λ x. p x ≡ true → Q (f x)) xs
 missed p f Q [] e = tt
-missed p f Q (x ∷ xs) e = (first (p x) e, missed p f Q xs ((elim (cases_Bool (p x)) [ inl is ↦ absurd (true≢false (ap is_some (rw is at e))) | inr is ↦ rw is at e ])))
-  where
-    first : (b : Bool) → option_map f (cond b (Some x) (find p xs)) ≡ None → b ≡ true → Q (f x)
-    first true e k = absurd (true≢false (ap is_some e))
-    first false e k = absurd (true≢false (sym k))
+missed p f Q (x ∷ xs) e =
+    ((λ is. absurd (true≢false (ap is_some (rw is at e)))), missed p f Q xs ((elim (cases_Bool (p x)) [ inl is ↦ absurd (true≢false (ap is_some (rw is at e))) | inr is ↦ rw is at e ])))
 
 -- ---- deadlines come, and stay
 
-come-later : (d : Option ℕ) (now later : ℕ) → now ≤ later → not (has_come d later) ≡ true → not (has_come d now) ≡ true
+come-later : (d : Option ℕ) (now later : ℕ) → now ≤ later → not (deadline_has_come d later) ≡ true → not (deadline_has_come d now) ≡ true
 come-later None now later h e = refl
 come-later (Some moment) now later h e = before moment now later h e
   where
@@ -53,19 +49,13 @@ come-later (Some moment) now later h e = before moment now later h e
 
 live-earlier : (config : Config) (now later : ℕ) (h : HeldValue) → now ≤ later → is_live_at config later h ≡ true → is_live_at config now h ≡ true
 live-earlier config now later h le e =
-    let p = and_parts (not h.covered) (not (has_come (deadline config h.value h.last_use) later)) e in
-    and_both (not h.covered) (not (has_come (deadline config h.value h.last_use) now)) p.0 (come-later (deadline config h.value h.last_use) now later le p.1)
-  where
-    and_both : (a b : Bool) → a ≡ true → b ≡ true → (a && b) ≡ true
-    and_both a b p q = ap (λ x. x && b) p ∙ q
+    let p = and_parts (not h.covered) (not (deadline_has_come (deadline config h.value h.last_use) later)) e in
+    and_from (not h.covered) (not (deadline_has_come (deadline config h.value h.last_use) now)) p.0 (come-later (deadline config h.value h.last_use) now later le p.1)
 
 -- what a step leaves live was live
 live-before : (config : Config) (now : ℕ) (held : List HeldValue) (deed : Deed) (notes : List Note) (values : List Value) (h : HeldValue)
     → is_live_at config now (held_after config now held deed notes values h) ≡ true → is_live_at config now h ≡ true
 live-before config now held deed notes values h e = grind (arith, nat_tests)
-  where
-    unused : is_live_at config now h ≡ false → use_after config now deed h ≡ h.last_use
-    unused k = ap (λ b. cond (is_this h.value.key deed.uses && b) now h.last_use) k ∙ ap (λ b. cond b now h.last_use) (and-false (is_this h.value.key deed.uses))
 
 -- ---- each live value of the key is one of those that count
 
@@ -76,13 +66,10 @@ module _ (config : Config) (key : List ℕ) (Counts : Value → Type 0) where
   abbrev Lives : Situation → Type 0
   Lives s = Each (Stays s.latest) s.held
 
-  both : (a b : Bool) → a ≡ true → b ≡ true → (a && b) ≡ true
-  both a b p q = ap (λ x. x && b) p ∙ q
-
   lives-later : (now later : ℕ) (held : List HeldValue) → now ≤ later → Each (Stays now) held → Each (Stays later) held
   lives-later now later held le =
       each-more (Stays now) (Stays later) held
-      (λ h stays e. let p = and_parts (same key h.value.key) (is_live_at config later h) e in stays (both (same key h.value.key) (is_live_at config now h) p.0 (live-earlier config now later h le p.1)))
+      (λ h stays e. let p = and_parts (same key h.value.key) (is_live_at config later h) e in stays (and_from (same key h.value.key) (is_live_at config now h) p.0 (live-earlier config now later h le p.1)))
 
   lives-event : (e : Event) (s : Situation) → Lives s → Lives (after_event e s)
   lives-event e s lives =
@@ -99,7 +86,7 @@ module _ (config : Config) (key : List ℕ) (Counts : Value → Type 0) where
       let values = map (λ (h : HeldValue). h.value) left in
       each-map (Stays now) (held_after config now held deed notes values) left
       (each-more (Stays now) (λ h. Stays now (held_after config now held deed notes values h)) left
-      (λ h was e. let p = and_parts (same key h.value.key) (is_live_at config now (held_after config now held deed notes values h)) e in was (both (same key h.value.key) (is_live_at config now h) p.0 (live-before config now held deed notes values h p.1)))
+      (λ h was e. let p = and_parts (same key h.value.key) (is_live_at config now (held_after config now held deed notes values h)) e in was (and_from (same key h.value.key) (is_live_at config now h) p.0 (live-before config now held deed notes values h p.1)))
       (each-untold (Stays now) (λ h. h.value.key) notes (held ++ option_to_list (option_map newly_held deed.value)) (each-append (Stays now) held _ stays (new-stays now deed.value counts))))
 
   lives-step : (s : Situation) (placed : PlacedStep) → Lives s → Each Counts (option_to_list placed.effect.value) → Lives (after_step config s placed.task placed.step placed.effect)
@@ -192,7 +179,7 @@ lives-front config key Counts (step ∷ front) stage reached e counts lives =
     let next : Stage = record { situation = after_step config s placed.task step placed.effect; left = left_after now_due } in
     let later = accepted_values (placed_steps_in config next.situation next.left front) in
     let split = first-counts config key Counts placed.effect.value later (subst (Each Counts) (as_append config key Counts placed.effect.value later) counts) in
-    lives-front config key Counts front next reached (some_rest config (is_right config placed) (stage_after config next front) reached e) split.1 (lives-step config key Counts s placed lives split.0)
+    lives-front config key Counts front next reached (some_rest config step front stage reached e) split.1 (lives-step config key Counts s placed lives split.0)
 
 itself-contained : (accepted : List Value) → Each (Contains accepted) accepted
 itself-contained accepted = each-all (Contains accepted) accepted (All-contains_itself accepted)

@@ -1,15 +1,15 @@
 -- With no capacity nothing is told `Size`.
-use Rattle.std.proofs.Common.{arith, ◌≡◌, refl, ap, ◌∙◌, sym, ℕ, Bool, true, false, true≢false, not, ◌&&◌, ◌||◌, cond, List, [], ◌∷◌, ◌++◌, Option, Some, None, is_some}
+use Rattle.std.proofs.Common.{arith, ◌≡◌, refl, ap, ◌∙◌, sym, ℕ, Bool, true, false, true≢false, not, ◌&&◌, ◌||◌, List, [], ◌∷◌, ◌++◌, Option, Some, None, is_some}
 use Rattle.std.specs.Prelude.{if◌then◌else◌}
 use Rattle.std.specs.List.{list_all, find, flat_map}
 use Rattle.std.specs.Option.{option_map, option_to_list, IfSome}
-use Rattle.std.proofs.lemmas.Bool.{cond_both, and_parts, and_from}
+use Rattle.std.proofs.lemmas.Bool.{cond_both, and_parts, and_from, and_right, or_from}
 use Rattle.std.proofs.lemmas.List.Folds.{list_all-append}
 use Rattle.std.proofs.Math.Bool.{and-false}
 use Rattle.audit_model.specs.Bytewise.{same, is_empty}
 use Rattle.audit_model.specs.Commands.{Deed, deed_of, syncs, is_step_that}
 use Rattle.audit_model.specs.History.{History, Value}
-use Rattle.audit_model.specs.Notes.{same_cause, is_over, newcomer, candidates_of, is_true_cause, first_cause, is_told_first, is_true_note, first_of, are_true_notes}
+use Rattle.audit_model.specs.Notes.{same_cause, is_over, newcomer, candidates_of, is_true_cause, first_cause, is_told_first, is_true_note, first_with_key, are_true_notes}
 use Rattle.audit_model.specs.Obeys.{has_right_own_value}
 use Rattle.audit_model.specs.Places.{happening_of, tasks_of, steps_of, step_happens, left_after, due, first_due, placed_step, walk, placed_record, placed_records_after}
 use Rattle.audit_model.specs.Seen.{was_over, candidate_of, step_tells_size}
@@ -39,11 +39,8 @@ not_over config e part values = ap (λ k. is_over (record config { capacity = k 
 never_was_over : (config : Config) → config.capacity ≡ None → (key : List ℕ) (part : ℕ) (past : History) → was_over config key part past ≡ false
 never_was_over config e key part [] = refl
 never_was_over config e key part (h ∷ past) =
-    neither (is_over config part (held_values (h ∷ past))) (not (accepts key h) && not (is_step_that syncs h) && not (step_tells_size part h past)) (was_over config key part past)
-    (not_over config e part (held_values (h ∷ past))) (never_was_over config e key part past)
-  where
-    neither : (o a w : Bool) → o ≡ false → w ≡ false → (o || (a && w)) ≡ false
-    neither o a w p q = ap (λ b. b || (a && w)) p ∙ ap (λ b. a && b) q ∙ and-false a
+    or_from (is_over config part (held_values (h ∷ past))) _ (not_over config e part (held_values (h ∷ past)))
+    (and_right (not (accepts key h) && not (is_step_that syncs h) && not (step_tells_size part h past)) (was_over config key part past) (never_was_over config e key part past))
 
 abbrev Calm : Candidate → Type 0
 Calm c = c.evictable ≡ false
@@ -64,12 +61,7 @@ found P p (c ∷ cs) (x, h) = let next = found P p cs h in grind (arith, nat_tes
 
 -- the first cause is none of size
 first-other : (config : Config) (held : List Candidate) (deed : Deed) (c : Candidate) → same_cause Size (first_cause config held deed c) ≡ false
-first-other config held deed c = go (is_true_cause config held deed c Expired) (is_true_cause config held deed c Explicit)
-  where
-    go : (a b : Bool) → same_cause Size (cond a Expired (cond b Explicit Replaced)) ≡ false
-    go true b = refl
-    go false true = refl
-    go false false = refl
+first-other config held deed c = grind arith
 
 module _ (config : Config) (unlimited : config.capacity ≡ None) (held : List Candidate) (deed : Deed) where
   size-untrue : (c : Candidate) → Calm c → is_true_cause config held deed c Size ≡ false
@@ -94,9 +86,9 @@ module _ (config : Config) (unlimited : config.capacity ≡ None) (held : List C
   notes-other : (notes : List Note) (cs : List Candidate) → Each Calm cs → are_true_notes config held deed cs notes ≡ true → none_with_size notes ≡ true
   notes-other [] cs h e = refl
   notes-other (note ∷ notes) cs h e =
-      let p = and_parts (is_true_note config held deed note (first_of note.key cs)) _ e in
+      let p = and_parts (is_true_note config held deed note (first_with_key note.key cs)) _ e in
       and_from (not (same_cause note.cause Size)) (none_with_size notes)
-      (note-other note (first_of note.key cs) (found Calm (λ c. same note.key c.value.key) cs h) p.0)
+      (note-other note (first_with_key note.key cs) (found Calm (λ c. same note.key c.value.key) cs h) p.0)
       (notes-other notes (without_key (λ c. c.value.key) note.key cs) (each-without_key Calm (λ c. c.value.key) note.key cs h) p.1)
 
 -- ---- steps, records and transcripts
@@ -127,18 +119,18 @@ module _ (config : Config) (unlimited : config.capacity ≡ None) (made : ℕ) w
       list_all-append (λ note. not (same_cause note.cause Size)) own (flat_map (λ step. step.notices) steps)
       ∙ and_from (none_with_size own) (none_with_size (flat_map (λ step. step.notices) steps)) h (all-notes steps k)
 
-  no_own : (own : List Note) (b : Bool) → (b && is_empty own) ≡ true → none_with_size own ≡ true
-  no_own [] b e = refl
-  no_own (note ∷ notes) b e = absurd (true≢false (sym e ∙ and-false b))
+  no_own : (own : List Note) → is_empty own ≡ true → none_with_size own ≡ true
+  no_own [] e = refl
+  no_own (note ∷ notes) e = absurd (true≢false (sym e))
 
   record-other : (entry : Record) (e : Event) → has_right_own_value (record entry { event = e }) ≡ true
       → list_all (λ step. none_with_size step.notices) (steps_of (record entry { event = e })) ≡ true → none_with_size (notes_of entry) ≡ true
   record-other entry (event.Answer load outcome moment) h k =
       let p = and_parts (none_with_size entry.notices) (list_all (λ step. none_with_size step.notices) entry.steps) k in both-notes entry.notices entry.steps p.0 p.1
-  record-other entry (event.Open conn) h k = both-notes entry.notices entry.steps (no_own entry.notices _ h) k
-  record-other entry (event.Close conn) h k = both-notes entry.notices entry.steps (no_own entry.notices _ h) k
-  record-other entry (event.Feed conn piece moment) h k = both-notes entry.notices entry.steps (no_own entry.notices _ h) k
-  record-other entry (event.GiveUp load moment) h k = both-notes entry.notices entry.steps (no_own entry.notices _ h) k
+  record-other entry (event.Open conn) h k = both-notes entry.notices entry.steps (no_own entry.notices (and_parts _ _ h).1) k
+  record-other entry (event.Close conn) h k = both-notes entry.notices entry.steps (no_own entry.notices (and_parts _ _ h).1) k
+  record-other entry (event.Feed conn piece moment) h k = both-notes entry.notices entry.steps (no_own entry.notices (and_parts _ _ h).1) k
+  record-other entry (event.GiveUp load moment) h k = both-notes entry.notices entry.steps (no_own entry.notices (and_parts _ _ h).1) k
 
   records-other : (entries : List Record) (past : History)
       → list_all (λ placed. list_all (has_right_notes config) placed.walked.placed_steps) (placed_records_after config made past entries) ≡ true

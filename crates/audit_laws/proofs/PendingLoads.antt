@@ -1,13 +1,14 @@
 -- The loads under way, as the history says.
-use Rattle.std.proofs.Common.{inr, inl, ◌≡◌, refl, ap, ◌∙◌, sym, ℕ, suc, Bool, true, false, true≢false, not, ◌&&◌, ◌||◌, cond, List, [], ◌∷◌, ◌++◌, map, Option, Some, None, length, is_some}
+use Rattle.std.proofs.Common.{inr, inl, arith, ◌≡◌, refl, ap, ◌∙◌, sym, ℕ, suc, Bool, true, false, true≢false, not, ◌&&◌, ◌||◌, cond, List, [], ◌∷◌, ◌++◌, map, Option, Some, None, length, is_some}
 use Rattle.std.specs.Prelude.{◌==◌}
 use Rattle.std.specs.List.{filter}
+use Rattle.std.proofs.lemmas.List.{append-nil}
 use Rattle.std.proofs.lemmas.List.Elements.{filter-append}
 use Rattle.std.proofs.lemmas.Simd.{map-map}
 use Rattle.audit_model.specs.Bytewise.{same}
 use Rattle.audit_model.specs.Changes.{join_by}
 use Rattle.audit_model.specs.History.{History, Settled}
-use Rattle.audit_model.specs.Loads.{Sent, sent_by, loads_sent, is_settled, loads_under_way, is_key_of, joined}
+use Rattle.audit_model.specs.Loads.{Sent, sent_by, loads_sent, is_load_settled, loads_under_way, is_key_of, joined}
 use Rattle.audit_model.specs.Situation.{PendingLoad, Situation, without_waiting, with_waiting}
 use Rattle.audit_model.specs.Summary.{pending_from}
 use Rattle.audit_laws.proofs.Told.{Each, each-more, map-same}
@@ -22,40 +23,18 @@ pub each-any : {X : Type 0} {P : X → Type 0} (xs : List X) → ((x : X) → P 
 each-any [] f = tt
 each-any (x ∷ xs) f = (f x, each-any xs f)
 
-append-nil : {X : Type 0} (xs : List X) → xs ++ [] ≡ xs
-append-nil [] = refl
-append-nil (x ∷ xs) = ap (λ ys. x ∷ ys) (append-nil xs)
-
-swap_tests : {X : Type 0} (a b : Bool) (x : X) (p q : X → Bool) (u v : List X) → p x ≡ a → q x ≡ b → filter p u ≡ filter q v
-    → filter p (cond b (x ∷ u) u) ≡ filter q (cond a (x ∷ v) v)
-swap_tests true true x p q u v e f r =
-    ap (λ c. cond c (x ∷ filter p u) (filter p u)) e ∙ ap (λ l. x ∷ l) r ∙ sym (ap (λ c. cond c (x ∷ filter q v) (filter q v)) f)
-swap_tests true false x p q u v e f r = r ∙ sym (ap (λ c. cond c (x ∷ filter q v) (filter q v)) f)
-swap_tests false true x p q u v e f r = ap (λ c. cond c (x ∷ filter p u) (filter p u)) e ∙ r
-swap_tests false false x p q u v e f r = r
-
 pub filter-swap : {X : Type 0} (p q : X → Bool) (xs : List X) → filter p (filter q xs) ≡ filter q (filter p xs)
 filter-swap p q [] = refl
-filter-swap p q (x ∷ xs) = swap_tests (p x) (q x) x p q (filter q xs) (filter p xs) refl refl (filter-swap p q xs)
+filter-swap p q (x ∷ xs) = let next = filter-swap p q xs in grind (arith, next)
 
 pub filter-map : {X Y : Type 0} (p : Y → Bool) (f : X → Y) (xs : List X) → filter p (map f xs) ≡ map f (filter (λ x. p (f x)) xs)
 filter-map p f [] = refl
 filter-map p f (x ∷ xs) = elim (cases_Bool (p (f x))) [ inl e ↦ rw e (ap (λ l. f x ∷ l) (filter-map p f xs)) | inr e ↦ rw e (filter-map p f xs) ]
 
-neither : {X : Type 0} (a b c : Bool) (x : X) (p : X → Bool) (u v : List X) → p x ≡ not c → a ≡ c → u ≡ filter p v
-    → cond (not (a || b)) (x ∷ u) u ≡ filter p (cond (not b) (x ∷ v) v)
-neither true true true x p u v e f r = r
-neither true false true x p u v e f r = r ∙ sym (ap (λ d. cond d (x ∷ filter p v) (filter p v)) e)
-neither false true false x p u v e f r = r
-neither false false false x p u v e f r = ap (λ l. x ∷ l) r ∙ sym (ap (λ d. cond d (x ∷ filter p v) (filter p v)) e)
-neither true b false x p u v e f r = absurd (true≢false f)
-neither false b true x p u v e f r = absurd (true≢false (sym f))
-
 pub settled-filter : (load : ℕ) (past : History) (sents : List Sent)
-    → filter (λ sent. not ((load == sent.number) || is_settled sent.number past)) sents ≡ filter (λ sent. not (sent.number == load)) (filter (λ sent. not (is_settled sent.number past)) sents)
+    → filter (λ sent. not ((load == sent.number) || is_load_settled sent.number past)) sents ≡ filter (λ sent. not (sent.number == load)) (filter (λ sent. not (is_load_settled sent.number past)) sents)
 settled-filter load past [] = refl
-settled-filter load past (x ∷ xs) =
-    neither (load == x.number) (is_settled x.number past) (x.number == load) x (λ sent. not (sent.number == load)) _ (filter (λ sent. not (is_settled sent.number past)) xs) refl (eqb-turned load x.number) (settled-filter load past xs)
+settled-filter load past (x ∷ xs) = let next = settled-filter load past xs in let turned = eqb-turned load x.number in grind (arith, next, turned)
 
 -- an event that settles a load
 pub pending-settled : (load moment : ℕ) (past : History)
@@ -130,11 +109,11 @@ module _ (past : History) (c : ℕ) (runs : ℕ → Bool) (running : runs c ≡ 
 
   -- what a step may send: its connection then waits, the number is new, and no load of the key is under way
   abbrev pub SendsRightly : Bool → Option (List ℕ) → Option ℕ → Type 0
-  SendsRightly waits (Some key) (Some n) = (waits ≡ true) × (is_settled n past ≡ false) × Each (λ sent. same sent.key key ≡ false) (loads_under_way past)
+  SendsRightly waits (Some key) (Some n) = (waits ≡ true) × (is_load_settled n past ≡ false) × Each (λ sent. same sent.key key ≡ false) (loads_under_way past)
   SendsRightly waits ko lo = Unit {0}
 
   abbrev under_way_then : Option (List ℕ) → Option ℕ → List Sent
-  under_way_then ko lo = filter (λ sent. not (is_settled sent.number past)) (sent_by ko lo ++ loads_sent past)
+  under_way_then ko lo = filter (λ sent. not (is_load_settled sent.number past)) (sent_by ko lo ++ loads_sent past)
 
   abbrev leave : ℕ → Situation → Situation
   leave conn s = record s { pending = map (without_waiting conn) s.pending }

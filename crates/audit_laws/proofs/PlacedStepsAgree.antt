@@ -2,7 +2,7 @@
 use Rattle.std.proofs.Common.{inr, inl, ◌≡◌, refl, ap, ◌∙◌, sym, subst, ℕ, Bool, true, false, true≢false, ◌&&◌, ◌||◌, cond, List, [], ◌∷◌, map, Option, Some, None, is_some}
 use Rattle.std.specs.Prelude.{unwrap_or}
 use Rattle.std.specs.Option.{option_map, option_map_or}
-use Rattle.std.proofs.lemmas.Bool.{cases_Bool, and_parts, eqb-true, not-true}
+use Rattle.std.proofs.lemmas.Bool.{cases_Bool, and_parts, eqb-true, not-true, or_right}
 use Rattle.audit_model.specs.Bytewise.{cut_at}
 use Rattle.audit_model.specs.Changes.{left_held, connection_after, after_step}
 use Rattle.audit_model.specs.Commands.{deed_of, covers}
@@ -83,13 +83,9 @@ read_ready conn past e =
     ap (λ b. behind_lines 1 (cond (b || waits conn past) (behind_lines 1 (unanswered conn past)) (unanswered conn past))) (not-true (holds conn past) q.1)
     ∙ ap (λ b. behind_lines 1 (cond b (behind_lines 1 (unanswered conn past)) (unanswered conn past))) (not-true (waits conn past) w.1)
 
-or_true : (a b : Bool) → b ≡ true → (a || b) ≡ true
-or_true true b e = refl
-or_true false b e = e
-
 read_waiting : (conn : ℕ) (past : History) → waits conn past ≡ true → unread_in (facts conn past) ≡ behind_lines 1 (unanswered conn past)
 read_waiting conn past e =
-    ap (λ b. cond b (behind_lines 1 (unanswered conn past)) (unanswered conn past)) (or_true (holds conn past) (waits conn past) e)
+    ap (λ b. cond b (behind_lines 1 (unanswered conn past)) (unanswered conn past)) (or_right (holds conn past) (waits conn past) e)
 
 read_held : (conn : ℕ) (past : History) → holds conn past ≡ true → unread_in (facts conn past) ≡ behind_lines 1 (unanswered conn past)
 read_held conn past e = ap (λ b. cond (b || waits conn past) (behind_lines 1 (unanswered conn past)) (unanswered conn past)) e

@@ -13,7 +13,7 @@ use Rattle.audit_model.specs.History.{History}
 use Rattle.audit_model.specs.Loads.{Sent, loads_under_way, key_of_load, waiting_for}
 use Rattle.audit_model.specs.Obeys.{is_numbered, has_right_number, is_finished, has_right_own_value, is_right_record}
 use Rattle.audit_model.specs.Places.{tasks_to_answer, tasks_to_give_up, tasks_to_feed, tasks_of, happening_of, steps_of, PlacedRecord, placed_record, placed_records_after, history_after}
-use Rattle.audit_model.specs.Situation.{Situation, empty_situation, is_holding, connection_in, key_in, waiting_in, Ready, Held, Waiting}
+use Rattle.audit_model.specs.Situation.{Situation, empty_situation, is_holding, connection_in, pending_key, waiting_in, Ready, Held, Waiting}
 use Rattle.audit_model.specs.Steps.{is_right}
 use Rattle.audit_model.specs.Stream.{opened_count, was_opened, holds, is_open}
 use Rattle.audit_model.specs.Summary.{connection_from, pending_from, situation_of, LeadsToSummary}
@@ -37,11 +37,11 @@ module _ (config : Config) (made : ℕ) (past : History) (h : Sound past) where
   -- an event is refused alike in the situation and in the history
   pub known-same : known_in s ≡ known_from past
   known-same =
-      ap (λ f. record { was_opened = f; is_open = λ conn. is_some (connection_in conn s); is_under_way = λ load. is_some (key_in load s) }) (fun_ext (λ c. sym (h.opened c)))
-      ∙ ap (λ f. record { was_opened = λ conn. was_opened conn past; is_open = f; is_under_way = λ load. is_some (key_in load s) }) (fun_ext (λ c. sym (open-same config made past c)))
+      ap (λ f. record { was_opened = f; is_open = λ conn. is_some (connection_in conn s); is_under_way = λ load. is_some (pending_key load s) }) (fun_ext (λ c. sym (h.opened c)))
+      ∙ ap (λ f. record { was_opened = λ conn. was_opened conn past; is_open = f; is_under_way = λ load. is_some (pending_key load s) }) (fun_ext (λ c. sym (open-same config made past c)))
       ∙ ap (λ f. record { was_opened = λ conn. was_opened conn past; is_open = λ conn. is_open conn past; is_under_way = f }) (fun_ext (λ l. ap is_some (sym (key_of l))))
     where
-      key_of : (load : ℕ) → key_of_load load past ≡ key_in load s
+      key_of : (load : ℕ) → key_of_load load past ≡ pending_key load s
       key_of load = key-same config made past h.stand load
 
   waiting-same : (load : ℕ) → waiting_in load s ≡ waiting_for (key_of_load load past) past
@@ -153,13 +153,10 @@ pub records-same : (config : Config) (made : ℕ) (entries : List Record) (past 
 records-same config made [] past h = refl
 records-same config made (entry ∷ entries) past h =
     ap (option_and_then (λ t. after_records config t entries)) (record-same config made past h entry)
-    ∙ go (is_good_record config (placed_record config made past entry)) (λ e. records-same config made entries (placed_record config made past entry).walked.after (record-sound config made past h entry e))
-  where
-    go : (b : Bool) → (b ≡ true → after_records config (situation_of config made (placed_record config made past entry).walked.after) entries ≡ outcome_after config made (placed_record config made past entry).walked.after entries)
-        → option_and_then (λ t. after_records config t entries) (cond b (Some (situation_of config made (placed_record config made past entry).walked.after)) None)
-        ≡ cond (b && list_all (is_good_record config) (placed_records_after config made (placed_record config made past entry).walked.after entries)) (Some (situation_of config made (history_after config made (placed_record config made past entry).walked.after entries))) None
-    go true f = f refl
-    go false f = refl
+    ∙ (elim (cases_Bool (is_good_record config (placed_record config made past entry))) [
+      | inl is ↦ rw is (records-same config made entries (placed_record config made past entry).walked.after (record-sound config made past h entry is))
+      | inr is ↦ rw is
+    ])
 
 -- the steps of good records have the same places
 pub records-placed : (config : Config) (made : ℕ) (entries : List Record) (past : History) → Sound past

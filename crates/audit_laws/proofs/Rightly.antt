@@ -7,7 +7,7 @@ use Rattle.std.proofs.lemmas.Bool.{cases_Bool, eqb-true}
 use Rattle.audit_model.specs.Bytewise.{same}
 use Rattle.audit_model.specs.Commands.{covers}
 use Rattle.audit_model.specs.History.{Value, Action, Effect, History, Running, Holding}
-use Rattle.audit_model.specs.Loads.{key_loaded, loads_sent, is_settled, loads_under_way, load_of_key}
+use Rattle.audit_model.specs.Loads.{key_loaded, loads_sent, is_load_settled, loads_under_way, load_of_key}
 use Rattle.audit_model.specs.Replies.{value_reply, is_reply, load_sent_by, offer_of, value_from, Offer}
 use Rattle.audit_model.specs.Stream.{is_held, is_waiting}
 use Rattle.audit_model.specs.View.{View}
@@ -56,13 +56,13 @@ pub record SentNow (reply : Option (List ℕ)) (load : Option ℕ) (n next : ℕ
   pub alone : load ≡ None
   pub number : n ≡ next
 
-sent_now : (reply : Option (List ℕ)) (n next : ℕ) (live : Option Value) (load : Option ℕ) (b : Bool)
+sent_now : (reply : Option (List ℕ)) (n next : ℕ) (live : Option Value) (load : Option ℕ)
     → option_eq nat_eq (Some n) (cond (is_some live || is_some load) None (Some next)) ≡ true
     → (option_eq same reply (option_map (λ value. value_reply value.bytes) live) || false) ≡ true → SentNow reply load n next
-sent_now reply n next (Some v) load b e r = absurd (true≢false (sym e))
-sent_now reply n next None (Some m) b e r = absurd (true≢false (sym e))
-sent_now None n next None None b e r = record { waits = refl; alone = refl; number = eqb-true n next e }
-sent_now (Some reply) n next None None b e r = absurd (true≢false (sym r))
+sent_now reply n next (Some v) load e r = absurd (true≢false (sym e))
+sent_now reply n next None (Some m) e r = absurd (true≢false (sym e))
+sent_now None n next None None e r = record { waits = refl; alone = refl; number = eqb-true n next e }
+sent_now (Some reply) n next None None e r = absurd (true≢false (sym r))
 
 not_found : {X : Type 0} (p : X → Bool) (f : X → ℕ) (xs : List X) → option_map f (find p xs) ≡ None → Each (λ x. p x ≡ false) xs
 not_found p f [] e = tt
@@ -70,12 +70,12 @@ not_found p f (x ∷ xs) e =
     ((elim (cases_Bool (p x)) [ inl is ↦ rw is (absurd (true≢false (ap is_some (rw is at e)))) | inr is ↦ rw is ]), not_found p f xs ((elim (cases_Bool (p x)) [ inl t ↦ absurd (true≢false (ap is_some (rw t at e))) | inr t ↦ rw t at e ])))
 
 module _ (config : Config) (past : History) (seen : View) (sees : (key : List ℕ) → seen.load_of_key key ≡ load_of_key key past) (next : seen.next_load ≡ suc (length (loads_sent past)))
-    (unsettled : (n : ℕ) → length (loads_sent past) < n → is_settled n past ≡ false) (held : List Value) (c : ℕ) (runs : ℕ → Bool) (running : runs c ≡ true) where
+    (unsettled : (n : ℕ) → length (loads_sent past) < n → is_load_settled n past ≡ false) (held : List Value) (c : ℕ) (runs : ℕ → Bool) (running : runs c ≡ true) where
   sends_by : (effect : Effect) (action : Action) (reply : Option (List ℕ)) (load : Option ℕ)
       → option_eq nat_eq load (load_sent_by seen action) ≡ true → is_reply config seen (record effect { action = action; reply = reply }) held ≡ true
       → SendsRightly past c runs running (is_waiting (record effect { action = action; reply = reply })) (key_loaded action) load × NumbersRightly past (key_loaded action) load
   sends_by effect (Running (says.Load key)) reply (Some n) e r =
-      let is : SentNow reply (seen.load_of_key key) n seen.next_load = sent_now reply n seen.next_load (seen.live key) (seen.load_of_key key) true e r in
+      let is : SentNow reply (seen.load_of_key key) n seen.next_load = sent_now reply n seen.next_load (seen.live key) (seen.load_of_key key) e r in
       ((ap (λ b. b && true) is.waits, unsettled n (subst (λ m. length (loads_sent past) < m) (sym (is.number ∙ next)) (omega arith)), not_found _ (λ sent. sent.number) (loads_under_way past) (sym (sees key) ∙ is.alone)), is.number ∙ next)
   sends_by effect (Running (says.Load key)) reply None e r = (tt, tt)
   sends_by effect (Running command) reply load e r = (tt, tt)

@@ -3,13 +3,13 @@ use Rattle.std.proofs.Common.{inr, inl, ◌≡◌, refl, ap, ◌∙◌, sym, sub
 use Rattle.std.specs.Prelude.{◌==◌}
 use Rattle.std.specs.List.{list_all, filter, cons_option}
 use Rattle.std.proofs.Math.Path.{fun_ext}
-use Rattle.std.proofs.lemmas.Bool.{cases_Bool, and_parts, eqb-true}
+use Rattle.std.proofs.lemmas.Bool.{cases_Bool, and_parts, and_right, eqb-true}
 use Rattle.std.proofs.lemmas.Bool.Decides.{nat_tests}
 use Rattle.audit_model.specs.Bytewise.{cut_at, is_empty}
 use Rattle.audit_model.specs.History.{Effect}
 use Rattle.audit_model.specs.Obeys.{is_numbered, has_right_own_value, accepted_values}
 use Rattle.audit_model.specs.Places.{happening_of, tasks_to_answer, tasks_to_give_up, due, first_due, left_after, steps_of}
-use Rattle.audit_model.specs.Steps.{Task, Store, Deliver, RunAgain, RunHeld, RunLines, PlacedStep, is_task_of, is_in_turn, is_held_rightly, has_right_line, has_right_reply, has_right_load, has_right_acceptance, has_right_notes, is_quiet_where_silent, keeps_shares, is_right}
+use Rattle.audit_model.specs.Steps.{Task, Store, Deliver, RunAgain, RunHeld, RunLines, PlacedStep, is_task_of, is_in_turn, is_right}
 use Rattle.audit_model.specs.Stream.{is_held, is_waiting, first_line}
 use Rattle.audit_model.specs.declared.command.Closing.{Closing}
 use Rattle.audit_model.specs.declared.command.Closing.TheVariants as by
@@ -70,20 +70,11 @@ none_of : (o : Option Closing) → is_some o ≡ true → is_none o ≡ false
 none_of (Some x) e = refl
 none_of None e = absurd (true≢false (sym e))
 
-never : (a b : Bool) → b ≡ false → (a && b) ≡ false
-never true b e = e
-never false b e = refl
-
 pub not-open : (f : Facts) → Shut f → open_in f ≡ false
-not-open f s = never f.opened (is_none (closing_in f)) (none_of (closing_in f) s.shut)
+not-open f s = and_right f.opened (is_none (closing_in f)) (none_of (closing_in f) s.shut)
 
 pub not-run : (f : Facts) → Shut f → runs_by f ≡ false
 not-run f s = ap (λ b. b && not (last_is is_waiting f.effect) && not (last_is is_held f.effect) && is_some (first_line (unread_in f))) (not-open f s)
-
--- a step out of its turn is not right
-out_of_turn : (config : Config) (p : PlacedStep) → is_in_turn p ≡ false → is_right config p ≡ false
-out_of_turn config p e =
-    ap (λ b. b && is_held_rightly p && has_right_line p && has_right_reply config p && has_right_load p && has_right_acceptance config p && has_right_notes config p && is_quiet_where_silent p && keeps_shares config p) e
 
 in_its_turn : (config : Config) (p : PlacedStep) → is_right config p ≡ true → is_in_turn p ≡ true
 in_its_turn config p e = grind (arith, nat_tests)
@@ -140,10 +131,6 @@ module _ (config : Config) (conn : ℕ) where
   AwayNow (Some (RunAgain c)) = (c == conn) ≡ false
   AwayNow (Some (RunHeld c)) = (c == conn) ≡ false
   AwayNow (Some (RunLines c)) = (c == conn) ≡ false
-
-  -- what is true of another and not of it
-  other-by : (test : ℕ → Bool) → test conn ≡ false → (c : ℕ) → test c ≡ true → (c == conn) ≡ false
-  other-by test not_own c is_so = grind (arith, nat_tests)
 
   due-away : (may : ℕ → Bool) → may conn ≡ false → (tasks : List Task) → Each Away tasks → AwayNow (first_due (due may tasks)) × Each Away (left_after (due may tasks))
   due-away may not_own [] h = (tt, tt)
@@ -211,13 +198,10 @@ module _ (config : Config) (conn : ℕ) where
     then-same (Some (RunHeld c)) x = refl
     then-same (Some (RunLines c)) x = refl
 
-    effect-same : (o : Option Task) (x : Step) → effect_by config (other bytes t) o x ≡ effect_by config t o x
-    effect-same o x = refl
-
     ran-shut : (effect : Effect) (c n : ℕ) → (c == n) ≡ true → (c == conn) ≡ false → Shut (t.connection conn) → Shut (record (t.connection conn) { bytes = bytes })
         → Shut (ran_on effect (t.connection conn) (n == conn)) × Shut (record (ran_on effect (t.connection conn) (n == conn)) { bytes = bytes })
     ran-shut effect c n e a s r =
-        let q = ran-other effect (t.connection conn) (n == conn) (ap (λ d. d == conn) (sym (eqb-true c n e)) ∙ a) in
+        let q = ap (ran_on effect (t.connection conn)) (ap (λ d. d == conn) (sym (eqb-true c n e)) ∙ a) ∙ ran-other effect (t.connection conn) in
         (subst Shut (sym q) s, subst Shut (ap (λ (f : Facts). record f { bytes = bytes }) (sym q)) r)
 
     both-of : (u : Traces) → Shut (u.connection conn) × Shut (record (u.connection conn) { bytes = bytes }) → BothShut bytes u
@@ -330,13 +314,7 @@ module _ (config : Config) (conn : ℕ) where
       }
 
   and_where : (a a' b r r' : Bool) → r' ≡ r → (r ≡ true → a' ≡ a) → (a' && b && r') ≡ (a && b && r)
-  and_where a a' b true r' e f = ap (λ x. x && b && r') (f refl) ∙ ap (λ x. a && b && x) e
-  and_where a a' b false r' e f = ap (λ x. a' && b && x) e ∙ none a' b ∙ sym (none a b)
-    where
-      none : (x y : Bool) → (x && y && false) ≡ false
-      none true true = refl
-      none true false = refl
-      none false y = refl
+  and_where a a' b r r' e f = grind (arith, e, f)
 
   pub record SameRecords (t' t : Traces) (entries : List Record) : Type 0 where
     pub right : are_right_by config t' entries ≡ are_right_by config t entries
@@ -351,15 +329,17 @@ module _ (config : Config) (conn : ℕ) where
   -- the same records are right, and accept the same
   pub shut-records : (entries : List Record) (bytes : List ℕ) (t : Traces) → BothShut bytes t → SameRecords (with_own config conn bytes t) t entries
   shut-records [] bytes t s = record { right = refl; values = λ z. refl }
-  shut-records (entry ∷ entries) bytes t s = go (is_right_by config t entry) refl (λ b u h. shut-records entries b u h)
+  shut-records (entry ∷ entries) bytes t s = elim (cases_Bool (is_right_by config t entry)) [ inl e ↦ right_one e (λ bs u h. shut-records entries bs u h) | inr e ↦ wrong_one e ]
     where
-      go : (b : Bool) → is_right_by config t entry ≡ b → ((b : List ℕ) (u : Traces) → BothShut b u → SameRecords (with_own config conn b u) u entries) → SameRecords (other bytes t) t (entry ∷ entries)
-      go false e ih =
+      wrong_one : is_right_by config t entry ≡ false → SameRecords (other bytes t) t (entry ∷ entries)
+      wrong_one e =
           record {
             right = ap (λ b. b && are_right_by config (walked_by config (other bytes t) entry).after entries) (record-right bytes t entry s ∙ e) ∙ sym (ap (λ b. b && are_right_by config (walked_by config t entry).after entries) e);
             values = λ z. absurd (true≢false (sym z ∙ ap (λ b. b && are_right_by config (walked_by config t entry).after entries) e));
           }
-      go true e ih =
+
+      right_one : is_right_by config t entry ≡ true → ((bs : List ℕ) (u : Traces) → BothShut bs u → SameRecords (with_own config conn bs u) u entries) → SameRecords (other bytes t) t (entry ∷ entries)
+      right_one e ih =
           let one : SameRecord (other bytes t) t entry = shut-record bytes t entry s in
           let h : Then one.bytes' (walked_by config (other bytes t) entry) (walked_by config t entry) = one.walk.then' (and_parts (is_numbered t.count entry.event && is_empty (walked_by config t entry).left && has_right_own_value entry) _ e).1 in
           let more : SameRecords (with_own config conn one.bytes' (walked_by config t entry).after) (walked_by config t entry).after entries = ih one.bytes' (walked_by config t entry).after h.shut in

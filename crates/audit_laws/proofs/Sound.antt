@@ -7,10 +7,10 @@ use Rattle.std.proofs.lemmas.Bool.{cases_Bool, and_parts, leb-true, ne_eqb, eqb-
 use Rattle.std.proofs.lemmas.List.{map-append}
 use Rattle.std.proofs.lemmas.List.Elements.{filter-append}
 use Rattle.std.proofs.Math.Bool.{and-false}
-use Rattle.audit_model.specs.Belongs.{refusal_where, refusal_of_conn, refusal_of_load, refusal_of, known_from}
+use Rattle.audit_model.specs.Belongs.{refusal_of_conn, refusal_of_load, refusal_of, known_from}
 use Rattle.audit_model.specs.Follows.{without_load, after_event}
 use Rattle.audit_model.specs.History.{History, Opened, Closed, Fed, Settled}
-use Rattle.audit_model.specs.Loads.{loads_sent, is_settled, loads_under_way, key_of_load, joined}
+use Rattle.audit_model.specs.Loads.{loads_sent, is_load_settled, loads_under_way, key_of_load, joined}
 use Rattle.audit_model.specs.Obeys.{is_numbered}
 use Rattle.audit_model.specs.Places.{happening_of}
 use Rattle.audit_model.specs.Situation.{Connection, Situation, is_overlong, with_connection, Ready}
@@ -21,7 +21,6 @@ use Rattle.audit_model.specs.declared.config.Config.{Config}
 use Rattle.audit_model.specs.declared.event.Event.{Event}
 use Rattle.audit_model.specs.declared.event.Event.TheVariants as event
 use Rattle.audit_model.specs.declared.event.Instant.{Instant}
-use Rattle.audit_model.specs.declared.input.ServiceError.{ServiceError}
 use Rattle.audit_laws.proofs.Told.{Each, each-more, map-same}
 use Rattle.audit_laws.proofs.HeldStep.{Stands}
 use Rattle.audit_laws.proofs.HeldEvent.{held_from-event}
@@ -44,7 +43,7 @@ pub record Sound (past : History) : Type 0 where
   pub complete : (c : ℕ) → Complete (facts c past)
   pub sent_numbers : Each (λ sent. sent.number ≤ length (loads_sent past)) (loads_sent past)
   pub keys : Distinct (loads_under_way past)
-  pub unsettled : (n : ℕ) → length (loads_sent past) < n → is_settled n past ≡ false
+  pub unsettled : (n : ℕ) → length (loads_sent past) < n → is_load_settled n past ≡ false
 
 pub le_open : (c : ℕ) (past : History) → Sound past → is_open c past ≡ true → c ≤ opened_count past
 le_open c past h e = leb-true c (opened_count past) (and_parts (nat_lt 0 c) (nat_le c (opened_count past)) (sym (h.opened c) ∙ (open-parts (facts c past) e).opened)).1
@@ -72,15 +71,11 @@ or_none : {X : Type 0} (a b : Option X) → is_none (option_or a b) ≡ true →
 or_none None b e = (refl, e)
 or_none (Some x) b e = absurd (true≢false (sym e))
 
-where_none : (b : Bool) (error : ServiceError) → is_none (refusal_where (not b) error) ≡ true → b ≡ true
-where_none true error e = refl
-where_none false error e = absurd (true≢false (sym e))
-
 pub conn-admitted : (conn : ℕ) (past : History) → is_none (refusal_of_conn (known_from past) conn) ≡ true → is_open conn past ≡ true
-conn-admitted conn past e = where_none (is_open conn past) _ (or_none _ _ e).1
+conn-admitted conn past e = grind (arith, e)
 
 pub load-admitted : (load : ℕ) (past : History) → is_none (refusal_of_load (known_from past) load) ≡ true → is_some (key_of_load load past) ≡ true
-load-admitted load past e = where_none (is_some (key_of_load load past)) _ e
+load-admitted load past e = grind (arith, e)
 
 -- what each event needs
 abbrev pub Admitted : History → Event → Type 0

@@ -6,7 +6,7 @@ use Rattle.std.specs.Option.{option_map}
 use Rattle.std.proofs.lemmas.Bool.{cond_both, ne_eqb, eqb-true}
 use Rattle.std.proofs.lemmas.Bool.Decides.{nat_tests}
 use Rattle.audit_model.specs.History.{Effect, History, Opened, Closed, Fed, Settled, Stored, Ran}
-use Rattle.audit_model.specs.Loads.{Sent, key_loaded, sent_by, loads_sent, is_settled, loads_under_way, key_of_load, waits_for, sends_for, joined}
+use Rattle.audit_model.specs.Loads.{Sent, key_loaded, sent_by, loads_sent, is_load_settled, loads_under_way, key_of_load, waits_for, sends_for, joined}
 use Rattle.audit_model.specs.Places.{happening_of}
 use Rattle.audit_model.specs.Steps.{Task}
 use Rattle.audit_model.specs.Stream.{opened_count, is_waiting, is_open}
@@ -99,7 +99,7 @@ module _ (past : History) (h : Sound past) where
         complete = h.complete;
         sent_numbers = h.sent_numbers;
         keys = subst Distinct (sym (settled-filter load past (loads_sent past))) (distinct-filter (λ sent. not (sent.number == load)) (loads_under_way past) h.keys);
-        unsettled = λ n k. ap (λ b. b || is_settled n past) (ne_eqb load n (λ e. omega (arith, within))) ∙ h.unsettled n k;
+        unsettled = λ n k. ap (λ b. b || is_load_settled n past) (ne_eqb load n (λ e. omega (arith, within))) ∙ h.unsettled n k;
       }
     where
       within : load ≤ length (loads_sent past)
@@ -149,12 +149,12 @@ module _ (past : History) (h : Sound past) where
     numbers_then (Some key) (Some n) r = (omega arith, each-more _ _ (loads_sent past) (λ sent k. omega arith) h.sent_numbers)
 
     keys_then : (waits : Bool) (ko : Option (List ℕ)) (lo : Option ℕ) → SendsRightly past c (λ d. open_in (facts d past)) fits.is_open waits ko lo
-        → Distinct (filter (λ sent. not (is_settled sent.number past)) (sent_by ko lo ++ loads_sent past))
+        → Distinct (filter (λ sent. not (is_load_settled sent.number past)) (sent_by ko lo ++ loads_sent past))
     keys_then waits None lo r = h.keys
     keys_then waits (Some key) None r = h.keys
     keys_then waits (Some key) (Some n) r = grind (arith, nat_tests, r.2)
 
-    unsettled_then : (ko : Option (List ℕ)) (lo : Option ℕ) (n : ℕ) → length (sent_by ko lo ++ loads_sent past) < n → is_settled n past ≡ false
+    unsettled_then : (ko : Option (List ℕ)) (lo : Option ℕ) (n : ℕ) → length (sent_by ko lo ++ loads_sent past) < n → is_load_settled n past ≡ false
     unsettled_then None lo n k = h.unsettled n k
     unsettled_then (Some key) None n k = h.unsettled n k
     unsettled_then (Some key) (Some m) n k = h.unsettled n (omega arith)

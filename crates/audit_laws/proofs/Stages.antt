@@ -1,5 +1,6 @@
 -- Steps in two parts.
-use Rattle.std.proofs.Common.{◌≡◌, refl, ap, sym, Bool, true, false, true≢false, cond, List, [], ◌∷◌, ◌++◌, Option, Some, None, is_some}
+use Rattle.std.proofs.Common.{inr, inl, ◌≡◌, refl, ap, sym, true≢false, List, [], ◌∷◌, ◌++◌, Some, is_some}
+use Rattle.std.proofs.lemmas.Bool.{cases_Bool}
 use Rattle.std.specs.Option.{option_and_then}
 use Rattle.audit_model.specs.Changes.{after_step}
 use Rattle.audit_model.specs.Follows.{placed_step_in, after_steps}
@@ -22,28 +23,21 @@ module _ (config : Config) where
         left = left_after (due (may_run_in stage.situation) stage.left);
       }
 
-  under_test : {X : Type 0} (b : Bool) (rest : Option X) (f : Stage → Option X) (o : Option Stage) → rest ≡ option_and_then f o → cond b rest None ≡ option_and_then f (cond b o None)
-  under_test true rest f o e = e
-  under_test false rest f o e = refl
-
   stages-in_parts : (front rest : List Step) (stage : Stage)
       → stage_after config stage (front ++ rest) ≡ option_and_then (λ reached. stage_after config reached rest) (stage_after config stage front)
   stages-in_parts [] rest stage = refl
   stages-in_parts (step ∷ front) rest stage =
-      under_test (is_right config (placed_at stage step)) (stage_after config (next_stage stage step) (front ++ rest)) (λ reached. stage_after config reached rest) (stage_after config (next_stage stage step) front)
-      (stages-in_parts front rest (next_stage stage step))
+      elim (cases_Bool (is_right config (placed_at stage step))) [ inl e ↦ rw e (stages-in_parts front rest (next_stage stage step)) | inr e ↦ rw e ]
 
   steps-in_parts : (front rest : List Step) (stage : Stage)
       → after_steps config stage.situation stage.left (front ++ rest) ≡ option_and_then (λ reached. after_steps config reached.situation reached.left rest) (stage_after config stage front)
   steps-in_parts [] rest stage = refl
   steps-in_parts (step ∷ front) rest stage =
-      let next = next_stage stage step in
-      under_test (is_right config (placed_at stage step)) (after_steps config next.situation next.left (front ++ rest)) (λ reached. after_steps config reached.situation reached.left rest) (stage_after config next front)
-      (steps-in_parts front rest next)
+      elim (cases_Bool (is_right config (placed_at stage step))) [ inl e ↦ rw e (steps-in_parts front rest (next_stage stage step)) | inr e ↦ rw e ]
 
-  pub some_rest : (b : Bool) (o : Option Stage) (reached : Stage) → cond b o None ≡ Some reached → o ≡ Some reached
-  some_rest true o reached e = e
-  some_rest false o reached e = absurd (true≢false (sym (ap is_some e)))
+  -- where a stage is reached, the rest reaches it from the next one
+  pub some_rest : (step : Step) (front : List Step) (stage reached : Stage) → stage_after config stage (step ∷ front) ≡ Some reached → stage_after config (next_stage stage step) front ≡ Some reached
+  some_rest step front stage reached e = elim (cases_Bool (is_right config (placed_at stage step))) [ inl is ↦ rw is at e | inr is ↦ absurd (true≢false (sym (ap is_some (rw is at e)))) ]
 
   places-in_parts : (front rest : List Step) (stage reached : Stage) → stage_after config stage front ≡ Some reached
       → placed_steps_in config stage.situation stage.left (front ++ rest) ≡ placed_steps_in config stage.situation stage.left front ++ placed_steps_in config reached.situation reached.left rest
@@ -51,7 +45,7 @@ module _ (config : Config) where
       let is : stage ≡ reached = cc in ap (λ (x : Stage). placed_steps_in config x.situation x.left rest) is
   places-in_parts (step ∷ front) rest stage reached e =
       let next = next_stage stage step in
-      ap (λ xs. placed_at stage step ∷ xs) (places-in_parts front rest next reached (some_rest (is_right config (placed_at stage step)) (stage_after config next front) reached e))
+      ap (λ xs. placed_at stage step ∷ xs) (places-in_parts front rest next reached (some_rest step front stage reached e))
 
 pub steps_in_parts : StepsInParts
 steps_in_parts =

@@ -3,15 +3,15 @@ use Rattle.std.proofs.Common.{arith, ◌≡◌, refl, ap, ◌∙◌, sym, subst,
 use Rattle.std.specs.Prelude.{IsTrue}
 use Rattle.std.specs.List.{list_all, IsDistinct}
 use Rattle.std.specs.Option.{option_map, option_to_list}
-use Rattle.std.proofs.lemmas.Bool.{and_from, not-true, or_parts}
+use Rattle.std.proofs.lemmas.Bool.{and_from}
 use Rattle.std.proofs.lemmas.List.{map-append}
 use Rattle.std.proofs.lemmas.Simd.{map-map}
 use Rattle.audit_model.specs.Bytewise.{same}
 use Rattle.audit_model.specs.Changes.{newly_held, left_held, held_after, all_held_after, after_step}
-use Rattle.audit_model.specs.Commands.{Deed, deed_of, is_this}
+use Rattle.audit_model.specs.Commands.{Deed, deed_of}
 use Rattle.audit_model.specs.Follows.{after_event, placed_step_in}
 use Rattle.audit_model.specs.History.{Value}
-use Rattle.audit_model.specs.Notes.{is_over, newcomer, candidates_of, is_rewritten, is_succeeded, are_true_notes}
+use Rattle.audit_model.specs.Notes.{is_over, newcomer, candidates_of, is_succeeded, are_true_notes}
 use Rattle.audit_model.specs.Situation.{Situation, HeldValue, candidate_at}
 use Rattle.audit_model.specs.Steps.{Task, is_right}
 use Rattle.audit_model.specs.Values.{untold}
@@ -51,8 +51,7 @@ marked-after config now held deed notes =
     (λ h. either (is_over config h.value.part (map (λ k. k.value) (left_held held deed notes))) _)
   where
     either : (o b : Bool) → (not o || (o || b)) ≡ true
-    either true b = refl
-    either false b = refl
+    either o b = grind arith
 
 -- ---- keys are distinct
 
@@ -129,9 +128,6 @@ module _ (config : Config) (now : ℕ) (held : List HeldValue) (deed : Deed) (no
 
   differ-left : (c d : Candidate) → Apart c d → IsTrue (not (is_succeeded deed c)) → Fresh d → Differ c.value.key d.value.key
   differ-left c d apart spared fresh = grind (arith, nat_tests)
-    where
-      unwritten : is_rewritten deed c ≡ false
-      unwritten = (or_parts (is_rewritten deed c) (is_this c.value.key deed.deletes) (not-true (is_succeeded deed c) spared)).0
 
   distinct-after : Pairs (λ g h. Differ g.value.key h.value.key) held → IsTrue (are_true_notes config olds deed all notes) → Distinct (all_held_after config now held deed notes)
   distinct-after h told =

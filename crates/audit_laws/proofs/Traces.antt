@@ -4,17 +4,18 @@ use Rattle.std.specs.Prelude.{◌==◌}
 use Rattle.std.specs.List.{list_all, list_any, filter, filter_map, find, flat_map}
 use Rattle.std.specs.Option.{option_map, option_to_list}
 use Rattle.std.proofs.lemmas.List.Elements.{filter_map-append}
+use Rattle.std.proofs.Math.Bool.{and_assoc}
 use Rattle.audit_model.specs.Bytewise.{same, is_empty}
 use Rattle.audit_model.specs.Commands.{is_step_that, looks_up, covers, deletes, syncs, drops, quits}
 use Rattle.audit_model.specs.History.{History, Happening, Opened, Closed, Fed, Settled, Stored, Ran, Effect, Value, value_of, effect_of, latest_moment}
-use Rattle.audit_model.specs.Loads.{Sent, key_loaded, sent_by, loads_sent, is_settled, sends_for, waits_for, joined, waiting_for}
+use Rattle.audit_model.specs.Loads.{Sent, key_loaded, sent_by, loads_sent, is_load_settled, sends_for, waits_for, joined, waiting_for}
 use Rattle.audit_model.specs.Notes.{is_over, tells_size}
 use Rattle.audit_model.specs.Obeys.{is_numbered, has_right_own_value, accepted_values, is_right_record}
 use Rattle.audit_model.specs.Places.{happening_of, tasks_to_answer, tasks_to_give_up, tasks_to_feed, due, first_due, left_after, step_happens, tasks_of, placed_step, Walk, walk, steps_of, PlacedRecord, placed_record, placed_records_after, history_after}
 use Rattle.audit_model.specs.Seen.{was_over, has_dropped}
 use Rattle.audit_model.specs.Steps.{Task, Store, Deliver, RunAgain, RunHeld, RunLines, PlacedStep, action_in, effect_in, is_right}
 use Rattle.audit_model.specs.Stream.{opened_count, is_held, is_waiting, first_line}
-use Rattle.audit_model.specs.Values.{accepts, moment_of, deadline, has_come, last_accepted, is_covered, is_deleted, untold_after, held_values, last_use, sorted}
+use Rattle.audit_model.specs.Values.{accepts, moment_of, deadline, deadline_has_come, last_accepted, is_key_covered, is_deleted, untold_after, held_values, last_use, sorted}
 use Rattle.audit_model.specs.View.{View}
 use Rattle.audit_model.specs.declared.config.Config.{Config}
 use Rattle.audit_model.specs.declared.event.Event.{Event}
@@ -58,7 +59,7 @@ module _ (config : Config) where
   abbrev pub living : Traces → List ℕ → ℕ → Option Value → Option Value
   living t key now None = None
   living t key now (Some value) =
-      cond (not (t.deleted key) && not (t.covered key) && not (not (list_any (λ v. same key v.key) t.kept)) && not (has_come (deadline config value (t.used key)) now)) (Some value) None
+      cond (not (t.deleted key) && not (t.covered key) && not (not (list_any (λ v. same key v.key) t.kept)) && not (deadline_has_come (deadline config value (t.used key)) now)) (Some value) None
 
   -- what happens to values
   abbrev pub valued : Happening → Traces → Traces
@@ -95,14 +96,14 @@ module _ (config : Config) where
       record {
         moment = latest_moment made past;
         used = λ key. last_use config key past;
-        covered = λ key. is_covered key past;
+        covered = λ key. is_key_covered key past;
         deleted = λ key. is_deleted key past;
         last = λ key. last_accepted key past;
         kept = held_values past;
         over = λ key part. was_over config key part past;
         dropped = has_dropped past;
         sent = loads_sent past;
-        settled = λ n. is_settled n past;
+        settled = λ n. is_load_settled n past;
         waiters = λ key. joined key past;
         count = opened_count past;
         connection = λ c. facts c past;
@@ -130,7 +131,7 @@ module _ (config : Config) where
         load_of_key = λ key. option_map (λ sent. sent.number) (find (λ sent. same sent.key key) (under_way t));
         next_load = suc (length t.sent);
         dropped = t.dropped;
-        held = map (λ v. record { value = v; dead = has_come (deadline config v (t.used v.key)) t.moment; covered = t.covered v.key; evictable = t.over v.key v.part; new = false }) t.kept;
+        held = map (λ v. record { value = v; dead = deadline_has_come (deadline config v (t.used v.key)) t.moment; covered = t.covered v.key; evictable = t.over v.key v.part; new = false }) t.kept;
       }
 
   abbrev pub may_by : Traces → ℕ → Bool
@@ -265,11 +266,7 @@ module _ (config : Config) where
 
   pub right-append : (t : Traces) (xs ys : List Record) → are_right_by t (xs ++ ys) ≡ (are_right_by t xs && are_right_by (traces_after t xs) ys)
   right-append t [] ys = refl
-  right-append t (x ∷ xs) ys = ap (λ b. is_right_by t x && b) (right-append (walked_by t x).after xs ys) ∙ grouped (is_right_by t x) (are_right_by (walked_by t x).after xs) _
-    where
-      grouped : (a b c : Bool) → (a && (b && c)) ≡ ((a && b) && c)
-      grouped true b c = refl
-      grouped false b c = refl
+  right-append t (x ∷ xs) ys = ap (λ b. is_right_by t x && b) (right-append (walked_by t x).after xs ys) ∙ sym (and_assoc (is_right_by t x) (are_right_by (walked_by t x).after xs) _)
 
   pub after-append : (t : Traces) (xs ys : List Record) → traces_after t (xs ++ ys) ≡ traces_after (traces_after t xs) ys
   after-append t [] ys = refl

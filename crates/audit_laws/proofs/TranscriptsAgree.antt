@@ -1,21 +1,19 @@
 -- A transcript obeys, and has no refused event, exactly where its keys have one part and its records follow one another.
-use Rattle.std.proofs.Common.{◌≡◌, refl, ap, ◌∙◌, sym, Bool, true, ◌&&◌, List, [], ◌∷◌, is_some}
+use Rattle.std.proofs.Common.{inr, inl, ◌≡◌, refl, ap, ◌∙◌, sym, Bool, true, ◌&&◌, List, [], ◌∷◌, is_some}
 use Rattle.std.specs.Prelude.{IsTrue}
 use Rattle.std.specs.List.{list_all, flat_map}
-use Rattle.std.proofs.lemmas.Bool.{and_parts, and_from}
+use Rattle.std.proofs.lemmas.Bool.{cases_Bool, and_parts, and_from}
 use Rattle.std.proofs.lemmas.List.Folds.{list_all-append}
 use Rattle.audit_model.specs.Belongs.{is_admitted, IsAdmitted}
 use Rattle.audit_model.specs.Follows.{after_records, AgreesWithHistory}
 use Rattle.audit_laws.specs.Laws.{StepsAgree}
 use Rattle.audit_model.specs.Obeys.{Obeys, has_right_number, is_finished, has_right_own_value, accepted_values, agree_on_parts, is_right_record}
-use Rattle.audit_model.specs.Places.{PlacedRecord, history_after, placed_records, placed_steps}
+use Rattle.audit_model.specs.Places.{PlacedRecord, placed_records, placed_steps}
 use Rattle.audit_model.specs.Situation.{empty_situation}
 use Rattle.audit_model.specs.Steps.{PlacedStep, is_in_turn, is_held_rightly, has_right_line, has_right_reply, has_right_load, has_right_acceptance, has_right_notes, is_quiet_where_silent, keeps_shares, is_right}
-use Rattle.audit_model.specs.Summary.{situation_of}
 use Rattle.audit_model.specs.declared.config.Config.{Config}
 use Rattle.audit_model.specs.declared.transcript.Transcript.{Transcript}
 use Rattle.audit_laws.proofs.RecordsAgree.{is_good_record, records-from_empty}
-use Rattle.audit_laws.proofs.HeldStep.{is_some-cond}
 
 pub all-more : {X : Type 0} (p q : X → Bool) (xs : List X) → ((x : X) → p x ≡ true → q x ≡ true) → list_all p xs ≡ true → list_all q xs ≡ true
 all-more p q [] f h = refl
@@ -63,7 +61,7 @@ module _ (config : Config) (transcript : Transcript) where
   pub follow-good : is_some (after_records config (empty_situation transcript.made.nanos) transcript.records) ≡ list_all (is_good_record config) all
   follow-good =
       ap is_some (records-from_empty config transcript.made.nanos transcript.records)
-      ∙ is_some-cond (list_all (is_good_record config) all) (situation_of config transcript.made.nanos (history_after config transcript.made.nanos [] transcript.records))
+      ∙ (elim (cases_Bool (list_all (is_good_record config) all)) [ inl e ↦ rw e | inr e ↦ rw e ])
 
   module _ (right_records : list_all (is_right_record config) all ≡ true) (same_parts : IsTrue (agree_on_parts (accepted_values steps))) where
     right_steps : list_all (is_right config) steps ≡ true

@@ -12,9 +12,9 @@ use Rattle.audit_model.specs.Bytewise.{same}
 use Rattle.audit_model.specs.History.{Value, History, latest_moment}
 use Rattle.audit_model.specs.Loads.{loads_under_way, load_of_key, key_of_load, next_load}
 use Rattle.audit_model.specs.Seen.{candidate_of, has_dropped, view_of}
-use Rattle.audit_model.specs.Situation.{Situation, load_in, key_in, is_live_at, live_at, live_keys_at, view_in}
+use Rattle.audit_model.specs.Situation.{Situation, load_in, pending_key, is_live_at, live_at, live_keys_at, view_in}
 use Rattle.audit_model.specs.Summary.{pending_from, held_from, situation_of}
-use Rattle.audit_model.specs.Values.{deadline, has_come, last_accepted, is_covered, is_deleted, held_values, is_told, if_lives, last_use, live_value, sorted, live_keys}
+use Rattle.audit_model.specs.Values.{deadline, deadline_has_come, last_accepted, is_key_covered, is_deleted, held_values, is_told, if_lives, last_use, live_value, sorted, live_keys}
 use Rattle.audit_model.specs.declared.config.Config.{Config}
 use Rattle.audit_laws.proofs.Told.{Each, each-more, each-both}
 use Rattle.audit_laws.proofs.HeldStep.{Stands, find-map}
@@ -72,10 +72,10 @@ module _ (config : Config) (made : ℕ) (past : History) (stand : Each (Stands p
   s = situation_of config made past
 
   abbrev dead_at : List ℕ → Value → Bool
-  dead_at key w = has_come (deadline config w (last_use config key past)) now
+  dead_at key w = deadline_has_come (deadline config w (last_use config key past)) now
 
   if_lives-chosen : (key : List ℕ) (A : Option Value)
-      → if_lives config key past (last_use config key past) now A ≡ option_and_then (λ w. cond (not (is_deleted key past) && not (is_covered key past) && not (is_told key past) && not (dead_at key w)) (Some w) None) A
+      → if_lives config key past (last_use config key past) now A ≡ option_and_then (λ w. cond (not (is_deleted key past) && not (is_key_covered key past) && not (is_told key past) && not (dead_at key w)) (Some w) None) A
   if_lives-chosen key None = refl
   if_lives-chosen key (Some w) = refl
 
@@ -88,20 +88,16 @@ module _ (config : Config) (made : ℕ) (past : History) (stand : Each (Stands p
       (each-more _ _ (held_values past) (λ w st e. ap (λ k. is_deleted k past) (same-true key w.key e) ∙ st.kept) stand)
 
   abbrev live_by : List ℕ → Value → Bool
-  live_by key w = not (is_covered key past) && not (dead_at key w)
+  live_by key w = not (is_key_covered key past) && not (dead_at key w)
 
   -- where the keys agree, the test by the key asked for and by the value's own key agree
   by_key : (key : List ℕ) (w : Value) → (same key w.key && is_live_at config now (held_from config past w)) ≡ (same key w.key && live_by key w)
-  by_key key w = go (same key w.key) (λ e. ap (λ k. live_by k w) (sym (same-true key w.key e)))
-    where
-      go : (b : Bool) → (b ≡ true → is_live_at config now (held_from config past w) ≡ live_by key w) → (b && is_live_at config now (held_from config past w)) ≡ (b && live_by key w)
-      go true f = f refl
-      go false f = refl
+  by_key key w = elim (cases_Bool (same key w.key)) [ inl e ↦ rw e (ap (λ k. live_by k w) (sym (same-true key w.key e))) | inr e ↦ rw e ]
 
   live-same : (key : List ℕ) → live_value config key past now ≡ live_at config now s.held key
   live-same key =
       if_lives-chosen key (last_accepted key past)
-      ∙ pick (is_deleted key past) (is_covered key past) (list_any (λ w. same key w.key) (held_values past)) (dead_at key) (last_accepted key past) (spared key)
+      ∙ pick (is_deleted key past) (is_key_covered key past) (list_any (λ w. same key w.key) (held_values past)) (dead_at key) (last_accepted key past) (spared key)
       ∙ sym (find-found key (last_accepted key past) (live_by key) (held_values past) (fits key))
       ∙ sym (ap (option_map (λ k. k.value)) (find-map (held_from config past) (λ k. same key k.value.key && is_live_at config now k) (held_values past))
       ∙ option_map-both (λ k. k.value) (held_from config past) (find (λ w. same key w.key && is_live_at config now (held_from config past w)) (held_values past))
@@ -112,10 +108,10 @@ module _ (config : Config) (made : ℕ) (past : History) (stand : Each (Stands p
   live-own : (v : Value) → Stands past v → is_told v.key past ≡ false → live_value config v.key past now ≡ cond (is_live_at config now (held_from config past v)) (Some v) None
   live-own v st there =
       if_lives-chosen v.key (last_accepted v.key past)
-      ∙ ap (option_and_then (λ w. cond (not (is_deleted v.key past) && not (is_covered v.key past) && not (is_told v.key past) && not (dead_at v.key w)) (Some w) None)) st.last
-      ∙ ap (λ d. cond (not d && not (is_covered v.key past) && not (is_told v.key past) && not (dead_at v.key v)) (Some v) None) st.kept
-      ∙ ap (λ t. cond (true && not (is_covered v.key past) && not t && not (dead_at v.key v)) (Some v) None) there
-      ∙ ap (λ b. cond (b && not (dead_at v.key v)) (Some v) None) (and-true (not (is_covered v.key past)))
+      ∙ ap (option_and_then (λ w. cond (not (is_deleted v.key past) && not (is_key_covered v.key past) && not (is_told v.key past) && not (dead_at v.key w)) (Some w) None)) st.last
+      ∙ ap (λ d. cond (not d && not (is_key_covered v.key past) && not (is_told v.key past) && not (dead_at v.key v)) (Some v) None) st.kept
+      ∙ ap (λ t. cond (true && not (is_key_covered v.key past) && not t && not (dead_at v.key v)) (Some v) None) there
+      ∙ ap (λ b. cond (b && not (dead_at v.key v)) (Some v) None) (and-true (not (is_key_covered v.key past)))
 
   keys-same : (vs : List Value) → Each (λ v. Stands past v × (is_told v.key past ≡ false)) vs
       → filter_map (λ v. option_map (λ w. w.key) (live_value config v.key past now)) vs ≡ map (λ k. k.value.key) (filter (is_live_at config now) (map (held_from config past) vs))
@@ -137,9 +133,9 @@ module _ (config : Config) (made : ℕ) (past : History) (stand : Each (Stands p
       (keys-same (held_values past) (each-both _ _ (held_values past) stand (none_told past)))
       ∙ ap (λ f. record { now = now; live = live_at config now s.held; live_keys = live_keys_at config now s.held; load_of_key = f; next_load = next_load past; dropped = has_dropped past; held = map (candidate_of config past now) (held_values past) }) (fun_ext load-same)
       ∙ ap (λ cs. record { now = now; live = live_at config now s.held; live_keys = live_keys_at config now s.held; load_of_key = load_in s; next_load = next_load past; dropped = has_dropped past; held = cs })
-      (sym (map-map (λ k. record { value = k.value; dead = has_come (deadline config k.value k.last_use) now; covered = k.covered; evictable = k.evictable; new = false }) (held_from config past) (held_values past)))
+      (sym (map-map (λ k. record { value = k.value; dead = deadline_has_come (deadline config k.value k.last_use) now; covered = k.covered; evictable = k.evictable; new = false }) (held_from config past) (held_values past)))
 
-  pub key-same : (load : ℕ) → key_of_load load past ≡ key_in load s
+  pub key-same : (load : ℕ) → key_of_load load past ≡ pending_key load s
   key-same load =
       sym (ap (option_map (λ u. u.key)) (find-map (pending_from past) (λ u. u.number == load) (loads_under_way past))
       ∙ option_map-both (λ u. u.key) (pending_from past) (find (λ u. u.number == load) (loads_under_way past)))

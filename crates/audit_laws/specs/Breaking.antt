@@ -24,12 +24,12 @@ abbrev pub IsFaultless : Config → Transcript → Type 0
 IsFaultless config transcript = Obeys config transcript × IsAdmitted config transcript
 
 -- its first n records
-abbrev pub front_of : ℕ → Transcript → Transcript
-front_of n transcript = record transcript { records = take n transcript.records }
+abbrev pub transcript_front : ℕ → Transcript → Transcript
+transcript_front n transcript = record transcript { records = take n transcript.records }
 
 -- the first n records are the shortest front that has a fault
 pub record BreaksFirstAt (config : Config) (transcript : Transcript) (n : ℕ) : Type 0 where
   pub above : 0 < n
   pub within : n ≤ length transcript.records
-  pub faulty : ¬ IsFaultless config (front_of n transcript)
-  pub before : (m : ℕ) → m < n → IsFaultless config (front_of m transcript)
+  pub faulty : ¬ IsFaultless config (transcript_front n transcript)
+  pub before : (m : ℕ) → m < n → IsFaultless config (transcript_front m transcript)

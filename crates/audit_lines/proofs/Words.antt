@@ -8,7 +8,7 @@ use Rattle.audit_model.specs.Bytewise.{cut_at, words, onto_first}
 use Rattle.audit_model.specs.Grammar.{Verb, is_key, is_key_byte, read_words, words_behind, read_add, deadline_in, number_in, get, has, load, del, add, clear, dropif, keys, sync, quit}
 use Rattle.audit_model.specs.declared.config.Config.{Config}
 use Rattle.audit_model.specs.declared.command.LineError.TheVariants as fault
-use Rattle.audit_lines.specs.Request.{IsFit, LacksKey, verb_of}
+use Rattle.audit_lines.specs.Request.{IsFit, IsUnkeyed, verb_of}
 use Rattle.audit_lines.specs.declared.request.Request.{Request}
 use Rattle.audit_lines.specs.declared.request.Request.TheVariants.{Set, Get, Has, Load, Del, Add, Clear, DropIf, Keys, Sync, Quit, Fault}
 use Rattle.audit_lines.proofs.Cuts.{Cut, onto, cut_at-here, cut_at-other}
@@ -131,10 +131,10 @@ read_words-add-unkeyed config key (deadline ∷ []) other = refl
 read_words-add-unkeyed config key (deadline ∷ number ∷ []) other = cond-false (is_key key) _ _ other
 read_words-add-unkeyed config key (deadline ∷ number ∷ more ∷ others) other = refl
 
-pub read_words-add-lacking : (config : Config) (rest : List ℕ) → LacksKey (cut_at 32 rest) → read_words config add (words rest) ≡ Err fault.Syntax
+pub read_words-add-lacking : (config : Config) (rest : List ℕ) → IsUnkeyed (cut_at 32 rest) → read_words config add (words rest) ≡ Err fault.Syntax
 read_words-add-lacking config rest lacks = ap (read_words config add) (words-cut rest) ∙ go (cut_at 32 rest) lacks
   where
-    go : (cut : Cut) → LacksKey cut → read_words config add (words_of cut) ≡ Err fault.Syntax
+    go : (cut : Cut) → IsUnkeyed cut → read_words config add (words_of cut) ≡ Err fault.Syntax
     go (key, None) lacks = refl
     go (key, Some rest) (inl other) = read_words-add-unkeyed config key (words rest) other
     go (key, Some rest) (inr none) = cc

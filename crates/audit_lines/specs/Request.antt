@@ -65,5 +65,5 @@ IsFit config line Quit = Unit {0}
 IsFit config line (Fault error) = Unit {0}
 
 -- no key stands before the first space, or there is no space
-abbrev pub LacksKey : List ℕ × Option (List ℕ) → Type 0
-LacksKey cut = (is_key cut.0 ≡ false) ⊎ (cut.1 ≡ None)
+abbrev pub IsUnkeyed : List ℕ × Option (List ℕ) → Type 0
+IsUnkeyed cut = (is_key cut.0 ≡ false) ⊎ (cut.1 ≡ None)

@@ -5,7 +5,7 @@ ghost use Rattle.audit_model.specs.Bytewise.{cut_at, words, words_up_to};
 ghost use Rattle.audit_model.specs.Grammar.{is_key, is_key_byte, is_value, deadline_in, read_words, words_behind, set, add, verb_in, reading};
 ghost use Rattle.audit_model.specs.declared.config.Config.{Config};
 ghost use Rattle.memchr.specs.Find.{IsFirstByte, is_byte};
-ghost use Rattle.audit_lines.specs.Request.{said, verb_of, IsFit, IsOwn, LacksKey};
+ghost use Rattle.audit_lines.specs.Request.{said, verb_of, IsFit, IsOwn, IsUnkeyed};
 
 use crate::numbers::{milliseconds, number};
 use audit_model::{Config, LineError};
@@ -259,7 +259,7 @@ fn cut(line: &[u8], space: Option<usize>) -> (&[u8], Option<&[u8]>)
 
 /// The key before the first space, and what comes after that space; none if there is no such key.
 fn cut_key(rest: &[u8]) -> Option<(&[u8], &[u8])>
-    ensures { MatchOption result (LacksKey (cut_at 32 rest.now))
+    ensures { MatchOption result (IsUnkeyed (cut_at 32 rest.now))
         (λ r. (cut_at 32 rest.now ≡ (r.0.now, Some r.1.now)) × IsTrue (is_key r.0.now)) }
 {
     let (key, behind) = cut(rest, memchr(b' ', rest));

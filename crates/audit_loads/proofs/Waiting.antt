@@ -18,8 +18,8 @@ use Rattle.std.proofs.lemmas.Map.Text.{is_eq-slice_cmp}
 use Rattle.std.proofs.lemmas.Slice.Eq.{bytes_eq-Decides}
 use Rattle.audit_model.specs.Bytewise.{same}
 use Rattle.audit_model.specs.Situation.{PendingLoad, with_waiting, without_waiting}
-use Rattle.audit_loads.specs.Numbered.{changed_at}
-use Rattle.audit_loads.specs.Underway.{Keys, Joined, number_at, load_of, has_number, IsKeyed, IsAwaited, KeepsNumbers}
+use Rattle.audit_loads.specs.Numbered.{changed_numbered}
+use Rattle.audit_loads.specs.Underway.{Keys, Joined, number_at, load_of, has_number, IsKeyed, StandsAtWaiters, KeepsNumbers}
 
 -- ---- lists
 
@@ -75,12 +75,12 @@ module _ {X : Type 0} where
 pub keyed-of : {last : ℕ} {keys : Keys} {joined : Joined} {loads : List PendingLoad} → KeepsNumbers last keys joined loads → AllByRecursion (IsKeyed keys) loads
 keyed-of {last} {keys} {joined} {loads} k = to-rec (IsKeyed keys) loads k.keyed
 
-awaited-of : {last : ℕ} {keys : Keys} {joined : Joined} {loads : List PendingLoad} → KeepsNumbers last keys joined loads → AllByRecursion (IsAwaited joined) loads
-awaited-of {last} {keys} {joined} {loads} k = to-rec (IsAwaited joined) loads k.awaited
+awaited-of : {last : ℕ} {keys : Keys} {joined : Joined} {loads : List PendingLoad} → KeepsNumbers last keys joined loads → AllByRecursion (StandsAtWaiters joined) loads
+awaited-of {last} {keys} {joined} {loads} k = to-rec (StandsAtWaiters joined) loads k.awaited
 
-keep : (last : ℕ) (keys : Keys) (joined : Joined) (loads : List PendingLoad) → ((key : List ℕ) (n : ℕ) → number_at key keys ≡ Some n → n ≤ last) → AllByRecursion (IsKeyed keys) loads → AllByRecursion (IsAwaited joined) loads
+keep : (last : ℕ) (keys : Keys) (joined : Joined) (loads : List PendingLoad) → ((key : List ℕ) (n : ℕ) → number_at key keys ≡ Some n → n ≤ last) → AllByRecursion (IsKeyed keys) loads → AllByRecursion (StandsAtWaiters joined) loads
     → KeepsNumbers last keys joined loads
-keep last keys joined loads past keyed awaited = record { past = past; keyed = from-rec (IsKeyed keys) loads keyed; awaited = from-rec (IsAwaited joined) loads awaited }
+keep last keys joined loads past keyed awaited = record { past = past; keyed = from-rec (IsKeyed keys) loads keyed; awaited = from-rec (StandsAtWaiters joined) loads awaited }
 
 -- ---- numbers in a list
 
@@ -172,13 +172,10 @@ either-way P (Err e) x y new ok err px py = subst P (sym err) py
 
 -- ---- where nothing changes but what stands beside
 
-pub nothing-kept : (last : ℕ) (keys : Keys) (joined : Joined) → keys.entries ≡ [] → KeepsNumbers last keys joined []
-nothing-kept last keys joined e = keep last keys joined [] (λ key n h. absurd (none-some n (sym (ap (lookup (at key)) e) ∙ h))) tt tt
-
 -- connections that waited still wait for the same
 pub more-joined : (last : ℕ) (keys : Keys) (joined after : Joined) (loads : List PendingLoad) → ((q : ℕ) → is_some (load_of q joined) ≡ true → load_of q after ≡ load_of q joined) → KeepsNumbers last keys joined loads → KeepsNumbers last keys after loads
 more-joined last keys joined after loads stays k =
-    keep last keys after loads k.past (keyed-of k) (all-to (IsAwaited joined) (IsAwaited after) (λ p a conn w. stays conn (ap is_some (a conn w)) ∙ a conn w) loads (awaited-of k))
+    keep last keys after loads k.past (keyed-of k) (all-to (StandsAtWaiters joined) (StandsAtWaiters after) (λ p a conn w. stays conn (ap is_some (a conn w)) ∙ a conn w) loads (awaited-of k))
 
 -- the keys' numbers are the same
 pub same-keys : (last : ℕ) (keys after : Keys) (joined : Joined) (loads : List PendingLoad) → ((q : List ℕ) → number_at q after ≡ number_at q keys) → KeepsNumbers last keys joined loads → KeepsNumbers last after joined loads
@@ -257,33 +254,33 @@ abbrev with_one : ℕ → PendingLoad → PendingLoad
 with_one conn p = record p { waiting = p.waiting ++ conn ∷ [] }
 
 pub joined_is : (keys : Keys) (key : List ℕ) (n conn : ℕ) (loads : List PendingLoad) → All (IsKeyed keys) loads → number_at key keys ≡ Some n
-    → map (changed_at (λ p. p.number) n (with_one conn)) loads ≡ map (with_waiting conn key) loads
+    → map (changed_numbered (λ p. p.number) n (with_one conn)) loads ≡ map (with_waiting conn key) loads
 joined_is keys key n conn loads k e =
-    map-same (changed_at (λ p. p.number) n (with_one conn)) (with_waiting conn key) loads
-    (all-to (IsKeyed keys) (λ p. changed_at (λ p. p.number) n (with_one conn) p ≡ with_waiting conn key p) (λ p f. ap (λ b. if b then with_one conn p else p) (sym (f key ∙ ap (λ o. has_number o p) e))) loads (to-rec (IsKeyed keys) loads k))
+    map-same (changed_numbered (λ p. p.number) n (with_one conn)) (with_waiting conn key) loads
+    (all-to (IsKeyed keys) (λ p. changed_numbered (λ p. p.number) n (with_one conn) p ≡ with_waiting conn key p) (λ p f. ap (λ b. if b then with_one conn p else p) (sym (f key ∙ ap (λ o. has_number o p) e))) loads (to-rec (IsKeyed keys) loads k))
 
 pub unjoined_is : (keys : Keys) (key : List ℕ) (conn : ℕ) (loads : List PendingLoad) → All (IsKeyed keys) loads → number_at key keys ≡ None → loads ≡ map (with_waiting conn key) loads
 unjoined_is keys key conn loads k e =
     map-id (with_waiting conn key) loads (all-to (IsKeyed keys) (λ p. p ≡ with_waiting conn key p) (λ p f. sym (ap (λ b. if b then with_one conn p else p) (f key ∙ ap (λ o. has_number o p) e))) loads (to-rec (IsKeyed keys) loads k))
 
 -- a load changed in what waits for it stands at the same key
-same-place : (keys : Keys) (n : ℕ) (f : PendingLoad → PendingLoad) → ((p : PendingLoad) → IsKeyed keys p → IsKeyed keys (f p)) → (p : PendingLoad) → IsKeyed keys p → IsKeyed keys (changed_at (λ p. p.number) n f p)
+same-place : (keys : Keys) (n : ℕ) (f : PendingLoad → PendingLoad) → ((p : PendingLoad) → IsKeyed keys p → IsKeyed keys (f p)) → (p : PendingLoad) → IsKeyed keys p → IsKeyed keys (changed_numbered (λ p. p.number) n f p)
 same-place keys n f to p k = grind (arith, nat_tests)
 
 pub joined-keeps : (last n conn : ℕ) (keys : Keys) (joined after : Joined) (loads : List PendingLoad) → is_some (load_of conn joined) ≡ false → ((q : ℕ) → load_of q after ≡ cond (conn == q) (Some n) (load_of q joined))
-    → KeepsNumbers last keys joined loads → KeepsNumbers last keys after (map (changed_at (λ p. p.number) n (with_one conn)) loads)
+    → KeepsNumbers last keys joined loads → KeepsNumbers last keys after (map (changed_numbered (λ p. p.number) n (with_one conn)) loads)
 joined-keeps last n conn keys joined after loads free puts k =
-    keep last keys after (map (changed_at (λ p. p.number) n (with_one conn)) loads) k.past
-    (all-map (IsKeyed keys) (IsKeyed keys) (changed_at (λ p. p.number) n (with_one conn)) (same-place keys n (with_one conn) (λ p f. f)) loads (keyed-of k))
-    (all-map (IsAwaited joined) (IsAwaited after) (changed_at (λ p. p.number) n (with_one conn)) one loads (awaited-of k))
+    keep last keys after (map (changed_numbered (λ p. p.number) n (with_one conn)) loads) k.past
+    (all-map (IsKeyed keys) (IsKeyed keys) (changed_numbered (λ p. p.number) n (with_one conn)) (same-place keys n (with_one conn) (λ p f. f)) loads (keyed-of k))
+    (all-map (StandsAtWaiters joined) (StandsAtWaiters after) (changed_numbered (λ p. p.number) n (with_one conn)) one loads (awaited-of k))
   where
-    stays : (p : PendingLoad) → IsAwaited joined p → IsAwaited after p
+    stays : (p : PendingLoad) → StandsAtWaiters joined p → StandsAtWaiters after p
     stays p a q w = joins conn n joined after free puts q (ap is_some (a q w)) ∙ a q w
 
-    one : (p : PendingLoad) → IsAwaited joined p → IsAwaited after (changed_at (λ p. p.number) n (with_one conn) p)
-    one p a = cond_both (p.number == n) _ _ (IsAwaited after) (λ is. new is) (λ _. stays p a)
+    one : (p : PendingLoad) → StandsAtWaiters joined p → StandsAtWaiters after (changed_numbered (λ p. p.number) n (with_one conn) p)
+    one p a = cond_both (p.number == n) _ _ (StandsAtWaiters after) (λ is. new is) (λ _. stays p a)
       where
-        new : (p.number == n) ≡ true → IsAwaited after (with_one conn p)
+        new : (p.number == n) ≡ true → StandsAtWaiters after (with_one conn p)
         new e q w = elim (or_cases (list_any (λ m. m == q) p.waiting) ((conn == q) || false) (sym (list_any-append (λ m. m == q) p.waiting (conn ∷ [])) ∙ w)) [
           | inl h ↦ stays p a q h
           | inr h ↦ own (conn == q) refl h
@@ -298,27 +295,27 @@ joined-keeps last n conn keys joined after loads free puts k =
 stays-out : (conn : ℕ) (p : PendingLoad) → list_any (λ n. n == conn) p.waiting ≡ false → p ≡ without_waiting conn p
 stays-out conn p e = ap (λ ns. record p { waiting = ns }) (sym (none-left conn p.waiting e))
 
-pub left_is : (conn n : ℕ) (joined : Joined) (loads : List PendingLoad) → All (IsAwaited joined) loads → load_of conn joined ≡ Some n
-    → map (changed_at (λ p. p.number) n (without_waiting conn)) loads ≡ map (without_waiting conn) loads
+pub left_is : (conn n : ℕ) (joined : Joined) (loads : List PendingLoad) → All (StandsAtWaiters joined) loads → load_of conn joined ≡ Some n
+    → map (changed_numbered (λ p. p.number) n (without_waiting conn)) loads ≡ map (without_waiting conn) loads
 left_is conn n joined loads a e =
-    map-same (changed_at (λ p. p.number) n (without_waiting conn)) (without_waiting conn) loads (all-to (IsAwaited joined) (λ p. changed_at (λ p. p.number) n (without_waiting conn) p ≡ without_waiting conn p) one loads (to-rec (IsAwaited joined) loads a))
+    map-same (changed_numbered (λ p. p.number) n (without_waiting conn)) (without_waiting conn) loads (all-to (StandsAtWaiters joined) (λ p. changed_numbered (λ p. p.number) n (without_waiting conn) p ≡ without_waiting conn p) one loads (to-rec (StandsAtWaiters joined) loads a))
   where
-    one : (p : PendingLoad) → IsAwaited joined p → changed_at (λ p. p.number) n (without_waiting conn) p ≡ without_waiting conn p
+    one : (p : PendingLoad) → StandsAtWaiters joined p → changed_numbered (λ p. p.number) n (without_waiting conn) p ≡ without_waiting conn p
     one p f =
         cond_both (p.number == n) _ _ (λ z. z ≡ without_waiting conn p) (λ _. refl) (λ t. stays-out conn p (false_from_ne_true _ (λ w. let is : Some p.number ≡ Some n = sym (f conn w) ∙ e in let number : p.number ≡ n = cc in eqb-false p.number n t number)))
 
-pub unleft_is : (conn : ℕ) (joined : Joined) (loads : List PendingLoad) → All (IsAwaited joined) loads → load_of conn joined ≡ None → loads ≡ map (without_waiting conn) loads
+pub unleft_is : (conn : ℕ) (joined : Joined) (loads : List PendingLoad) → All (StandsAtWaiters joined) loads → load_of conn joined ≡ None → loads ≡ map (without_waiting conn) loads
 unleft_is conn joined loads a e =
     map-id (without_waiting conn) loads
-    (all-to (IsAwaited joined) (λ p. p ≡ without_waiting conn p) (λ p f. stays-out conn p (false_from_ne_true _ (λ w. none-some p.number (sym e ∙ f conn w)))) loads (to-rec (IsAwaited joined) loads a))
+    (all-to (StandsAtWaiters joined) (λ p. p ≡ without_waiting conn p) (λ p f. stays-out conn p (false_from_ne_true _ (λ w. none-some p.number (sym e ∙ f conn w)))) loads (to-rec (StandsAtWaiters joined) loads a))
 
 pub left-keeps : (last conn : ℕ) (keys : Keys) (joined after : Joined) (loads : List PendingLoad) → ((q : ℕ) → load_of q after ≡ cond (conn == q) None (load_of q joined))
     → KeepsNumbers last keys joined loads → KeepsNumbers last keys after (map (without_waiting conn) loads)
 left-keeps last conn keys joined after loads rest k =
     keep last keys after (map (without_waiting conn) loads) k.past (all-map (IsKeyed keys) (IsKeyed keys) (without_waiting conn) (λ p f. f) loads (keyed-of k))
-    (all-map (IsAwaited joined) (IsAwaited after) (without_waiting conn) one loads (awaited-of k))
+    (all-map (StandsAtWaiters joined) (StandsAtWaiters after) (without_waiting conn) one loads (awaited-of k))
   where
-    one : (p : PendingLoad) → IsAwaited joined p → IsAwaited after (without_waiting conn p)
+    one : (p : PendingLoad) → StandsAtWaiters joined p → StandsAtWaiters after (without_waiting conn p)
     one p a q w = let h = any-left conn q p.waiting w in rest q ∙ ap (λ b. cond b None (load_of q joined)) h.1 ∙ a q h.0
 
 -- ---- a load left out
@@ -326,7 +323,7 @@ left-keeps last conn keys joined after loads rest k =
 pub none-removed : (last number : ℕ) (keys : Keys) (joined : Joined) (loads : List PendingLoad) → KeepsNumbers last keys joined loads → KeepsNumbers last keys joined (filter (λ p. not (p.number == number)) loads)
 none-removed last number keys joined loads k =
     keep last keys joined (filter (λ p. not (p.number == number)) loads) k.past (all-filter (IsKeyed keys) (IsKeyed keys) (λ p. not (p.number == number)) (λ p e f. f) loads (keyed-of k))
-    (all-filter (IsAwaited joined) (IsAwaited joined) (λ p. not (p.number == number)) (λ p e f. f) loads (awaited-of k))
+    (all-filter (StandsAtWaiters joined) (StandsAtWaiters joined) (λ p. not (p.number == number)) (λ p e f. f) loads (awaited-of k))
 
 module _ (last number : ℕ) (keys keys_after : Keys) (joined joined_after : Joined) (loads : List PendingLoad) (load : PendingLoad) (found : find (λ p. p.number == number) loads ≡ Some load)
     (less : (q : List ℕ) → number_at q keys_after ≡ cond (same load.key q) None (number_at q keys))
@@ -348,10 +345,10 @@ module _ (last number : ℕ) (keys keys_after : Keys) (joined joined_after : Joi
   past-left : (q : List ℕ) (n : ℕ) → number_at q keys_after ≡ Some n → n ≤ last
   past-left q n h = let next = sym (less q) ∙ h in grind (arith, nat_tests, next)
 
-  waits-left : (p : PendingLoad) → not (p.number == number) ≡ true → IsAwaited joined p → IsAwaited joined_after p
+  waits-left : (p : PendingLoad) → not (p.number == number) ≡ true → StandsAtWaiters joined p → StandsAtWaiters joined_after p
   waits-left p e a conn w =
       elim (cases_Bool (list_any (λ n. n == conn) load.waiting)) [
-        | inl t ↦ let is : Some p.number ≡ Some load.number = sym (a conn w) ∙ all-find (IsAwaited joined) (λ p. p.number == number) loads load (awaited-of k) found conn t in let number_is : p.number ≡ load.number = cc in absurd (true≢false (sym (eq-eqb p.number number (number_is ∙ own)) ∙ not-true _ e))
+        | inl t ↦ let is : Some p.number ≡ Some load.number = sym (a conn w) ∙ all-find (StandsAtWaiters joined) (λ p. p.number == number) loads load (awaited-of k) found conn t in let number_is : p.number ≡ load.number = cc in absurd (true≢false (sym (eq-eqb p.number number (number_is ∙ own)) ∙ not-true _ e))
         | inr t ↦ fewer conn ∙ ap (λ b. cond b None (load_of conn joined)) t ∙ a conn w
       ]
 
@@ -359,4 +356,4 @@ module _ (last number : ℕ) (keys keys_after : Keys) (joined joined_after : Joi
   removed-keeps =
       keep last keys_after joined_after (filter (λ p. not (p.number == number)) loads) past-left
       (all-filter (IsKeyed keys) (IsKeyed keys_after) (λ p. not (p.number == number)) key-left loads (keyed-of k))
-      (all-filter (IsAwaited joined) (IsAwaited joined_after) (λ p. not (p.number == number)) waits-left loads (awaited-of k))
+      (all-filter (StandsAtWaiters joined) (StandsAtWaiters joined_after) (λ p. not (p.number == number)) waits-left loads (awaited-of k))

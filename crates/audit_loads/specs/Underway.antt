@@ -35,8 +35,8 @@ abbrev pub IsKeyed : Keys → PendingLoad → Type 0
 IsKeyed keys load = (key : List ℕ) → same load.key key ≡ has_number (number_at key keys) load
 
 -- the load's number stands at each connection that waits for it
-abbrev pub IsAwaited : Joined → PendingLoad → Type 0
-IsAwaited joined load =
+abbrev pub StandsAtWaiters : Joined → PendingLoad → Type 0
+StandsAtWaiters joined load =
     (conn : ℕ) → list_any (λ n. n == conn) load.waiting ≡ true
     → load_of conn joined ≡ Some load.number
 
@@ -45,4 +45,4 @@ pub record KeepsNumbers (last : ℕ) (keys : Keys) (joined : Joined) (loads : Li
     Type 0 where
   pub past : (key : List ℕ) (n : ℕ) → number_at key keys ≡ Some n → n ≤ last
   pub keyed : All (IsKeyed keys) loads
-  pub awaited : All (IsAwaited joined) loads
+  pub awaited : All (StandsAtWaiters joined) loads

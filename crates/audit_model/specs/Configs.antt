@@ -2,7 +2,7 @@
 use Rattle.std.specs.Prelude.{◌≡◌, ℕ, Bool, true, not, ◌&&◌, ◌||◌, nat_le, Option, Some, None, is_some, IsTrue, if◌then◌else◌}
 use Rattle.std.specs.Option.{option_map}
 use Rattle.audit_model.specs.History.{Value}
-use Rattle.audit_model.specs.Values.{deadline, earlier_of, after_ms}
+use Rattle.audit_model.specs.Values.{deadline, earlier_deadline, after_ms}
 use Rattle.audit_model.specs.declared.config.Config.{Config}
 
 -- a time has 1 to 999,999,999,999 milliseconds
@@ -21,7 +21,7 @@ is_valid config =
 abbrev pub deadline_apart : Config → Value → ℕ → Option ℕ
 deadline_apart config value last_use =
     if config.own_deadlines then value.own_deadline
-    else earlier_of (option_map (after_ms value.accepted_at) config.live_ms)
+    else earlier_deadline (option_map (after_ms value.accepted_at) config.live_ms)
     (option_map (after_ms last_use) config.idle_ms)
 
 -- if there is no idle time together with own deadlines, and no value has an own deadline unless the configuration allows it, the two

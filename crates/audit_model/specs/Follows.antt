@@ -9,7 +9,7 @@ use Rattle.audit_model.specs.Steps.{Task, Store, PlacedStep, action_in, effect_i
 use Rattle.audit_model.specs.Places.{due, first_due, left_after, tasks_to_answer, tasks_to_give_up, tasks_to_feed, steps_of, placed_steps}
 use Rattle.audit_model.specs.Obeys.{is_numbered, has_right_own_value, Obeys, accepted_values, agree_on_parts}
 use Rattle.audit_model.specs.Belongs.{Known, refusal_of, IsAdmitted}
-use Rattle.audit_model.specs.Situation.{Situation, Connection, Standing, Ready, Held, Waiting, empty_situation, connection_in, may_run_in, is_holding_in, without_connection, with_connection, key_in, waiting_in, view_in}
+use Rattle.audit_model.specs.Situation.{Situation, Connection, Standing, Ready, Held, Waiting, empty_situation, connection_in, may_run_in, is_holding_in, without_connection, with_connection, pending_key, waiting_in, view_in}
 use Rattle.audit_model.specs.Changes.{left_held, after_step}
 use Rattle.audit_model.specs.declared.config.Config.{Config}
 use Rattle.audit_model.specs.declared.event.Event.{Event}
@@ -24,7 +24,7 @@ tasks_in s (event.Open conn) = []
 tasks_in s (event.Close conn) = []
 tasks_in s (event.Feed conn piece moment) = tasks_to_feed conn (is_holding_in s conn)
 tasks_in s (event.Answer load outcome moment) =
-    tasks_to_answer (key_in load s) outcome (waiting_in load s)
+    tasks_to_answer (pending_key load s) outcome (waiting_in load s)
 tasks_in s (event.GiveUp load moment) = tasks_to_give_up (waiting_in load s)
 
 -- a load is settled at that moment
@@ -92,7 +92,7 @@ known_in s =
     record {
       was_opened = λ conn. nat_lt 0 conn && nat_le conn s.opened;
       is_open = λ conn. is_some (connection_in conn s);
-      is_under_way = λ load. is_some (key_in load s);
+      is_under_way = λ load. is_some (pending_key load s);
     }
 
 -- the situation after a record, if it is right

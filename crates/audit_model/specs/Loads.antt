@@ -30,14 +30,14 @@ loads_sent (Ran conn effect ∷ past) =
 loads_sent (h ∷ past) = loads_sent past
 
 -- it was answered or given up
-abbrev pub is_settled : ℕ → History → Bool
-is_settled number [] = false
-is_settled number (Settled load moment ∷ past) = (load == number) || is_settled number past
-is_settled number (h ∷ past) = is_settled number past
+abbrev pub is_load_settled : ℕ → History → Bool
+is_load_settled number [] = false
+is_load_settled number (Settled load moment ∷ past) = (load == number) || is_load_settled number past
+is_load_settled number (h ∷ past) = is_load_settled number past
 
 -- the loads that were sent and not settled, newest first
 abbrev pub loads_under_way : History → List Sent
-loads_under_way past = filter (λ sent. not (is_settled sent.number past)) (loads_sent past)
+loads_under_way past = filter (λ sent. not (is_load_settled sent.number past)) (loads_sent past)
 
 -- the load of the key that is under way
 abbrev pub load_of_key : List ℕ → History → Option ℕ

@@ -4,7 +4,7 @@ use Rattle.std.specs.List.{list_all, list_any, find, filter, sum_by}
 use Rattle.std.specs.Option.{option_to_list, option_map, option_map_or}
 use Rattle.audit_model.specs.Bytewise.{same}
 use Rattle.audit_model.specs.History.{Action, Running, Holding, Abandoning, Value, share}
-use Rattle.audit_model.specs.Values.{deadline, has_come, without_key, is_value_of}
+use Rattle.audit_model.specs.Values.{deadline, deadline_has_come, without_key, is_value_of}
 use Rattle.audit_model.specs.Commands.{Deed, is_this}
 use Rattle.audit_model.specs.View.{Candidate}
 use Rattle.audit_model.specs.declared.config.Config.{Config}
@@ -58,7 +58,7 @@ abbrev pub newcomer : Config → Value → Candidate
 newcomer config value =
     record {
       value = value;
-      dead = has_come (deadline config value value.accepted_at) value.accepted_at;
+      dead = deadline_has_come (deadline config value value.accepted_at) value.accepted_at;
       covered = false;
       evictable = false;
       new = true;
@@ -109,15 +109,15 @@ is_true_note config held deed note (Some c) =
     else is_true_cause config held deed c note.cause)
 
 -- the first value of the key among these
-abbrev pub first_of : List ℕ → List Candidate → Option Candidate
-first_of key cs = find (λ c. same key c.value.key) cs
+abbrev pub first_with_key : List ℕ → List Candidate → Option Candidate
+first_with_key key cs = find (λ c. same key c.value.key) cs
 
 -- each note reports the first value of its key that is not reported yet, with a true cause; and no older value of a written or deleted key
 -- is left
 abbrev pub are_true_notes : Config → List Candidate → Deed → List Candidate → List Note → Bool
 are_true_notes config held deed cs [] = list_all (λ c. not (is_succeeded deed c)) cs
 are_true_notes config held deed cs (note ∷ notes) =
-    is_true_note config held deed note (first_of note.key cs)
+    is_true_note config held deed note (first_with_key note.key cs)
     && are_true_notes config held deed (without_key (λ c. c.value.key) note.key cs) notes
 
 -- one of the notes reports one of these values, in this part, as `Size`

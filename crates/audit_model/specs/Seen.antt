@@ -4,7 +4,7 @@ use Rattle.std.specs.List.{list_any}
 use Rattle.std.specs.Option.{option_to_list}
 use Rattle.audit_model.specs.Commands.{drops, syncs, is_step_that}
 use Rattle.audit_model.specs.History.{History, Happening, Value}
-use Rattle.audit_model.specs.Values.{accepts, deadline, has_come, last_use, is_covered, held_values, live_value, live_keys}
+use Rattle.audit_model.specs.Values.{accepts, deadline, deadline_has_come, last_use, is_key_covered, held_values, live_value, live_keys}
 use Rattle.audit_model.specs.Loads.{load_of_key, next_load}
 use Rattle.audit_model.specs.View.{View, Candidate}
 use Rattle.audit_model.specs.Notes.{is_over, tells_size}
@@ -30,8 +30,8 @@ abbrev pub candidate_of : Config → History → ℕ → Value → Candidate
 candidate_of config past now value =
     record {
       value = value;
-      dead = has_come (deadline config value (last_use config value.key past)) now;
-      covered = is_covered value.key past;
+      dead = deadline_has_come (deadline config value (last_use config value.key past)) now;
+      covered = is_key_covered value.key past;
       evictable = was_over config value.key value.part past;
       new = false;
     }

@@ -5,7 +5,7 @@ use Rattle.std.specs.Option.{option_map, option_map_or}
 use Rattle.audit_model.specs.Bytewise.{same, cut_at}
 use Rattle.audit_model.specs.History.{Value}
 use Rattle.audit_model.specs.Stream.{first_line}
-use Rattle.audit_model.specs.Values.{deadline, has_come, sorted}
+use Rattle.audit_model.specs.Values.{deadline, deadline_has_come, sorted}
 use Rattle.audit_model.specs.View.{View, Candidate}
 use Rattle.audit_model.specs.declared.config.Config.{Config}
 
@@ -138,8 +138,8 @@ abbrev pub pending_in : ℕ → Situation → Option PendingLoad
 pending_in number s = find (λ load. load.number == number) s.pending
 
 -- the key of the load under way with this number
-abbrev pub key_in : ℕ → Situation → Option (List ℕ)
-key_in number s = option_map (λ load. load.key) (pending_in number s)
+abbrev pub pending_key : ℕ → Situation → Option (List ℕ)
+pending_key number s = option_map (λ load. load.key) (pending_in number s)
 
 -- the connections that wait for this load, in the order in which they joined
 abbrev pub waiting_in : ℕ → Situation → List ℕ
@@ -149,7 +149,7 @@ waiting_in number s = option_map_or (λ load. load.waiting) (pending_in number s
 
 -- its deadline has come at this moment
 abbrev pub is_dead_at : Config → ℕ → HeldValue → Bool
-is_dead_at config now held = has_come (deadline config held.value held.last_use) now
+is_dead_at config now held = deadline_has_come (deadline config held.value held.last_use) now
 
 -- it is not covered, and its deadline has not come
 abbrev pub is_live_at : Config → ℕ → HeldValue → Bool

@@ -3,7 +3,7 @@ use Rattle.std.specs.Prelude.{◌≡◌, ℕ, List, [], ◌∷◌, ◌++◌, len
 use Rattle.std.specs.List.{filter}
 use Rattle.audit_model.specs.History.{History, Opened, Value, latest_moment}
 use Rattle.audit_model.specs.Stream.{opened_count, is_open, holds, waits, unread, unanswered, first_line, times_waited}
-use Rattle.audit_model.specs.Values.{held_values, last_use, is_covered}
+use Rattle.audit_model.specs.Values.{held_values, last_use, is_key_covered}
 use Rattle.audit_model.specs.Loads.{loads_sent, loads_under_way, waiting_for, Sent}
 use Rattle.audit_model.specs.Seen.{was_over, has_dropped}
 use Rattle.audit_model.specs.Places.{history_after}
@@ -45,7 +45,7 @@ held_from config past value =
     record {
       value = value;
       last_use = last_use config value.key past;
-      covered = is_covered value.key past;
+      covered = is_key_covered value.key past;
       evictable = was_over config value.key value.part past;
     }
 

@@ -21,22 +21,22 @@ abbrev pub own_deadline_from : ℕ → Option ℕ → Option ℕ
 own_deadline_from moment ms = option_map (λ n. rounded (after_ms moment n)) ms
 
 -- the earlier one, of those that exist
-abbrev pub earlier_of : Option ℕ → Option ℕ → Option ℕ
-earlier_of None b = b
-earlier_of (Some a) None = Some a
-earlier_of (Some a) (Some b) = Some (min a b)
+abbrev pub earlier_deadline : Option ℕ → Option ℕ → Option ℕ
+earlier_deadline None b = b
+earlier_deadline (Some a) None = Some a
+earlier_deadline (Some a) (Some b) = Some (min a b)
 
 -- the earliest of the value's own deadline, its acceptance plus the live time, and its last use plus the idle time, of those that exist
 abbrev pub deadline : Config → Value → ℕ → Option ℕ
 deadline config value last_use =
-    earlier_of value.own_deadline
-    (earlier_of (option_map (after_ms value.accepted_at) config.live_ms)
+    earlier_deadline value.own_deadline
+    (earlier_deadline (option_map (after_ms value.accepted_at) config.live_ms)
     (option_map (after_ms last_use) config.idle_ms))
 
 -- there is a deadline, and it is at or before this moment
-abbrev pub has_come : Option ℕ → ℕ → Bool
-has_come None now = false
-has_come (Some moment) now = nat_le moment now
+abbrev pub deadline_has_come : Option ℕ → ℕ → Bool
+deadline_has_come None now = false
+deadline_has_come (Some moment) now = nat_le moment now
 
 -- there is a value, and it is of this key
 abbrev pub is_value_of : List ℕ → Option Value → Bool
@@ -53,10 +53,10 @@ last_accepted key [] = None
 last_accepted key (h ∷ past) = if accepts key h then value_of h else last_accepted key past
 
 -- since the key's last acceptance there was a `CLEAR`, or an accepted `DROPIF` of a prefix of it
-abbrev pub is_covered : List ℕ → History → Bool
-is_covered key [] = false
-is_covered key (h ∷ past) =
-    if accepts key h then false else (is_step_that (covers key) h || is_covered key past)
+abbrev pub is_key_covered : List ℕ → History → Bool
+is_key_covered key [] = false
+is_key_covered key (h ∷ past) =
+    if accepts key h then false else (is_step_that (covers key) h || is_key_covered key past)
 
 -- since the key's last acceptance there was a `DEL` of it
 abbrev pub is_deleted : List ℕ → History → Bool
@@ -92,8 +92,8 @@ is_told key past = not (list_any (λ v. same key v.key) (held_values past))
 -- the value was not covered, deleted or reported before, and its deadline has not come
 abbrev pub lives : Config → List ℕ → History → ℕ → ℕ → Value → Bool
 lives config key past last_use now value =
-    not (is_deleted key past) && not (is_covered key past) && not (is_told key past)
-    && not (has_come (deadline config value last_use) now)
+    not (is_deleted key past) && not (is_key_covered key past) && not (is_told key past)
+    && not (deadline_has_come (deadline config value last_use) now)
 
 -- the value, if it is live
 abbrev pub if_lives : Config → List ℕ → History → ℕ → ℕ → Option Value → Option Value

@@ -6,7 +6,7 @@ use Rattle.std.specs.Map.{values_of, lookup, set_value}
 use Rattle.std.specs.Option.{option_copied}
 use Rattle.std.proofs.lemmas.Option.{none-some}
 use Rattle.std.proofs.lemmas.Bool.{cases_Bool, not-true, and_parts, and_from, eq-eqb, eqb-true, ne_eqb, lt-ltb, le-ltb, ltb-true, leb-true, le-leb}
-use Rattle.audit_loads.specs.Numbered.{changed_at}
+use Rattle.audit_loads.specs.Numbered.{changed_numbered}
 use Rattle.indexmap.specs.IndexMap.{insert_entry, swap_remove_entry}
 use Rattle.audit_situation.specs.Listings.{is_new_number, is_listing, are_apart, ranked}
 use Rattle.audit_situation.proofs.Ranked.{flip, swap_out, swapped_is, swap_out-map, all-swap_out, apart-out, IsOrder, rising, falling, ranked-find, left-out, ranked-map, ranked-newest_first, ranked-newest_last, all-ranked}
@@ -78,24 +78,24 @@ module _ {X : Type 0} (number : X → ℕ) where
   -- ---- an entry changed
 
   module _ (n : ℕ) (f : X → X) where
-    same_at : (es : List (ℕ × X)) → is_listing number es ≡ true → is_new_number n es ≡ true → values_of es ≡ map (changed_at number n f) (values_of es)
+    same_at : (es : List (ℕ × X)) → is_listing number es ≡ true → is_new_number n es ≡ true → values_of es ≡ map (changed_numbered number n f) (values_of es)
     same_at [] l k = refl
     same_at (e ∷ es) l k =
         let p = parts_of e es l in
         let q = and_parts (not (e.0 == n)) (is_new_number n es) k in
         ap (λ ys. e.1 ∷ ys) (same_at es p.rest q.1)
-        ∙ sym (ap (λ b. (if b then f e.1 else e.1) ∷ map (changed_at number n f) (values_of es)) (head-other n e p.own q.0))
+        ∙ sym (ap (λ b. (if b then f e.1 else e.1) ∷ map (changed_numbered number n f) (values_of es)) (head-other n e p.own q.0))
 
     -- there is none
-    pub unchanged_is : (es : List (ℕ × X)) → is_listing number es ≡ true → lookup (nat_eq n) es ≡ None → values_of es ≡ map (changed_at number n f) (values_of es)
+    pub unchanged_is : (es : List (ℕ × X)) → is_listing number es ≡ true → lookup (nat_eq n) es ≡ None → values_of es ≡ map (changed_numbered number n f) (values_of es)
     unchanged_is es l e = same_at es l (none-new n es e)
 
-    pub changed_is : (es : List (ℕ × X)) (x w : X) → is_listing number es ≡ true → lookup (nat_eq n) es ≡ Some x → w ≡ f x → values_of (set_value (nat_eq n) es w) ≡ map (changed_at number n f) (values_of es)
+    pub changed_is : (es : List (ℕ × X)) (x w : X) → is_listing number es ≡ true → lookup (nat_eq n) es ≡ Some x → w ≡ f x → values_of (set_value (nat_eq n) es w) ≡ map (changed_numbered number n f) (values_of es)
     changed_is [] x w l found is = absurd (none-some x found)
     changed_is (e ∷ es) x w l found is =
         let p = parts_of e es l in
         (elim (cases_Bool (nat_eq n e.0)) [ inl t ↦ rw t (let same : e.1 ≡ x = cc in ap (λ y. y ∷ values_of es) (is ∙ ap f (sym same)) ∙ ap (λ ys. f e.1 ∷ ys) (same_at es p.rest (same-new n e es t p.new))) | inr t ↦ rw t (ap (λ ys. e.1 ∷ ys) ((changed_is es x w p.rest) (rw t at found) is)) ])
-        ∙ sym (ap (λ b. (if b then f e.1 else e.1) ∷ map (changed_at number n f) (values_of es)) (head-is n e p.own))
+        ∙ sym (ap (λ b. (if b then f e.1 else e.1) ∷ map (changed_numbered number n f) (values_of es)) (head-is n e p.own))
 
   pub changed-listing : (n : ℕ) (es : List (ℕ × X)) (x w : X) → is_listing number es ≡ true → lookup (nat_eq n) es ≡ Some x → number w ≡ number x → is_listing number (set_value (nat_eq n) es w) ≡ true
   changed-listing n [] x w l found is = refl
@@ -183,14 +183,14 @@ module _ {X : Type 0} (before : ℕ → ℕ → Bool) (order : IsOrder before) (
       ∙ left-out before order number (λ x. number x == n) (passes n) (values_of es) (numbers-apart number es l)
 
   module _ (n : ℕ) (F : X → X) (keeps : (x : X) → number (F x) ≡ number x) where
-    keeps-all : (x : X) → number (changed_at number n F x) ≡ number x
+    keeps-all : (x : X) → number (changed_numbered number n F x) ≡ number x
     keeps-all x = grind (arith, nat_tests)
 
-    pub changed-ranked : (es : List (ℕ × X)) (x w : X) → is_listing number es ≡ true → lookup (nat_eq n) es ≡ Some x → w ≡ F x → in_order (set_value (nat_eq n) es w) ≡ map (changed_at number n F) (in_order es)
-    changed-ranked es x w l found is = ap (ranked before number) (changed_is number n F es x w l found is) ∙ ranked-map before number number (changed_at number n F) keeps-all (values_of es)
+    pub changed-ranked : (es : List (ℕ × X)) (x w : X) → is_listing number es ≡ true → lookup (nat_eq n) es ≡ Some x → w ≡ F x → in_order (set_value (nat_eq n) es w) ≡ map (changed_numbered number n F) (in_order es)
+    changed-ranked es x w l found is = ap (ranked before number) (changed_is number n F es x w l found is) ∙ ranked-map before number number (changed_numbered number n F) keeps-all (values_of es)
 
-    pub unchanged-ranked : (es : List (ℕ × X)) → is_listing number es ≡ true → lookup (nat_eq n) es ≡ None → in_order es ≡ map (changed_at number n F) (in_order es)
-    unchanged-ranked es l e = ap (ranked before number) (unchanged_is number n F es l e) ∙ ranked-map before number number (changed_at number n F) keeps-all (values_of es)
+    pub unchanged-ranked : (es : List (ℕ × X)) → is_listing number es ≡ true → lookup (nat_eq n) es ≡ None → in_order es ≡ map (changed_numbered number n F) (in_order es)
+    unchanged-ranked es l e = ap (ranked before number) (unchanged_is number n F es l e) ∙ ranked-map before number number (changed_numbered number n F) keeps-all (values_of es)
 
 -- ---- an entry added as the last
 

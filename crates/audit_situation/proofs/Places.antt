@@ -1,35 +1,13 @@
 -- A connection changed, and what loads are to connections.
-use Rattle.std.proofs.Common.{inr, inl, arith, ◌≡◌, refl, sym, ap, ◌∙◌, ℕ, ◌==◌, Bool, true, false, cond, not, ◌||◌, List, [], ◌∷◌, map, Option, Some, None, if◌then◌else◌, true≢false}
-use Rattle.std.specs.Prelude.{is_some}
+use Rattle.std.proofs.Common.{inr, inl, arith, ◌≡◌, refl, sym, ap, ◌∙◌, ℕ, ◌==◌, Bool, true, false, ◌||◌, List, [], ◌∷◌, map, Option, Some, None, if◌then◌else◌, true≢false}
 use Rattle.std.specs.List.{find, list_any}
 use Rattle.std.specs.Option.{option_map_or}
 use Rattle.std.proofs.lemmas.Option.{none-some}
 use Rattle.std.proofs.lemmas.Bool.{cases_Bool, eqb-true, and_parts, not-true}
-use Rattle.audit_model.specs.Changes.{join_by}
 use Rattle.audit_model.specs.Situation.{Situation, Connection, connection_in, without_number, without_connection, with_connection, is_overlong, without_waiting}
-use Rattle.audit_loads.specs.Numbered.{changed_at}
+use Rattle.audit_loads.specs.Numbered.{changed_numbered}
 use Rattle.audit_situation.specs.States.{have_numbers_apart}
 use Rattle.std.proofs.lemmas.Bool.Decides.{nat_tests}
-
--- what a step does to loads changes no connection
-pub join-keeps : (conn : ℕ) (waits : Bool) (key : Option (List ℕ)) (load : Option ℕ) (s : Situation) → (join_by conn waits key load s).connections ≡ s.connections
-join-keeps conn waits None load s = refl
-join-keeps conn waits (Some key) (Some number) s = refl
-join-keeps conn true (Some key) None s = refl
-join-keeps conn false (Some key) None s = refl
-
--- a connection moved on when the loads are joined
-pub passed_is : (s s1 t : Situation) (conn : ℕ) (quits : Bool) (F : Connection → Connection) (joined : Situation → Situation) → s1 ≡ joined s → (joined s).connections ≡ s.connections → is_some (connection_in conn s) ≡ true
-    → t ≡ option_map_or (λ c. with_connection quits (F c) s1) (connection_in conn s1) s1
-    → t ≡ option_map_or (λ c. with_connection quits (F c) (joined s)) (connection_in conn s) s
-passed_is s s1 t conn quits F joined is same there step =
-    step ∙ ap (λ (u : Situation). option_map_or (λ c. with_connection quits (F c) u) (connection_in conn u) u) is
-    ∙ ap (λ cs. option_map_or (λ c. with_connection quits (F c) (joined s)) (find (λ (d : Connection). d.number == conn) cs) (joined s)) same
-    ∙ go (connection_in conn s) there
-  where
-    go : (o : Option Connection) → is_some o ≡ true → option_map_or (λ c. with_connection quits (F c) (joined s)) o (joined s) ≡ option_map_or (λ c. with_connection quits (F c) (joined s)) o s
-    go None e = absurd (true≢false (sym e))
-    go (Some c) e = refl
 
 abbrev of_number : Connection → ℕ
 of_number c = c.number
@@ -43,30 +21,30 @@ module _ (conn : ℕ) where
   hit-number (d ∷ ds) c e = let next = hit-number ds c in grind (arith, nat_tests, e, next)
 
   module _ (F : Connection → Connection) where
-    untouched : (cs : List Connection) → list_any hits cs ≡ false → map (changed_at of_number conn F) cs ≡ cs
+    untouched : (cs : List Connection) → list_any hits cs ≡ false → map (changed_numbered of_number conn F) cs ≡ cs
     untouched [] e = refl
     untouched (d ∷ ds) e = let next = untouched ds in grind (arith, nat_tests, e, next)
 
-    missed : (cs : List Connection) → find hits cs ≡ None → map (changed_at of_number conn F) cs ≡ cs
+    missed : (cs : List Connection) → find hits cs ≡ None → map (changed_numbered of_number conn F) cs ≡ cs
     missed [] e = refl
     missed (d ∷ ds) e = let next = missed ds in grind (arith, nat_tests, e, next)
 
-    dropped : ((c : Connection) → (F c).number ≡ c.number) → (cs : List Connection) → without_number conn (map (changed_at of_number conn F) cs) ≡ without_number conn cs
+    dropped : ((c : Connection) → (F c).number ≡ c.number) → (cs : List Connection) → without_number conn (map (changed_numbered of_number conn F) cs) ≡ without_number conn cs
     dropped keeps [] = refl
     dropped keeps (d ∷ ds) = let next = dropped keeps ds in grind (arith, nat_tests, next)
 
   -- where no two have one number, it is one that changes
-  swapped : (F : Connection → Connection) (cs : List Connection) (c : Connection) → have_numbers_apart cs ≡ true → find hits cs ≡ Some c → map (changed_at of_number conn F) cs ≡ map (changed_at of_number conn (λ _. F c)) cs
+  swapped : (F : Connection → Connection) (cs : List Connection) (c : Connection) → have_numbers_apart cs ≡ true → find hits cs ≡ Some c → map (changed_numbered of_number conn F) cs ≡ map (changed_numbered of_number conn (λ _. F c)) cs
   swapped F [] c a e = refl
   swapped F (d ∷ ds) c a e =
       let p = and_parts _ _ a in elim (cases_Bool (hits d)) [
-        | inl is ↦ rw is (let same : d ≡ c = cc in let others : list_any hits ds ≡ false = ap (λ m. list_any (λ k. k.number == m) ds) (sym (eqb-true d.number conn is)) ∙ not-true _ p.0 in ap (λ x. F x ∷ map (changed_at of_number conn F) ds) same ∙ ap (λ ys. F c ∷ ys) (untouched F ds others ∙ sym (untouched (λ _. F c) ds others)))
+        | inl is ↦ rw is (let same : d ≡ c = cc in let others : list_any hits ds ≡ false = ap (λ m. list_any (λ k. k.number == m) ds) (sym (eqb-true d.number conn is)) ∙ not-true _ p.0 in ap (λ x. F x ∷ map (changed_numbered of_number conn F) ds) same ∙ ap (λ ys. F c ∷ ys) (untouched F ds others ∙ sym (untouched (λ _. F c) ds others)))
         | inr is ↦ rw is (ap (λ ys. d ∷ ys) ((swapped F ds c p.1) (rw is at e)))
       ]
 
   module _ (F : Connection → Connection) (keeps : (c : Connection) → (F c).number ≡ c.number) (quits : Bool) (s : Situation) where
     abbrev changed : Situation
-    changed = record s { connections = map (changed_at of_number conn F) s.connections }
+    changed = record s { connections = map (changed_numbered of_number conn F) s.connections }
 
     abbrev wanted : Option Connection → Situation
     wanted o = option_map_or (λ c. with_connection quits (F c) s) o s
@@ -98,7 +76,7 @@ module _ (conn : ℕ) where
         go (Some c) e b =
             let same : conn ≡ (F c).number = sym (keeps c ∙ hit-number s.connections c e) in
             ap (λ cs. record s { connections = cs }) (swapped F s.connections c apart e)
-            ∙ ap (λ n. record s { connections = map (changed_at of_number n (λ _. F c)) s.connections; pending = s.pending }) same
+            ∙ ap (λ n. record s { connections = map (changed_numbered of_number n (λ _. F c)) s.connections; pending = s.pending }) same
             ∙ sym (ap (λ b. record s {
               connections = if b then without_number (F c).number s.connections else map (λ d. if d.number == (F c).number then F c else d) s.connections;
               pending = if b then map (without_waiting (F c).number) s.pending else s.pending;

@@ -1,23 +1,17 @@
 -- Lists in the order of numbers, and the entry that a removal lets the last one replace.
-use Rattle.std.proofs.Common.{inr, inl, ◌≡◌, refl, sym, ap, ◌∙◌, ℕ, suc, ◌+◌, ◌-◌, Bool, true, false, cond, not, ◌&&◌, nat_lt, List, [], ◌∷◌, ◌++◌, map, length, take, get_or, set, position, Option, option_map, Some, None, if◌then◌else◌, arith, true≢false}
+use Rattle.std.proofs.Common.{inr, inl, ◌≡◌, refl, sym, ap, ◌∙◌, ℕ, suc, ◌-◌, Bool, true, false, cond, not, ◌&&◌, nat_lt, List, [], ◌∷◌, ◌++◌, map, length, take, get_or, set, position, Option, option_map, Some, None, if◌then◌else◌, arith, true≢false}
 use Rattle.std.specs.Prelude.{◌==◌}
-use Rattle.std.specs.List.{find, filter, list_all, swap_remove, position_or_len}
+use Rattle.std.specs.List.{find, filter, list_all, swap_remove}
 use Rattle.std.specs.Map.{keys_of}
 use Rattle.std.specs.Option.{option_map_or}
-use Rattle.std.proofs.lemmas.Option.{none-some}
-use Rattle.std.proofs.lemmas.Bool.{cond_both, cases_Bool, and_parts, and_from, not-true, lt-ltb, ltb-true, ltb-false, le-ltb, eqb-false, eqb-true, eq-eqb}
+use Rattle.std.proofs.lemmas.Option.{none-some, same_Some}
+use Rattle.std.proofs.lemmas.Bool.{cond_both, cases_Bool, and_parts, and_from, not-true}
 use Rattle.indexmap.specs.IndexMap.{swap_remove_entry}
 use Rattle.audit_situation.specs.Listings.{are_apart, put_ranked, ranked}
 use Rattle.std.proofs.lemmas.Bool.Decides.{nat_tests}
 
 pub flip : (m n : ℕ) → (m == n) ≡ (n == m)
-flip m n = go (m == n) (n == m) refl refl
-  where
-    go : (b c : Bool) → (m == n) ≡ b → (n == m) ≡ c → b ≡ c
-    go true true e f = refl
-    go true false e f = absurd (true≢false (sym (eq-eqb n m (sym (eqb-true m n e))) ∙ f))
-    go false true e f = absurd (true≢false (sym (eq-eqb m n (sym (eqb-true n m f))) ∙ e))
-    go false false e f = refl
+flip m n = grind (arith, nat_tests)
 
 -- ---- the last element goes to the front, and to the place of the first that passes
 
@@ -57,26 +51,12 @@ module _ {X : Type 0} where
 
   place_is : (p : X → Bool) (xs : List X) → position p xs ≡ place p xs
   place_is p [] = refl
-  place_is p (x ∷ xs) = go (p x) (place_is p xs)
-    where
-      one : (n m : ℕ) → nat_lt (1 + n) (suc m) ≡ nat_lt n m
-      one n m = grind (arith, nat_tests)
-
-      further : (b : Bool) (n : ℕ) → cond b (Some (1 + n)) None ≡ option_map suc (cond b (Some n) None)
-      further true n = ap Some (omega arith)
-      further false n = refl
-
-      go : (b : Bool) → position p xs ≡ place p xs
-          → cond (nat_lt (cond (not b) (1 + position_or_len p xs) 0) (length (x ∷ xs))) (Some (cond (not b) (1 + position_or_len p xs) 0)) None ≡ cond b (Some 0) (option_map suc (place p xs))
-      go true ih = ap (λ c. cond c (Some 0) None) (lt-ltb 0 (length (x ∷ xs)) (omega arith))
-      go false ih =
-          ap (λ c. cond c (Some (1 + position_or_len p xs)) None) (one (position_or_len p xs) (length xs))
-          ∙ further (nat_lt (position_or_len p xs) (length xs)) (position_or_len p xs) ∙ ap (option_map suc) ih
+  place_is p (x ∷ xs) = let next = place_is p xs in grind (arith, nat_tests, next)
 
   placed : (p : X → Bool) (xs : List X) (d : X) → option_map_or (λ i. swap_remove xs i d) (place p xs) xs ≡ swap_out p xs
   placed p [] d = refl
   placed p (x ∷ []) d = grind (arith, nat_tests)
-  placed p (x ∷ y ∷ ys) d = go (p x) (place p (y ∷ ys)) (placed p (y ∷ ys) d)
+  placed p (x ∷ y ∷ ys) d = elim (cases_Bool (p x)) [ inl e ↦ rw e first | inr e ↦ rw e (go (place p (y ∷ ys)) (placed p (y ∷ ys) d)) ]
     where
       less : suc (suc (length ys)) - 1 ≡ suc (length ys)
       less = omega arith
@@ -92,11 +72,10 @@ module _ {X : Type 0} where
           ap (λ n. take n (x ∷ set (y ∷ ys) i (get_or (x ∷ y ∷ ys) n d))) less
           ∙ sym (ap (λ n. x ∷ take n (set (y ∷ ys) i (get_or (y ∷ ys) n d))) one)
 
-      go : (b : Bool) (o : Option ℕ) → option_map_or (λ i. swap_remove (y ∷ ys) i d) o (y ∷ ys) ≡ swap_out p (y ∷ ys)
-          → option_map_or (λ i. swap_remove (x ∷ y ∷ ys) i d) (cond b (Some 0) (option_map suc o)) (x ∷ y ∷ ys) ≡ cond b (last_of y ys ∷ front_of y ys) (x ∷ swap_out p (y ∷ ys))
-      go true o ih = first
-      go false None ih = ap (λ l. x ∷ l) ih
-      go false (Some i) ih = later i ∙ ap (λ l. x ∷ l) ih
+      go : (o : Option ℕ) → option_map_or (λ i. swap_remove (y ∷ ys) i d) o (y ∷ ys) ≡ swap_out p (y ∷ ys)
+          → option_map_or (λ i. swap_remove (x ∷ y ∷ ys) i d) (option_map suc o) (x ∷ y ∷ ys) ≡ x ∷ swap_out p (y ∷ ys)
+      go None ih = ap (λ l. x ∷ l) ih
+      go (Some i) ih = later i ∙ ap (λ l. x ∷ l) ih
 
 place-keys : {K V : Type 0} (t : K → Bool) (es : List (K × V)) → place t (keys_of es) ≡ place (λ e. t e.0) es
 place-keys t [] = refl
@@ -227,18 +206,7 @@ module _ {X : Type 0} (before : ℕ → ℕ → Bool) (number : X → ℕ) where
 
   put-find : (p : X → Bool) (x : X) (l : List X) → (p x ≡ true → find p l ≡ None) → find p (put x l) ≡ cond (p x) (Some x) (find p l)
   put-find p x [] h = refl
-  put-find p x (y ∷ ys) h = go (before (number x) (number y)) (p x) (p y) refl refl (put-find p x ys)
-    where
-      go : (b c d : Bool) → p x ≡ c → p y ≡ d → ((p x ≡ true → find p ys ≡ None) → find p (put x ys) ≡ cond (p x) (Some x) (find p ys))
-          → find p (if b then x ∷ y ∷ ys else y ∷ put x ys) ≡ cond (p x) (Some x) (cond (p y) (Some y) (find p ys))
-      go true c d e f ih = refl
-      go false true true e f ih = absurd (none-some y (sym (sym (ap (λ b. cond b (Some y) (find p ys)) f) ∙ h e)))
-      go false true false e f ih =
-          ap (λ b. cond b (Some y) (find p (put x ys))) f
-          ∙ ih (λ t. sym (ap (λ b. cond b (Some y) (find p ys)) f) ∙ h t) ∙ ap (λ o. cond (p x) (Some x) o) (sym (ap (λ b. cond b (Some y) (find p ys)) f))
-      go false false d e f ih =
-          ap (λ o. cond (p y) (Some y) o) (ih (λ t. absurd (true≢false (sym t ∙ e))) ∙ ap (λ b. cond b (Some x) (find p ys)) e)
-          ∙ sym (ap (λ b. cond b (Some x) (cond (p y) (Some y) (find p ys))) e)
+  put-find p x (y ∷ ys) h = let next = put-find p x ys in grind (arith, h, next)
 
   put-all : (p : X → Bool) (x : X) (l : List X) → p x ≡ true → list_all p l ≡ true → list_all p (put x l) ≡ true
   put-all p x [] h k = and_from _ _ h refl
@@ -301,72 +269,30 @@ pub record IsOrder (before : ℕ → ℕ → Bool) : Type 0 where
   pub along : (a b c : ℕ) → before a b ≡ true → before b c ≡ true → before a c ≡ true
   pub either : (a b : ℕ) → (a == b) ≡ false → before b a ≡ not (before a b)
 
+less-along : (a b c : ℕ) → nat_lt a b ≡ true → nat_lt b c ≡ true → nat_lt a c ≡ true
+less-along a b c e f = grind (arith, nat_tests)
+
+less-either : (a b : ℕ) → (a == b) ≡ false → nat_lt b a ≡ not (nat_lt a b)
+less-either a b e = grind (arith, nat_tests)
+
 pub rising : IsOrder nat_lt
-rising =
-    record {
-      along = λ a b c e f. let x = ltb-true a b e in let y = ltb-true b c f in lt-ltb a c (omega arith);
-      either = λ a b e. by a b e (nat_lt a b) refl;
-    }
-  where
-    by : (a b : ℕ) → (a == b) ≡ false → (c : Bool) → nat_lt a b ≡ c → nat_lt b a ≡ not c
-    by a b e true f = let x = ltb-true a b f in le-ltb b a (omega arith)
-    by a b e false f = let x = ltb-false a b f in let n = eqb-false a b e in lt-ltb b a (omega arith)
+rising = record { along = less-along; either = less-either }
 
 pub falling : IsOrder (λ a b. nat_lt b a)
-falling =
-    record {
-      along = λ a b c e f. let x = ltb-true b a e in let y = ltb-true c b f in lt-ltb c a (omega arith);
-      either = λ a b e. by a b e (nat_lt b a) refl;
-    }
-  where
-    by : (a b : ℕ) → (a == b) ≡ false → (c : Bool) → nat_lt b a ≡ c → nat_lt a b ≡ not c
-    by a b e true f = let x = ltb-true b a f in le-ltb a b (omega arith)
-    by a b e false f = let x = ltb-false b a f in let n = eqb-false a b e in lt-ltb a b (omega arith)
+falling = record { along = λ a b c e f. less-along c b a f e; either = λ a b e. less-either b a (flip b a ∙ e) }
 
 module _ {X : Type 0} (before : ℕ → ℕ → Bool) (order : IsOrder before) (number : X → ℕ) where
   abbrev numbered_alike : X → X → Bool
   numbered_alike x y = number x == number y
 
   put-put : (a b : X) → (number a == number b) ≡ false → (l : List X) → put_ranked before number a (put_ranked before number b l) ≡ put_ranked before number b (put_ranked before number a l)
-  put-put a b n [] = go (before (number a) (number b)) (order.either (number a) (number b) n)
-    where
-      go : (c : Bool) → before (number b) (number a) ≡ not c → (if c then a ∷ b ∷ [] else b ∷ a ∷ []) ≡ (if before (number b) (number a) then b ∷ a ∷ [] else a ∷ b ∷ [])
-      go true e = sym (ap (λ d. if d then b ∷ a ∷ [] else a ∷ b ∷ []) e)
-      go false e = sym (ap (λ d. if d then b ∷ a ∷ [] else a ∷ b ∷ []) e)
-  put-put a b n (y ∷ ys) = go (before (number a) (number y)) (before (number b) (number y)) refl refl (put-put a b n ys)
-    where
-      go : (c d : Bool) → before (number a) (number y) ≡ c → before (number b) (number y) ≡ d
-          → put_ranked before number a (put_ranked before number b ys) ≡ put_ranked before number b (put_ranked before number a ys)
-          → put_ranked before number a (if d then b ∷ y ∷ ys else y ∷ put_ranked before number b ys) ≡ put_ranked before number b (if c then a ∷ y ∷ ys else y ∷ put_ranked before number a ys)
-      go true true e f ih = both (before (number a) (number b)) (order.either (number a) (number b) n)
-        where
-          both : (s : Bool) → before (number b) (number a) ≡ not s
-              → (if s then a ∷ b ∷ y ∷ ys else b ∷ (if before (number a) (number y) then a ∷ y ∷ ys else y ∷ put_ranked before number a ys))
-              ≡ (if before (number b) (number a) then b ∷ a ∷ y ∷ ys else a ∷ (if before (number b) (number y) then b ∷ y ∷ ys else y ∷ put_ranked before number b ys))
-          both true k = sym (ap (λ t. if t then b ∷ a ∷ y ∷ ys else a ∷ (if before (number b) (number y) then b ∷ y ∷ ys else y ∷ put_ranked before number b ys)) k ∙ ap (λ t. a ∷ (if t then b ∷ y ∷ ys else y ∷ put_ranked before number b ys)) f)
-          both false k = ap (λ t. b ∷ (if t then a ∷ y ∷ ys else y ∷ put_ranked before number a ys)) e ∙ sym (ap (λ t. if t then b ∷ a ∷ y ∷ ys else a ∷ (if before (number b) (number y) then b ∷ y ∷ ys else y ∷ put_ranked before number b ys)) k)
-      go false true e f ih =
-          let s : before (number a) (number b) ≡ false = not_along (before (number a) (number b)) refl in
-          ap (λ t. if t then a ∷ b ∷ y ∷ ys else b ∷ (if before (number a) (number y) then a ∷ y ∷ ys else y ∷ put_ranked before number a ys)) s
-          ∙ ap (λ t. b ∷ (if t then a ∷ y ∷ ys else y ∷ put_ranked before number a ys)) e
-          ∙ sym (ap (λ t. if t then b ∷ y ∷ put_ranked before number a ys else y ∷ put_ranked before number b (put_ranked before number a ys)) f)
-        where
-          not_along : (t : Bool) → before (number a) (number b) ≡ t → t ≡ false
-          not_along true k = absurd (true≢false (sym (order.along _ _ _ k f) ∙ e))
-          not_along false k = refl
-      go true false e f ih =
-          let s : before (number b) (number a) ≡ false = not_along (before (number b) (number a)) refl in
-          ap (λ t. if t then a ∷ y ∷ put_ranked before number b ys else y ∷ put_ranked before number a (put_ranked before number b ys)) e
-          ∙ sym (ap (λ t. if t then b ∷ a ∷ y ∷ ys else a ∷ (if before (number b) (number y) then b ∷ y ∷ ys else y ∷ put_ranked before number b ys)) s
-          ∙ ap (λ t. a ∷ (if t then b ∷ y ∷ ys else y ∷ put_ranked before number b ys)) f)
-        where
-          not_along : (t : Bool) → before (number b) (number a) ≡ t → t ≡ false
-          not_along true k = absurd (true≢false (sym (order.along _ _ _ k e) ∙ f))
-          not_along false k = refl
-      go false false e f ih =
-          ap (λ t. if t then a ∷ y ∷ put_ranked before number b ys else y ∷ put_ranked before number a (put_ranked before number b ys)) e
-          ∙ ap (λ l. y ∷ l) ih
-          ∙ sym (ap (λ t. if t then b ∷ y ∷ put_ranked before number a ys else y ∷ put_ranked before number b (put_ranked before number a ys)) f)
+  put-put a b n [] = let turned = order.either (number a) (number b) n in grind (arith, turned)
+  put-put a b n (y ∷ ys) =
+      let turned = order.either (number a) (number b) n in
+      let along = order.along (number a) (number b) (number y) in
+      let along2 = order.along (number b) (number a) (number y) in
+      let ih = put-put a b n ys in
+      grind (arith, turned, along, along2, ih)
 
   -- the last one may as well come first
   pub ranked-snoc : (xs : List X) (z : X) → list_all (λ y. not (number z == number y)) xs ≡ true → ranked before number (xs ++ z ∷ []) ≡ put_ranked before number z (ranked before number xs)
@@ -393,17 +319,15 @@ module _ {X : Type 0} (before : ℕ → ℕ → Bool) (order : IsOrder before) (
   swapped-out p [] z a e = absurd (none-some z e)
   swapped-out p (x ∷ xs) z a e =
       let s = and_parts (list_all (λ y. not (number x == number y)) xs) (are_apart numbered_alike xs) a in
-      go (p x) s.0 s.1 e (swapped-out p xs z s.1)
+      let ih = swapped-out p xs z s.1 in
+      elim (cases_Bool (p x)) [
+        | inl is ↦ rw is (let same : x ≡ z = same_Some x z (rw is at e) in ap (λ w. put_ranked before number w (ranked before number xs)) same ∙ ap (put_ranked before number z) (sym (ranked-last_first xs s.1)))
+        | inr is ↦ let found = rw is at e in rw is (ap (put_ranked before number x) (ih found) ∙ put-put x z (other xs found s.0) (ranked before number (swap_out p xs)))
+      ]
     where
       other : (ys : List X) → find p ys ≡ Some z → list_all (λ y. not (number x == number y)) ys ≡ true → (number x == number z) ≡ false
       other [] e h = absurd (none-some z e)
       other (y ∷ ys) e h = let s = and_parts (not (number x == number y)) (list_all (λ y. not (number x == number y)) ys) h in let next = other ys in grind (arith, nat_tests, e, s.0, next, s.1)
-
-      go : (b : Bool) → list_all (λ y. not (number x == number y)) xs ≡ true → are_apart numbered_alike xs ≡ true → cond b (Some x) (find p xs) ≡ Some z
-          → (find p xs ≡ Some z → ranked before number xs ≡ put_ranked before number z (ranked before number (swap_out p xs)))
-          → put_ranked before number x (ranked before number xs) ≡ put_ranked before number z (ranked before number (cond b (last_first xs) (x ∷ swap_out p xs)))
-      go true h a e ih = let same : x ≡ z = cc in ap (λ w. put_ranked before number w (ranked before number xs)) same ∙ ap (put_ranked before number z) (sym (ranked-last_first xs a))
-      go false h a e ih = ap (put_ranked before number x) (ih e) ∙ put-put x z (other xs e h) (ranked before number (swap_out p xs))
 
 module _ {X : Type 0} (before : ℕ → ℕ → Bool) (number : X → ℕ) where
   filter-put : (q : X → Bool) (x : X) (l : List X) → q x ≡ false → filter q (put_ranked before number x l) ≡ filter q l

@@ -3,7 +3,7 @@ ghost use Rattle.std.specs.Prelude.{◌≡◌, ◌++◌, ◌∷◌, [], map, tru
 ghost use Rattle.std.specs.List.{find, list_all};
 ghost use Rattle.std.specs.Option.{option_map_or};
 ghost use Rattle.audit_model.specs.Situation.{Connection, is_overlong, without_number};
-ghost use Rattle.audit_loads.specs.Numbered.{changed_at};
+ghost use Rattle.audit_loads.specs.Numbered.{changed_numbered};
 ghost use Rattle.audit_situation.specs.Listings.{is_listing};
 ghost use Rattle.audit_situation.specs.Standings.{moved_as, fed_with};
 
@@ -78,7 +78,7 @@ impl Links {
             (λ b. b ≡ option_map_or (λ c. is_overlong (fed_with piece.now c))
             (find (λ c. c.number == conn) self.old) false) }
         ensures fed { OnOk result
-            (self.new ≡ map (changed_at (λ c. c.number) conn (fed_with piece.now)) self.old) }
+            (self.new ≡ map (changed_numbered (λ c. c.number) conn (fed_with piece.now)) self.old) }
     {
         match self.table.get_mut(&conn) {
             Some(link) => feed_link(link, piece),
@@ -99,7 +99,8 @@ impl Links {
             (λ b. b ≡ option_map_or (λ c. quits || is_overlong (moved_as moving.entry c))
             (find (λ c. c.number == conn) self.old) false) }
         ensures moved { OnOk result
-            (self.new ≡ map (changed_at (λ c. c.number) conn (moved_as moving.entry)) self.old) }
+            (self.new ≡ map (changed_numbered (λ c. c.number) conn (moved_as moving.entry))
+            self.old) }
     {
         match self.table.get_mut(&conn) {
             Some(link) => move_link(alloc, link, moving, quits),

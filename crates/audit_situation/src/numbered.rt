@@ -2,7 +2,7 @@
 ghost use Rattle.std.specs.Prelude.{◌≡◌, ◌++◌, ◌∷◌, [], map, true, not, ◌==◌, nat_lt, OnOk, OnErr, option_map};
 ghost use Rattle.std.specs.List.{find, filter, list_all};
 ghost use Rattle.audit_model.specs.Situation.{PendingLoad, without_waiting};
-ghost use Rattle.audit_loads.specs.Numbered.{changed_at};
+ghost use Rattle.audit_loads.specs.Numbered.{changed_numbered};
 ghost use Rattle.audit_situation.specs.Listings.{is_listing};
 
 use crate::pending::Pending;
@@ -65,7 +65,7 @@ impl Numbered {
 
     /// Makes a connection wait no more for the load of that number.
     pub fn leave(&mut self, number: u64, conn: u64)
-        ensures { self.new ≡ map (changed_at (λ p. p.number) number (without_waiting conn))
+        ensures { self.new ≡ map (changed_numbered (λ p. p.number) number (without_waiting conn))
             self.old }
     {
         if let Some(load) = self.table.get_mut(&number) {
@@ -76,7 +76,7 @@ impl Numbered {
     /// Makes a connection join those that wait for the load of that number. Returns an error if there is not enough memory; then nothing
     /// has changed.
     pub fn join(&mut self, number: u64, conn: u64) -> Result<(), AllocError>
-        ensures joined { OnOk result (self.new ≡ map (changed_at (λ p. p.number) number
+        ensures joined { OnOk result (self.new ≡ map (changed_numbered (λ p. p.number) number
             (λ p. record p { waiting = p.waiting ++ conn ∷ [] })) self.old) }
         ensures unchanged { OnErr result (self.new ≡ self.old) }
     {

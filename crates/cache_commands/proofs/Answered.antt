@@ -1,5 +1,6 @@
 -- From what a store's call does to what a line owes.
 use Rattle.std.proofs.Common.{refl, sym, ap, ◌∙◌, subst, arith, Err, get_or, ◌≡◌, ℕ, ◌≤◌, Bool, true, false, ◌||◌, List, ◌++◌, length, map, Option, Some, None, Ok, IfSome, codes, decimal, is_some, IsTrue, [], if◌then◌else◌, not}
+use Rattle.std.proofs.Math.Bool.{or-false}
 use Rattle.std.proofs.lemmas.List.{append-nil, append_cancel_left}
 use Rattle.std.specs.List.{concat, list_all}
 use Rattle.std.specs.Option.{option_map}
@@ -29,7 +30,7 @@ use Rattle.cache_store.specs.Running.{is_timely}
 use Rattle.audit_model.specs.declared.command.Command.TheVariants as says
 use Rattle.audit_model.specs.declared.event.Outcome.TheVariants as came
 use Rattle.cache_commands.proofs.Adding.{answers-add, answers-add-error, answers-add-off, sum-found}
-use Rattle.cache_commands.proofs.Answering.{found-load, stores-nothing, stores-off, stores-value, answers-get, answers-refused, none_succeeded, said, answers-set, answers-sync, keys-written, no-found, undropped, yes-found, or-false}
+use Rattle.cache_commands.proofs.Answering.{found-load, stores-nothing, stores-off, stores-value, answers-get, answers-refused, none_succeeded, said, answers-set, answers-sync, keys-written, no-found, undropped, yes-found}
 use Rattle.cache_commands.proofs.Ordering.{moves-add, moves-del, moves-drop, moves-fault, moves-get, moves-has, moves-keys, moves-off, moves-quit, moves-set, moves-sync}
 use Rattle.cache_commands.proofs.Drawn.{draws-alone, draws-kept, draws-none, draws-registers}
 use Rattle.cache_store.proofs.Few.{few}
@@ -146,7 +147,17 @@ pub answered-off : (now : ℕ) (key bytes : List ℕ) (ms : Option ℕ) (v : Val
     → new ≡ old ++ codes "OFF\n" → IsAnswered now (Ok (says.Set key ms bytes)) None v v old new
 answered-off now key bytes ms v old new sound in_time off w =
     answered-idle now (Ok (says.Set key ms bytes)) v (λ s. codes "OFF\n") old new sound in_time refl refl
-    (λ s a. (w, record { replies = said (codes "OFF\n") (ok_or_off v.frame.config) _ (sym (ap (λ b. if b then text_line (codes "OK") else text_line (codes "OFF")) off)); loads = refl; accepts = ap (λ b. not (is_some (taken_where b (Some (record { key = key; bytes = bytes; ms = ms }))))) off; tells = none_succeeded (map (candidate_at v.frame.config s.latest) s.held ++ []); silent = refl; within = refl }))
+    (λ s a. (
+      w,
+      record {
+        replies = said (codes "OFF\n") (ok_or_off v.frame.config) _ (sym (ap (λ b. if b then text_line (codes "OK") else text_line (codes "OFF")) off));
+        loads = refl;
+        accepts = ap (λ b. not (is_some (taken_where b (Some (record { key = key; bytes = bytes; ms = ms }))))) off;
+        tells = none_succeeded (map (candidate_at v.frame.config s.latest) s.held ++ []);
+        silent = refl;
+        within = refl;
+      },
+    ))
     (λ s. (refl, refl)) (moves-off v.frame.config v.Used v.Used (Ok (says.Set key ms bytes)) off)
 
 pub answered-fault : (now : ℕ) (error : LineError) (v : Values) (old new : List ℕ) → IsSoundStore v → v.frame.latest ≤ now → new ≡ old ++ fault_text error → IsAnswered now (Err error) None v v old new
@@ -166,7 +177,17 @@ answered-has : (now : ℕ) (key reply : List ℕ) (v : Values) (old new : List �
     → IsAnswered now (Ok (says.Has key)) None v v old new
 answered-has now key reply v old new sound in_time found w =
     answered-idle now (Ok (says.Has key)) v (λ s. reply) old new sound in_time refl refl
-    (λ s a. (w, record { replies = said reply (yes_or_no (live_at v.frame.config s.latest s.held key)) _ (subst (λ n. reply ≡ yes_or_no (live_at v.frame.config n s.held key)) (sym a.at) (found s a)); loads = refl; accepts = refl; tells = none_succeeded (map (candidate_at v.frame.config s.latest) s.held ++ []); silent = refl; within = refl }))
+    (λ s a. (
+      w,
+      record {
+        replies = said reply (yes_or_no (live_at v.frame.config s.latest s.held key)) _ (subst (λ n. reply ≡ yes_or_no (live_at v.frame.config n s.held key)) (sym a.at) (found s a));
+        loads = refl;
+        accepts = refl;
+        tells = none_succeeded (map (candidate_at v.frame.config s.latest) s.held ++ []);
+        silent = refl;
+        within = refl;
+      },
+    ))
     (λ s. (refl, refl)) (moves-has v.frame.config v.Used key)
 
 pub answered-yes : (now : ℕ) (key bytes : List ℕ) (v : Values) (old new : List ℕ) → IsSoundStore v → v.frame.latest ≤ now → IsLive v now key (Some bytes) → new ≡ old ++ codes "YES\n"
@@ -183,7 +204,14 @@ answered-keys now number v old before new sound in_time n b w =
     answered-idle now (Ok says.Keys) v (λ s. keys_listed (live_keys_at v.frame.config now s.held)) old new sound in_time refl refl
     (λ s a. let keys = live_keys_at v.frame.config now s.held in (
       keys-written keys number old before new (n s.held a.stands) b (w s.held a.stands),
-      record { replies = said (keys_listed keys) (keys_listed (live_keys_at v.frame.config s.latest s.held)) _ (ap (λ m. keys_listed (live_keys_at v.frame.config m s.held)) (sym a.at)); loads = refl; accepts = refl; tells = none_succeeded (map (candidate_at v.frame.config s.latest) s.held ++ []); silent = refl; within = refl },
+      record {
+        replies = said (keys_listed keys) (keys_listed (live_keys_at v.frame.config s.latest s.held)) _ (ap (λ m. keys_listed (live_keys_at v.frame.config m s.held)) (sym a.at));
+        loads = refl;
+        accepts = refl;
+        tells = none_succeeded (map (candidate_at v.frame.config s.latest) s.held ++ []);
+        silent = refl;
+        within = refl;
+      },
     ))
     (λ s. (refl, refl)) (moves-keys v.frame.config v.Used)
 

@@ -1,5 +1,6 @@
 -- What a store's clauses say, in the words of the definition of steps.
 use Rattle.std.proofs.Common.{arith, refl, sym, ap, ◌∙◌, subst, append_assoc, ◌<◌, ◌≡◌, ℕ, Bool, true, false, not, ◌&&◌, ◌||◌, List, [], ◌∷◌, ◌++◌, map, Option, Some, None, if◌then◌else◌, codes, nat_lt, length, decimal, IsTrue, ◌+◌, is_some, nat_eq}
+use Rattle.std.proofs.Math.Bool.{and-false, or-false}
 use Rattle.std.proofs.lemmas.Bool.{eq-eqb, lt-ltb}
 use Rattle.std.proofs.lemmas.List.{length-map, append-nil}
 use Rattle.std.specs.List.{sum_by, list_all, concat, fold, find}
@@ -15,6 +16,8 @@ use Rattle.audit_model.specs.View.{Candidate}
 use Rattle.audit_model.specs.declared.config.Config.{Config}
 use Rattle.audit_model.specs.declared.event.Outcome.{Outcome}
 use Rattle.audit_model.specs.declared.transcript.Note.{Note}
+use Rattle.cache_store.proofs.Keys.{same_from_equal}
+pub use Rattle.cache_store.proofs.Keys.{same-refl}
 use Rattle.cache_store.specs.Handing.{AppendsNotes}
 use Rattle.cache_store.specs.Promises.{Frame, no_deed, accepting, syncing, value_for, Done, using}
 use Rattle.cache_commands.specs.Loading.{SaysRightly, Stores, Waits}
@@ -22,24 +25,9 @@ use Rattle.cache_commands.specs.Right.{RepliesRightly}
 use Rattle.audit_model.specs.declared.command.Command.TheVariants as says
 use Rattle.audit_model.specs.declared.event.Outcome.TheVariants as came
 
-pub same-refl : (a : List ℕ) → same a a ≡ true
-same-refl [] = refl
-same-refl (x ∷ xs) = ap (λ b. b && same xs xs) (eq-eqb x x refl) ∙ same-refl xs
-
-pub same-of : (a b : List ℕ) → a ≡ b → same a b ≡ true
-same-of a b e = subst (λ c. same a c ≡ true) e (same-refl a)
-
 -- a reply that is the one owed
 pub said : (a b : List ℕ) (other : Bool) → a ≡ b → (same a b || other) ≡ true
-said a b other e = ap (λ t. t || other) (same-of a b e)
-
-and-false : (b : Bool) → (b && false) ≡ false
-and-false true = refl
-and-false false = refl
-
-pub or-false : (b : Bool) → (b || false) ≡ b
-or-false true = refl
-or-false false = refl
+said a b other e = ap (λ t. t || other) (same_from_equal a b e)
 
 -- a step that accepts no `DROPIF`
 pub undropped : (s : Situation) (dropped : Bool) → dropped ≡ s.dropped → dropped ≡ (s.dropped || false)

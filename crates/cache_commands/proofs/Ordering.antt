@@ -102,7 +102,7 @@ moves-keys config Old = record {
 
 -- a `SYNC`
 pub moves-sync : (config : Config) (Old New : Recency)
-    → ((n : ℕ) (b : Bool) (keys : List (List ℕ)) → IsPlainLru config n → Old b keys → New true (take (suc n) keys)) → MovesOrder config Old New (Ok says.Sync)
+    → ((n : ℕ) (is_settled : Bool) (keys : List (List ℕ)) → IsPlainLru config n → Old is_settled keys → New true (take (suc n) keys)) → MovesOrder config Old New (Ok says.Sync)
 moves-sync config Old New moves = record { moves = λ n order plain agrees. go n plain order agrees }
   where
     go : (n : ℕ) → IsPlainLru config n → (order : Order) → AgreesWith Old n order → AgreesWith New n (settled order)

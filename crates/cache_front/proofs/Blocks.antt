@@ -4,7 +4,7 @@ use Rattle.std.specs.Int.{to_le_bytes, from_le_bytes, w64}
 use Rattle.std.proofs.lemmas.List.{append_assoc, drop_at, get_or_at, length_push, length-append, length-take-le, take_at}
 use Rattle.std.proofs.lemmas.Nat.{from_le_bytes-to_le_bytes_8}
 use Rattle.cache_front.specs.Parts.{Stored}
-use Rattle.cache_front.specs.View.{stored}
+use Rattle.cache_front.specs.View.{kept_value}
 use Rattle.cache_front.specs.Blocks.{own_bytes, stored_in, tail_of, time_in_block}
 
 pub own_length : (block : List ℕ) (n : ℕ) → tail_of block ≤ length block → n ≡ length block - tail_of block → n ≡ length (own_bytes block)
@@ -17,7 +17,7 @@ record StandsIn (value : Stored) (block : List ℕ) : Type 0 where
   pub short : length block - tail_of block ≤ 8192
   pub shown : stored_in block ≡ value
 
-plain : (xs : List ℕ) → length xs ≤ 8192 → StandsIn (stored xs None) (xs ++ 1 ∷ [])
+plain : (xs : List ℕ) → length xs ≤ 8192 → StandsIn (kept_value xs None) (xs ++ 1 ∷ [])
 plain xs small =
     let b = xs ++ 1 ∷ [] in
     let long : length b ≡ length xs + 1 = length_push xs 1 in
@@ -29,10 +29,10 @@ plain xs small =
       ends = omega (arith, tail);
       fits = omega (arith, long, tail);
       short = omega (arith, small, long, tail);
-      shown = ap (λ bytes. stored bytes (time_in_block b)) own ∙ ap (stored xs) time;
+      shown = ap (λ bytes. kept_value bytes (time_in_block b)) own ∙ ap (kept_value xs) time;
     }
 
-timed : (xs : List ℕ) (n : ℕ) → length xs ≤ 8192 → n < 2 ^ 64 → StandsIn (stored xs (Some n)) ((xs ++ to_le_bytes w64 n) ++ 9 ∷ [])
+timed : (xs : List ℕ) (n : ℕ) → length xs ≤ 8192 → n < 2 ^ 64 → StandsIn (kept_value xs (Some n)) ((xs ++ to_le_bytes w64 n) ++ 9 ∷ [])
 timed xs n small fits =
     let bytes = to_le_bytes w64 n in
     let b = (xs ++ bytes) ++ 9 ∷ [] in
@@ -56,7 +56,7 @@ timed xs n small fits =
       ends = omega (arith, tail);
       fits = omega (arith, long, most, eight, tail);
       short = omega (arith, small, long, most, eight, tail);
-      shown = ap (λ bytes. stored bytes (time_in_block b)) own ∙ ap (stored xs) time;
+      shown = ap (λ bytes. kept_value bytes (time_in_block b)) own ∙ ap (kept_value xs) time;
     }
 
 -- the same of a block that is known to be of the form
@@ -69,8 +69,8 @@ plain_fits xs block small e = subst (λ b. tail_of b ≤ length b) (sym e) (plai
 pub plain_short : (xs block : List ℕ) → length xs ≤ 8192 → block ≡ xs ++ 1 ∷ [] → length block - tail_of block ≤ 8192
 plain_short xs block small e = subst (λ b. length b - tail_of b ≤ 8192) (sym e) (plain xs small).short
 
-pub plain_shown : (xs block : List ℕ) → length xs ≤ 8192 → block ≡ xs ++ 1 ∷ [] → stored_in block ≡ stored xs None
-plain_shown xs block small e = subst (λ b. stored_in b ≡ stored xs None) (sym e) (plain xs small).shown
+pub plain_shown : (xs block : List ℕ) → length xs ≤ 8192 → block ≡ xs ++ 1 ∷ [] → stored_in block ≡ kept_value xs None
+plain_shown xs block small e = subst (λ b. stored_in b ≡ kept_value xs None) (sym e) (plain xs small).shown
 
 pub timed_ends : (xs block : List ℕ) (n : ℕ) → n < 2 ^ 64 → length xs ≤ 8192 → block ≡ (xs ++ to_le_bytes w64 n) ++ 9 ∷ [] → 1 ≤ tail_of block
 timed_ends xs block n fits small e = subst (λ b. 1 ≤ tail_of b) (sym e) (timed xs n small fits).ends
@@ -81,5 +81,5 @@ timed_fits xs block n fits small e = subst (λ b. tail_of b ≤ length b) (sym e
 pub timed_short : (xs block : List ℕ) (n : ℕ) → n < 2 ^ 64 → length xs ≤ 8192 → block ≡ (xs ++ to_le_bytes w64 n) ++ 9 ∷ [] → length block - tail_of block ≤ 8192
 timed_short xs block n fits small e = subst (λ b. length b - tail_of b ≤ 8192) (sym e) (timed xs n small fits).short
 
-pub timed_shown : (xs block : List ℕ) (n : ℕ) → n < 2 ^ 64 → length xs ≤ 8192 → block ≡ (xs ++ to_le_bytes w64 n) ++ 9 ∷ [] → stored_in block ≡ stored xs (Some n)
-timed_shown xs block n fits small e = subst (λ b. stored_in b ≡ stored xs (Some n)) (sym e) (timed xs n small fits).shown
+pub timed_shown : (xs block : List ℕ) (n : ℕ) → n < 2 ^ 64 → length xs ≤ 8192 → block ≡ (xs ++ to_le_bytes w64 n) ++ 9 ∷ [] → stored_in block ≡ kept_value xs (Some n)
+timed_shown xs block n fits small e = subst (λ b. stored_in b ≡ kept_value xs (Some n)) (sym e) (timed xs n small fits).shown

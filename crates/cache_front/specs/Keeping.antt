@@ -8,7 +8,7 @@ use Rattle.engine_reference.specs.declared.data.Record.{Record}
 use Rattle.engine_reference.specs.Soundness.{Each}
 use Rattle.audit_model.specs.declared.config.Weight.{Weight}
 use Rattle.front_reference.specs.Keeping.{Common, IsKept}
-use Rattle.cache_front.specs.Parts.{Part, Stored, IsProper, settings_of, AreLight, IsBrief}
+use Rattle.cache_front.specs.Parts.{Part, Stored, IsProper, part_settings, AreLight, IsBrief}
 use Rattle.cache_front.specs.Recent.{IsFresh}
 
 -- the frame at a later moment
@@ -25,7 +25,7 @@ belongs_to frame part key = frame.part_of key == part
 
 module _ {S : Type 0} where
   -- what the service adds to what the front keeps
-  pub record IsOwn (frame : Frame) (part step : ℕ) (s : Part S) : Type 0 where
+  pub record IsServicePart (frame : Frame) (part step : ℕ) (s : Part S) : Type 0 where
     pub rules : s.rules ≡ frame.config.weight
     pub proper : Each (IsProperRecord frame part step) s.records
     pub fresh : IsFresh step s
@@ -37,7 +37,7 @@ module _ {S : Type 0} where
   -- the settings with which each part was created
   abbrev pub common_by : Frame → S → Common S Weight
   common_by frame hasher = record {
-    settings = settings_of frame.config frame.made;
+    settings = part_settings frame.config frame.made;
     hasher = hasher;
     rules = frame.config.weight;
   }
@@ -47,7 +47,7 @@ module _ {S : Type 0} where
     -- timely
     pub hasher : S
     pub front : IsKept 63 same (common_by frame hasher) (belongs_to frame part) frame.latest step s
-    pub own : IsOwn frame part step s
+    pub own : IsServicePart frame part step s
     pub reads : length s.reads ≤ 64
     pub taken : s.notices ≡ []
 

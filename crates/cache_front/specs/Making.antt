@@ -3,14 +3,14 @@ use Rattle.std.specs.Prelude.{◌≡◌, ℕ, ◌^◌, true, false, List, []}
 use Rattle.rand_core.specs.Stream.{Stream}
 use Rattle.audit_model.specs.History.{part_count}
 use Rattle.audit_model.specs.declared.config.Config.{Config}
-use Rattle.cache_front.specs.Parts.{settings_of}
+use Rattle.cache_front.specs.Parts.{part_settings}
 use Rattle.cache_store.specs.Values.{Values}
 use Rattle.engine_reference.specs.declared.data.Settings.{Settings}
 use Rattle.front_reference.specs.Fronts.{part_of}
 
 -- the settings of all parts together: the capacity is not divided yet
 abbrev pub whole_settings : Config → (made : ℕ) → Settings
-whole_settings config made = record (settings_of config made) { capacity = config.capacity }
+whole_settings config made = record (part_settings config made) { capacity = config.capacity }
 
 -- it holds nothing and has reported nothing, and no identifier is registered; a key's part is the upper bits of its hash
 pub record IsJustMade (config : Config) (hash : List ℕ → ℕ) (made : ℕ) (stream : Stream)

@@ -54,8 +54,8 @@ policy_of policy.TinyLfu = TinyLfu
 policy_of policy.Lru = Lru
 
 -- the settings with which each part is created
-abbrev pub settings_of : Config → ℕ → Settings
-settings_of config made = record {
+abbrev pub part_settings : Config → ℕ → Settings
+part_settings config made = record {
   capacity = option_map (share config) config.capacity;
   live = option_map nanos config.live_ms;
   idle = option_map nanos config.idle_ms;
@@ -110,8 +110,8 @@ pub record IsProper (frame : Frame) (part step : ℕ) (e : Entry (List ℕ) Stor
 
 -- ---- values held
 
-abbrev pub value_of : ℕ → Entry (List ℕ) Stored → Value
-value_of part e =
+abbrev pub as_value : ℕ → Entry (List ℕ) Stored → Value
+as_value part e =
     record {
       key = e.key;
       bytes = e.value.bytes;
@@ -123,16 +123,16 @@ value_of part e =
 
 module _ {S : Type 0} where
   -- the entry as a held value, apart from whether it may be evicted
-  abbrev pub held_of : ℕ → Part S → Entry (List ℕ) Stored → HeldValue
-  held_of part s e = record {
-    value = value_of part e;
+  abbrev pub as_held_value : ℕ → Part S → Entry (List ℕ) Stored → HeldValue
+  as_held_value part s e = record {
+    value = as_value part e;
     last_use = e.used;
     covered = is_covered service_answers s e;
     evictable = false;
   }
 
   abbrev pub items_in : ℕ → Part S → List HeldValue
-  items_in part s = map (held_of part s) (held_entries s.records)
+  items_in part s = map (as_held_value part s) (held_entries s.records)
 
   -- those of all parts, the first of which has this number
   abbrev pub items_of : ℕ → List (Part S) → List HeldValue
@@ -160,8 +160,8 @@ module _ {S : Type 0} where
 
 module _ {S : Type 0} where
   -- a value is written under its key, in room that was made, and its ticket is sent
-  abbrev pub put : List ℕ → ℕ → Stored → ℕ → ℕ → Part S → Part S
-  put key hash value now step s =
+  abbrev pub value_put : List ℕ → ℕ → Stored → ℕ → ℕ → Part S → Part S
+  value_put key hash value now step s =
       sent s.next_ticket (written service_answers same (with_room s) key hash value now step)
 
   -- what it writes
@@ -169,8 +169,8 @@ module _ {S : Type 0} where
   put_entry s key value now step = first_entry service_answers s key value now step
 
   -- a key is removed, its entry is reported, and the ticket is sent
-  abbrev pub taken_out : List ℕ → ℕ → Part S → Part S
-  taken_out key now s = go (held_at same s.records key)
+  abbrev pub key_taken_out : List ℕ → ℕ → Part S → Part S
+  key_taken_out key now s = go (held_at same s.records key)
     where
       go : Option (Record (List ℕ) Stored) → Part S
       go None = s

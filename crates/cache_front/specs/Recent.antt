@@ -33,17 +33,17 @@ module _ {K V P S R : Type 0} where
   applied s = with_writes s.writes (with_reads s.reads s)
 
 module _ {K V : Type 0} where
-  abbrev pub key_at : List (Record K V) → ℕ → Option K
-  key_at rs n = option_map (λ r. r.entry.key) (record_at rs n)
+  abbrev pub key_numbered : List (Record K V) → ℕ → Option K
+  key_numbered rs n = option_map (λ r. r.entry.key) (record_at rs n)
 
   -- the keys of a list of numbers, in its order
-  abbrev pub keys_in : List (Record K V) → List ℕ → List K
-  keys_in rs ns = filter_map (λ n. key_at rs n) ns
+  abbrev pub keys_numbered : List (Record K V) → List ℕ → List K
+  keys_numbered rs ns = filter_map (λ n. key_numbered rs n) ns
 
 module _ {K V P S R : Type 0} where
   -- the keys of the access list, the most recently used first
   abbrev pub keys_used : State K V P S R → List K
-  keys_used s = reverse (keys_in s.records s.access)
+  keys_used s = reverse (keys_numbered s.records s.access)
 
 -- a value that is held weighs one, and has no deadline of its own
 abbrev pub IsLasting : Record (List ℕ) Stored → Type 0

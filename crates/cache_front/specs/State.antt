@@ -25,14 +25,14 @@ module _ {S : Type 0} where
       over_front config made dropped (hash f.common.hasher) queue stream f
 
   -- the same when the notices of the front were just taken, after the notes of a queue
-  abbrev pub settled : (hash : S → List ℕ → ℕ) → Config → (made : ℕ) → (dropped : Bool)
+  abbrev pub over_drained : (hash : S → List ℕ → ℕ) → Config → (made : ℕ) → (dropped : Bool)
       → List Note → Stream → Lent S → StoreOfParts S
-  settled hash config made dropped queue stream f =
+  over_drained hash config made dropped queue stream f =
       over_front config made dropped (hash f.common.hasher)
       (queue ++ waiting f.parts) stream (record f { parts = all_drained f.parts })
 
   -- it is whole, its values are counted, and the queue has room for a notice of each value
-  pub record IsFit (a : StoreOfParts S) (count capacity : ℕ) : Type 0 where
+  pub record IsFitStore (a : StoreOfParts S) (count capacity : ℕ) : Type 0 where
     pub whole : IsWhole a
     pub counted : count ≡ length (items_of 0 a.parts)
     pub room : length a.queue + count ≤ capacity

@@ -88,12 +88,12 @@ module _ {S : Type 0} where
   -- ---- what a call does to the store
 
   -- these are its parts afterwards, and nothing was reported
-  abbrev pub passed : (now next : ℕ) (parts : List (Part S)) → StoreOfParts S → StoreOfParts S
-  passed now next parts a = record a { frame = at_moment a.frame now; parts = parts; step = next }
+  abbrev pub after_silently : (now next : ℕ) (parts : List (Part S)) → StoreOfParts S → StoreOfParts S
+  after_silently now next parts a = record a { frame = at_moment a.frame now; parts = parts; step = next }
 
   -- these are its parts, and what they reported was taken from them
-  abbrev pub after : (now next : ℕ) (parts : List (Part S)) → StoreOfParts S → StoreOfParts S
-  after now next parts a = record a {
+  abbrev pub after_telling : (now next : ℕ) (parts : List (Part S)) → StoreOfParts S → StoreOfParts S
+  after_telling now next parts a = record a {
     frame = at_moment a.frame now;
     parts = all_drained parts;
     queue = a.queue ++ waiting parts;
@@ -101,12 +101,12 @@ module _ {S : Type 0} where
   }
 
   -- the number and the weight of all parts, as of their last runs, at most 2^64 - 1
-  abbrev pub total_number : List (Part S) → ℕ
-  total_number parts = min (sum_by (λ s. s.number) parts) 18446744073709551615
+  abbrev pub number_in_all : List (Part S) → ℕ
+  number_in_all parts = min (sum_by (λ s. s.number) parts) 18446744073709551615
 
-  abbrev pub total_weight : List (Part S) → ℕ
-  total_weight parts = min (sum_by (λ s. s.weight) parts) 18446744073709551615
+  abbrev pub weight_in_all : List (Part S) → ℕ
+  weight_in_all parts = min (sum_by (λ s. s.weight) parts) 18446744073709551615
 
 -- what is kept of a value
-abbrev pub stored : List ℕ → Option ℕ → Stored
-stored bytes milliseconds = record { bytes = bytes; milliseconds = milliseconds }
+abbrev pub kept_value : List ℕ → Option ℕ → Stored
+kept_value bytes milliseconds = record { bytes = bytes; milliseconds = milliseconds }

@@ -16,7 +16,7 @@ use Rattle.cache_lines.specs.Drawing.{Identifiers, Spends, StepDraws, StepsDraw}
 use Rattle.cache_lines.specs.Tape.Taped.{step_held}
 use Rattle.std.proofs.lemmas.Slice.Eq.{bytes_eq-Decides}
 use Rattle.rand_core.specs.Stream.{Stream}
-use Rattle.cache_store.specs.Identifiers.{drawn, stream_after, Register, KeepsIdentifiers, AreUsedUp}
+use Rattle.cache_store.specs.Identifiers.{next_drawn, stream_left, Register, KeepsIdentifiers, AreUsedUp}
 
 pub keeps-more : (a b c : Stream) (x y z : Register) → KeepsIdentifiers a b x y → KeepsIdentifiers b c y z → KeepsIdentifiers a c x z
 keeps-more a b c x y z k l = record { stream = l.stream ∙ k.stream; registered = λ part id h. k.registered part id (l.registered part id h) }
@@ -25,16 +25,16 @@ keeps-more a b c x y z k l = record { stream = l.stream ∙ k.stream; registered
 pub spends-same : (a : Identifiers) → Spends a a
 spends-same a = spends-none a.stream a.registered
 
-stream_after-more : (m n : ℕ) (stream : Stream) → stream_after m (stream_after n stream) ≡ stream_after (m + n) stream
-stream_after-more zero n stream = let e : n ≡ 0 + n = omega arith in ap (λ k. stream_after k stream) e
-stream_after-more (suc m) n stream =
-    let e : suc (m + n) ≡ suc m + n = omega arith in ap (λ s. (drawn s).1) (stream_after-more m n stream) ∙ ap (λ k. stream_after k stream) e
+stream_left-more : (m n : ℕ) (stream : Stream) → stream_left m (stream_left n stream) ≡ stream_left (m + n) stream
+stream_left-more zero n stream = let e : n ≡ 0 + n = omega arith in ap (λ k. stream_left k stream) e
+stream_left-more (suc m) n stream =
+    let e : suc (m + n) ≡ suc m + n = omega arith in ap (λ s. (next_drawn s).1) (stream_left-more m n stream) ∙ ap (λ k. stream_left k stream) e
 
 -- some are drawn, and more
 pub spends-more : (a b c : Identifiers) → Spends a b → Spends b c → Spends a c
 spends-more a b c s t = record {
   number = t.number + s.number;
-  stream = t.stream ∙ ap (stream_after t.number) s.stream ∙ stream_after-more t.number s.number a.stream;
+  stream = t.stream ∙ ap (stream_left t.number) s.stream ∙ stream_left-more t.number s.number a.stream;
   registered = λ part id h. s.registered part id (t.registered part id h);
 }
 

@@ -24,7 +24,7 @@ use Rattle.cache_run.proofs.Happening.{pending-is, sent-is, IsPlain, quiet-steps
 use Rattle.cache_run.specs.Loading.{AddsNoLoads, IsUnderWay, is_left, loads_under_way_in}
 use Rattle.cache_run.specs.Connected.{HasSituation}
 use Rattle.cache_run.specs.Driver.Drives.{IsOfHand}
-use Rattle.cache_run.specs.Driver.Exchanges.{Doing, EachOut, Keeps, Outs, asks_of, load_number, settling_asking, Exchange, Hands, IsLastInHand, LeavesInHand}
+use Rattle.cache_run.specs.Driver.Exchanges.{Doing, EachOut, ComeIntoHand, Outs, asks_of, load_number, settling_asking, Exchange, Hands, IsLastInHand, LeavesInHand}
 use Rattle.cache_run.specs.Happened.{AreSent, AskForSent, Picks}
 use Rattle.cache_run.specs.Lent.{MayGiveLoads, ExchangeCame, WasDone}
 use Rattle.cache_spaces.specs.Calls as served
@@ -81,7 +81,7 @@ asked-refused hand outs (Some did.Looked) of = tt
 -- ---- loads are taken
 
 -- they come into the hand
-pub gone-same : (was is : BareSpace) (loads : Option Outs) (rest after : Outs) → MayGiveLoads loads was is → Keeps loads rest after → after ++ outgoing_of is ≡ rest ++ outgoing_of was
+pub gone-same : (was is : BareSpace) (loads : Option Outs) (rest after : Outs) → MayGiveLoads loads was is → ComeIntoHand loads rest after → after ++ outgoing_of is ≡ rest ++ outgoing_of was
 gone-same was is None rest after same keeps = ap (λ outs. outs ++ outgoing_of is) keeps ∙ ap (λ y. rest ++ outgoing_of y) same
 gone-same was is (Some loads) rest after t keeps = grind (arith, append-nil)
 
@@ -283,7 +283,7 @@ accounts-done number was is (did.Settled (did.Dropped load asking) moment) hand 
     accounts-out was is hand load asking.key rest leaves (subst (SettlesLoad load was) (sym d.0) (record { later = later-same was; settled = λ taken. unfound load (loads_under_way_in was) d.1 }))
 accounts-done number was is did.Looked hand rest begun leaves d = accounts-none was is hand rest d leaves
 
-accounts-given : (was is : BareSpace) (loads : Option Outs) (rest after : Outs) → MayGiveLoads loads was is → Keeps loads rest after → Accounts was is rest after
+accounts-given : (was is : BareSpace) (loads : Option Outs) (rest after : Outs) → MayGiveLoads loads was is → ComeIntoHand loads rest after → Accounts was is rest after
 accounts-given was is None rest after same keeps = accounts-none was is rest after same keeps
 accounts-given was is (Some loads) rest after t keeps = subst (λ outs. Accounts was is outs after) (sym keeps.0) (subst (λ outs. Accounts was is [] outs) (sym keeps.1) (accounts-taken was is loads t.0 t.1))
 

@@ -2,7 +2,7 @@
 use Rattle.std.proofs.Common.{◌≡◌, ℕ, false, List, [], ◌∷◌, ◌++◌, Option, None, Some, refl, sym, ap, ◌∙◌, subst, inl, inr, ◌≢◌, MatchOption, unwrap_or}
 use Rattle.std.proofs.lemmas.List.{append_assoc, append-nil}
 use Rattle.audit_model.specs.Follows.{Follows}
-use Rattle.audit_model.specs.Situation.{Situation, key_in}
+use Rattle.audit_model.specs.Situation.{Situation, pending_key}
 use Rattle.audit_model.specs.declared.config.Config.{Config}
 use Rattle.audit_model.specs.declared.event.Event.{Event}
 use Rattle.audit_model.specs.declared.transcript.Note.{Note}
@@ -26,7 +26,7 @@ use Rattle.cache_run.proofs.Happening.{goes-by, own-replies, happened-so, situat
 use Rattle.cache_core.specs.Settling.{answering, giving_up}
 use Rattle.cache_run.specs.Connected.{HasSituation, HasTakenReplies, IsFed}
 use Rattle.cache_run.specs.Driver.Exchanges as did
-use Rattle.cache_run.specs.Driver.Exchanges.{Doing, Exchange, Outs, AreDone, Chain, Hands, HaveClosed, Keeps, LeavesInHand, LeavesNothing, asks_of, askings_in, bytes_fed, moments_in, pieces_in, replies_in, readings_of}
+use Rattle.cache_run.specs.Driver.Exchanges.{Doing, Exchange, Outs, AreDone, Chain, Hands, HaveClosed, ComeIntoHand, LeavesInHand, LeavesNothing, asks_of, askings_in, bytes_fed, moments_in, pieces_in, replies_in, readings_of}
 use Rattle.cache_run.specs.Lent.{ExchangeCame, WasDone, MayGiveLoads}
 use Rattle.std.specs.List.{last_or}
 use Rattle.std.proofs.lemmas.Option.{none-some, same_Some}
@@ -58,8 +58,8 @@ settled-goes number was is happened asking hand rest load moment after text none
     (texts ∙ turned.outputs number ∙ ap (λ o. o ++ replies_to number entry.steps) none ∙ own-replies number entry.steps own ∙ sym (append-nil (record_replies entry))))
 
 -- no load of that number is under way in any situation that the namespace stands for
-unknown-there : (was : BareSpace) (s : Situation) (load : ℕ) → StandsFor was s → (known_of was).is_under_way load ≡ false → key_in load s ≡ None
-unknown-there was s load stands unknown = ap (λ (t : Situation). key_in load t) stands.is ∙ none-where (key_in load (situation_with shown_of was [])) unknown
+unknown-there : (was : BareSpace) (s : Situation) (load : ℕ) → StandsFor was s → (known_of was).is_under_way load ≡ false → pending_key load s ≡ None
+unknown-there was s load stands unknown = ap (λ (t : Situation). pending_key load t) stands.is ∙ none-where (pending_key load (situation_with shown_of was [])) unknown
 
 -- the last of the loads in hand was not under way, and what the loader said, which was asked by its key, was dropped
 pub dropped-goes : (number : ℕ) (x : BareSpace) (asking : Asking) (hand rest : Outs) (load moment : ℕ) (after : List Note) (text : List ℕ) → untaken_output x number ≡ [] → text ≡ untaken_output x number → after ≡ untaken_notes x → did.IsLastInHand hand load asking.key rest
@@ -159,7 +159,7 @@ notes-given was is None same = ap untaken_notes same
 notes-given was is (Some loads) t = ap untaken_notes (taken-same was is loads t.1)
 
 -- and the situation stays
-goes-given : (number : ℕ) (was is : BareSpace) (loads : Option Outs) (rest after : Outs) → MayGiveLoads loads was is → Keeps loads rest after
+goes-given : (number : ℕ) (was is : BareSpace) (loads : Option Outs) (rest after : Outs) → MayGiveLoads loads was is → ComeIntoHand loads rest after
     → LeadsOnAlone number was is (λ s t. (s ≡ t) × (AreKnown rest s → AreKnown after t))
 goes-given number was is None rest after same keeps =
     subst (λ y. LeadsOnAlone number was y (λ s t. (s ≡ t) × (AreKnown rest s → AreKnown after t))) (sym same)

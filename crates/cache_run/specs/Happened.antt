@@ -4,7 +4,7 @@ use Rattle.std.specs.List.{flat_map, list_all}
 use Rattle.audit_laws.specs.Waiting.Sending.{IsSettlingOf}
 use Rattle.audit_model.specs.Belongs.{refusal_of_outcome}
 use Rattle.audit_model.specs.Follows.{after_records}
-use Rattle.audit_model.specs.Situation.{Situation, key_in}
+use Rattle.audit_model.specs.Situation.{Situation, pending_key}
 use Rattle.audit_model.specs.declared.config.Config.{Config}
 use Rattle.audit_model.specs.declared.event.Event.{Event}
 use Rattle.audit_model.specs.declared.event.Event.TheVariants as event
@@ -88,8 +88,8 @@ AreRight config (turn ∷ turns) = IsRight config turn × AreRight config turns
 
 -- this is the key of the load under way that is answered or given up
 abbrev pub IsKeyOf : Situation → Event → List ℕ → Type 0
-IsKeyOf s (event.Answer load outcome moment) key = key_in load s ≡ Some key
-IsKeyOf s (event.GiveUp load moment) key = key_in load s ≡ Some key
+IsKeyOf s (event.Answer load outcome moment) key = pending_key load s ≡ Some key
+IsKeyOf s (event.GiveUp load moment) key = pending_key load s ≡ Some key
 IsKeyOf s happened key = Unit {0}
 
 -- ---- the loads that were sent
@@ -125,7 +125,7 @@ IsInPlace outs s (Settled asking moment entry) left =
     IsKeyOf s entry.event asking.key
     × ((load : ℕ) × IsSettlingOf load entry.event × Picks load asking.key outs left)
 IsInPlace outs s (Dropped asking moment load) left =
-    (key_in load s ≡ None) × Picks load asking.key outs left
+    (pending_key load s ≡ None) × Picks load asking.key outs left
 
 -- Each turn is like this in the situation to which the turns before it lead: the loads for which the loader may be asked are these, without
 -- those for which it was, and those that were sent since. And that is true of those that are left at the end.

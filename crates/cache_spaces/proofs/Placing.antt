@@ -6,7 +6,7 @@ use Rattle.std.proofs.lemmas.Option.{slice_get_within, same_Some}
 use Rattle.audit_model.specs.declared.input.ServiceError.{ServiceError}
 use Rattle.cache_core.proofs.connections.Getting.{at-replaced, set-same, at-other, at-place}
 use Rattle.cache_spaces.specs.Calls.{At, InSpace, Refuses, IsOpened, IsUnknown, TakesOutput}
-use Rattle.cache_spaces.specs.Spaces.{Space, untaken_output, was_opened}
+use Rattle.cache_spaces.specs.Spaces.{Space, untaken_output, has_opened}
 use Rattle.audit_model.specs.declared.input.ServiceError.TheVariants as error
 
 -- what was put stands there
@@ -108,12 +108,12 @@ opened true refused = refl
 opened false refused = refused refl
 
 module _ {T : Type 0} (was : Space T) (number : ℕ) where
-  pub takes-output : (is : Space T) (r : Result (Vec ℕ Global) ServiceError) → IfOk r (λ text. (text.items ≡ untaken_output was number) × (is ≡ record was { outputs = slice_set was.outputs (number - 1) [] })) → IsErr r ↔ (was_opened was number ≡ false)
+  pub takes-output : (is : Space T) (r : Result (Vec ℕ Global) ServiceError) → IfOk r (λ text. (text.items ≡ untaken_output was number) × (is ≡ record was { outputs = slice_set was.outputs (number - 1) [] })) → IsErr r ↔ (has_opened was number ≡ false)
       → IfOk r (λ text. TakesOutput was is number text.items)
-  takes-output is (Ok text) taken refused = record { opened = opened (was_opened was number) refused.1; taken = taken.0; rest = taken.1 }
+  takes-output is (Ok text) taken refused = record { opened = opened (has_opened was number) refused.1; taken = taken.0; rest = taken.1 }
   takes-output is (Err e) taken refused = taken
 
-  pub unknown : {A : Type 0} (r : Result A ServiceError) → IsErr r ↔ (was_opened was number ≡ false) → IfErr r (λ e. e ≡ error.NoConnection) → IfErr r (λ e. IsUnknown was number e)
+  pub unknown : {A : Type 0} (r : Result A ServiceError) → IsErr r ↔ (has_opened was number ≡ false) → IfErr r (λ e. e ≡ error.NoConnection) → IfErr r (λ e. IsUnknown was number e)
   unknown (Ok a) refused none = none
   unknown (Err e) refused none = record { unknown = refused.0 refl; error = none }
 
@@ -121,6 +121,6 @@ module _ {T : Type 0} (was : Space T) (number : ℕ) where
   first-of Same (Ok a) both = both
   first-of Same (Err e) both = both.0
 
-  pub looked : {A : Type 0} (Fact : A → Type 0) (r : Result A ServiceError) → IfOk r Fact → IsErr r ↔ (was_opened was number ≡ false) → IfOk r (λ a. IsOpened was number × Fact a)
-  looked Fact (Ok a) fact refused = (opened (was_opened was number) refused.1, fact)
+  pub looked : {A : Type 0} (Fact : A → Type 0) (r : Result A ServiceError) → IfOk r Fact → IsErr r ↔ (has_opened was number ≡ false) → IfOk r (λ a. IsOpened was number × Fact a)
+  looked Fact (Ok a) fact refused = (opened (has_opened was number) refused.1, fact)
   looked Fact (Err e) fact refused = fact

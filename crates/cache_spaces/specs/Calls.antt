@@ -22,7 +22,7 @@ use Rattle.cache_core.specs.Owing as owing
 use Rattle.cache_core.specs.State.{situation_with}
 use Rattle.cache_core.specs.declared.owing.Owed.{Owed}
 use Rattle.cache_core.specs.Turned.{RefusesBy, ContinuesBy, IsSameNamespace, Turned}
-use Rattle.cache_spaces.specs.Spaces.{Space, untaken_notes, outgoing_of, place_of, taken_of, untaken_output, was_opened, StandsFor, shown_of}
+use Rattle.cache_spaces.specs.Spaces.{Space, untaken_notes, outgoing_of, place_of, taken_of, untaken_output, has_opened, StandsFor, shown_of}
 use Rattle.audit_model.specs.declared.event.Event.TheVariants as event
 use Rattle.audit_model.specs.declared.input.ServiceError.TheVariants as error
 use Rattle.audit_model.specs.declared.input.Input.TheVariants as input
@@ -80,11 +80,11 @@ module _ {T : Type 0} where
 
   -- the connection was opened
   abbrev pub IsOpened : Space T → ℕ → Type 0
-  IsOpened space number = was_opened space number ≡ true
+  IsOpened space number = has_opened space number ≡ true
 
   -- it was never opened
   pub record IsUnknown (space : Space T) (number : ℕ) (e : ServiceError) : Type 0 where
-    pub unknown : was_opened space number ≡ false
+    pub unknown : has_opened space number ≡ false
     pub error : e ≡ error.NoConnection
 
   -- the replies of a connection that was opened are moved out, and nothing else changes

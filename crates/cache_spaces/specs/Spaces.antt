@@ -84,8 +84,8 @@ module _ {T : Type 0} where
   closing_of space number = state.closing_in space number
 
   -- a connection of it was opened
-  abbrev pub was_opened : Space T → ℕ → Bool
-  was_opened space number = state.was_opened_in space number
+  abbrev pub has_opened : Space T → ℕ → Bool
+  has_opened space number = state.was_opened_in space number
 
   -- a `LOAD` of a connection waits
   abbrev pub is_waiting_for : Space T → ℕ → Bool

@@ -1,11 +1,12 @@
 -- A call tells no more notes than there are values, and one more.
-use Rattle.std.proofs.Common.{◌≡◌, refl, ap, ◌∙◌, sym, ℕ, suc, ◌+◌, ◌≤◌, arith, Bool, true, false, true≢false, ◌&&◌, List, [], ◌∷◌, length, Option, option_map, Some, None, option_to_list}
+use Rattle.std.proofs.Common.{◌≡◌, ap, ◌∙◌, ℕ, suc, ◌+◌, ◌≤◌, arith, true, true≢false, List, [], ◌∷◌, length, Option, option_map, Some, None, option_to_list}
+use Rattle.std.proofs.lemmas.Bool.{and_parts}
 use Rattle.std.proofs.lemmas.List.{length-append, length-map}
 use Rattle.std.proofs.lemmas.Option.{none-some}
 use Rattle.audit_model.specs.Bytewise.{same}
 use Rattle.audit_model.specs.Commands.{Covering, Deed, Everything, Nothing, Prefixed}
 use Rattle.audit_model.specs.History.{Value}
-use Rattle.audit_model.specs.Notes.{are_true_notes, candidates_of, first_of, newcomer}
+use Rattle.audit_model.specs.Notes.{are_true_notes, candidates_of, first_with_key, newcomer}
 use Rattle.audit_model.specs.Situation.{candidate_at}
 use Rattle.audit_model.specs.Values.{without_key}
 use Rattle.audit_model.specs.View.{Candidate}
@@ -13,23 +14,15 @@ use Rattle.audit_model.specs.declared.config.Config.{Config}
 use Rattle.audit_model.specs.declared.transcript.Note.{Note}
 use Rattle.cache_store.specs.Values.{Does, HandsBy, IsSoundStore, Values}
 
-first-part : (a b : Bool) → (a && b) ≡ true → a ≡ true
-first-part true b h = refl
-first-part false b h = h
-
-second-part : (a b : Bool) → (a && b) ≡ true → b ≡ true
-second-part true b h = h
-second-part false b h = absurd (true≢false (sym h))
-
 -- ---- each note tells one of the values
 
-shorter : (key : List ℕ) (cs : List Candidate) (c : Candidate) → first_of key cs ≡ Some c → suc (length (without_key (λ (c : Candidate). c.value.key) key cs)) ≡ length cs
+shorter : (key : List ℕ) (cs : List Candidate) (c : Candidate) → first_with_key key cs ≡ Some c → suc (length (without_key (λ (c : Candidate). c.value.key) key cs)) ≡ length cs
 shorter key [] c found = absurd (none-some c found)
 shorter key (x ∷ cs) c found = grind (arith, shorter key cs c)
 
 notes-few : (config : Config) (held : List Candidate) (deed : Deed) (cs : List Candidate) (notes : List Note) → are_true_notes config held deed cs notes ≡ true → length notes ≤ length cs
 notes-few config held deed cs [] h = omega arith
-notes-few config held deed cs (note ∷ notes) h = grind (arith, first-part, notes-few config held deed (without_key (λ (c : Candidate). c.value.key) note.key cs) notes, second-part, true≢false, shorter note.key cs)
+notes-few config held deed cs (note ∷ notes) h = grind (arith, and_parts, notes-few config held deed (without_key (λ (c : Candidate). c.value.key) note.key cs) notes, true≢false, shorter note.key cs)
 
 one-more : (config : Config) (o : Option Value) → length (option_to_list (option_map (newcomer config) o)) ≤ 1
 one-more config None = omega arith

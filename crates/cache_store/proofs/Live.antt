@@ -2,35 +2,27 @@
 use Rattle.audit_model.specs.Bytewise.{same}
 use Rattle.audit_model.specs.Situation.{HeldValue, is_live_at}
 use Rattle.audit_model.specs.declared.config.Config.{Config}
-use Rattle.cache_store.specs.Held.{if_live, live_in, plain, Corresponds, value_at, is_absent, are_apart}
+use Rattle.cache_store.specs.Held.{if_live, live_in, plain, Corresponds, value_at, is_absent, have_own_keys}
 use Rattle.cache_store.proofs.Keys.{equal_from_same}
-use Rattle.std.proofs.Common.{◌≡◌, ℕ, Bool, cond, true, false, not, ◌&&◌, List, [], ◌∷◌, Option, option_map, Some, None, if◌then◌else◌, refl, sym, ap, ◌∙◌, subst, arith}
+use Rattle.std.proofs.Common.{◌≡◌, ℕ, cond, true, not, ◌&&◌, List, [], ◌∷◌, Option, option_map, Some, None, refl, ap, ◌∙◌, arith}
 use Rattle.std.proofs.lemmas.Bool.{and_parts, not-true}
 use Rattle.std.specs.List.{find}
 
 -- ---- look-ups
 
 -- the live value of a key, among the values held
-find_live : (config : Config) (now : ℕ) (key : List ℕ) (held : List HeldValue) → are_apart held ≡ true
+find_live : (config : Config) (now : ℕ) (key : List ℕ) (held : List HeldValue) → have_own_keys held ≡ true
     → find (λ h. same key h.value.key && is_live_at config now h) held ≡ if_live config now (value_at held key)
 find_live config now key [] a = refl
 find_live config now key (h ∷ held) a =
-    go (same key h.value.key) (is_live_at config now h) refl refl (find_live config now key held (and_parts (is_absent h.value.key held) (are_apart held) a).1)
+    let parts = and_parts (is_absent h.value.key held) (have_own_keys held) a in
+    grind (arith, parts, find_live config now key held, none_live held, equal_from_same key h.value.key)
   where
     none_live : (xs : List HeldValue) → is_absent key xs ≡ true → find (λ g. same key g.value.key && is_live_at config now g) xs ≡ None
     none_live [] absent = refl
     none_live (g ∷ xs) absent =
         let parts = and_parts (not (same key g.value.key)) (is_absent key xs) absent in
         ap (λ b. cond (b && is_live_at config now g) (Some g) (find (λ g. same key g.value.key && is_live_at config now g) xs)) (not-true _ parts.0) ∙ none_live xs parts.1
-
-    go : (b l : Bool) → same key h.value.key ≡ b → is_live_at config now h ≡ l
-        → find (λ g. same key g.value.key && is_live_at config now g) held ≡ if_live config now (value_at held key)
-        → cond (b && l) (Some h) (find (λ g. same key g.value.key && is_live_at config now g) held) ≡ if_live config now (cond b (Some h) (value_at held key))
-    go true true e f next = ap (λ x. if x then Some h else None) (sym f)
-    go true false e f next =
-        none_live held (subst (λ k. is_absent k held ≡ true) (sym (equal_from_same key h.value.key e)) (and_parts (is_absent h.value.key held) (are_apart held) a).0)
-        ∙ ap (λ x. if x then Some h else None) (sym f)
-    go false l e f next = next
 
 if_live-plain : (config : Config) (now : ℕ) (o : Option HeldValue) → option_map plain (if_live config now o) ≡ if_live config now (option_map plain o)
 if_live-plain config now None = refl

@@ -1,6 +1,6 @@
 -- Keys in byte order, and which of them are live.
-use Rattle.std.proofs.Common.{◌≡◌, ℕ, suc, Bool, cond, true, false, List, [], ◌∷◌, ◌++◌, length, Some, if◌then◌else◌, refl, sym, ap, ◌∙◌, subst, arith, true≢false, not, ◌&&◌, ◌||◌}
-use Rattle.std.proofs.lemmas.Bool.{and_parts, and_from, not-true}
+use Rattle.std.proofs.Common.{inl, inr, ◌≡◌, ℕ, suc, Bool, cond, true, false, List, [], ◌∷◌, ◌++◌, length, Some, if◌then◌else◌, refl, sym, ap, ◌∙◌, arith, true≢false, not, ◌&&◌, ◌||◌}
+use Rattle.std.proofs.lemmas.Bool.{and_parts, and_from, cases_Bool, not-true}
 use Rattle.std.proofs.lemmas.Cmp.{nat_list_cmp_total}
 use Rattle.std.proofs.lemmas.Map.Text.{is_eq-slice_cmp}
 use Rattle.std.proofs.lemmas.Option.{none-some}
@@ -14,10 +14,10 @@ use Rattle.audit_model.specs.Recency.{keys_without}
 use Rattle.audit_model.specs.Situation.{HeldValue, is_live_at, live_keys_at}
 use Rattle.audit_model.specs.Values.{put_sorted, sorted}
 use Rattle.audit_model.specs.declared.config.Config.{Config}
-use Rattle.cache_store.proofs.Held.{corresponds-without, none_from_absent}
+use Rattle.cache_store.proofs.Held.{corresponds-items_without, none_from_absent}
 use Rattle.cache_store.proofs.Keys.{equal_from_same, same-refl, same-flip_false, same_from_equal}
-use Rattle.cache_store.specs.Among.{are_distinct, has_live, is_among}
-use Rattle.cache_store.specs.Held.{value_at, without, is_absent, are_apart, Corresponds}
+use Rattle.cache_store.specs.Among.{are_distinct, has_live, is_among_keys}
+use Rattle.cache_store.specs.Held.{value_at, items_without, is_absent, have_own_keys, Corresponds}
 
 abbrev pub order : List ℕ → List ℕ → Ordering
 order a b = slice_cmp nat_cmp a b
@@ -57,7 +57,16 @@ two a b rest e f = grind (arith, stand a b, put_before a b rest, put_behind b a 
 -- two keys may be put in either order
 pub put_either : (a b : List ℕ) (xs : List (List ℕ)) → put_sorted a (put_sorted b xs) ≡ put_sorted b (put_sorted a xs)
 put_either a b [] = two a b [] refl refl
-put_either a b (x ∷ xs) = grind (arith, put_either a b xs, stand b a, before_trans b a x, stand a b, before_trans a b x, put_before b x xs, two a b (x ∷ xs), put_before a x xs, put_behind b x xs, put_before a x (put_sorted b xs), put_behind b a (x ∷ xs), put_behind a b (x ∷ xs), put_behind a x xs, put_before b x (put_sorted a xs), put_behind a x (put_sorted b xs), put_behind b x (put_sorted a xs))
+put_either a b (x ∷ xs) =
+    let trans = before_trans a b x in
+    let two2 = two a b (x ∷ xs) in
+    let before = put_before a x (put_sorted b xs) in
+    let behind = put_behind b a (x ∷ xs) in
+    let put = put_behind a b (x ∷ xs) in
+    let put2 = put_before b x (put_sorted a xs) in
+    let put3 = put_behind a x (put_sorted b xs) in
+    let put4 = put_behind b x (put_sorted a xs) in
+    grind (arith, put_either a b xs, stand b a, before_trans b a x, stand a b, trans, put_before b x xs, two2, put_before a x xs, put_behind b x xs, before, behind, put, put_behind a x xs, put2, put3, put4)
 
 -- a key at the end
 pub sorted-push : (xs : List (List ℕ)) (k : List ℕ) → sorted (xs ++ k ∷ []) ≡ put_sorted k (sorted xs)
@@ -81,90 +90,79 @@ pub live-cons : (config : Config) (now : ℕ) (h : HeldValue) (items : List Held
 live-cons config now h items = grind arith
 
 pub put_if-either : (b c : Bool) (k l : List ℕ) (xs : List (List ℕ)) → put_if b k (put_if c l xs) ≡ put_if c l (put_if b k xs)
-put_if-either true true k l xs = put_either k l xs
-put_if-either true false k l xs = refl
-put_if-either false true k l xs = refl
-put_if-either false false k l xs = refl
+put_if-either b c k l xs = grind (arith, put_either k l xs)
 
 live-taken : (config : Config) (now : ℕ) (key : List ℕ) (held : List HeldValue) (h : HeldValue) → value_at held key ≡ Some h
-    → live_keys_at config now held ≡ put_if (is_live_at config now h) h.value.key (live_keys_at config now (without key held))
+    → live_keys_at config now held ≡ put_if (is_live_at config now h) h.value.key (live_keys_at config now (items_without key held))
 live-taken config now key [] h e = absurd (none-some h e)
-live-taken config now key (g ∷ held) h e = go (same key g.value.key) (λ (e : value_at held key ≡ Some h). live-taken config now key held h e) e
-  where
-    go : (b : Bool)
-        → (value_at held key ≡ Some h → live_keys_at config now held ≡ put_if (is_live_at config now h) h.value.key (live_keys_at config now (without key held)))
-        → cond b (Some g) (value_at held key) ≡ Some h
-        → live_keys_at config now (g ∷ held) ≡ put_if (is_live_at config now h) h.value.key (live_keys_at config now (cond b held (g ∷ without key held)))
-    go true next e = let is : g ≡ h = cc in subst (λ x. live_keys_at config now (g ∷ held) ≡ put_if (is_live_at config now x) x.value.key (live_keys_at config now held)) is (live-cons config now g held)
-    go false next e =
-        live-cons config now g held ∙ ap (put_if (is_live_at config now g) g.value.key) (next e)
-        ∙ put_if-either (is_live_at config now g) (is_live_at config now h) g.value.key h.value.key (live_keys_at config now (without key held))
-        ∙ sym (ap (put_if (is_live_at config now h) h.value.key) (live-cons config now g (without key held)))
+live-taken config now key (g ∷ held) h e =
+    let either = put_if-either (is_live_at config now g) (is_live_at config now h) g.value.key h.value.key (live_keys_at config now (items_without key held)) in
+    grind (arith, live-taken config now key held h, live-cons config now g held, live-cons config now g (items_without key held), either)
 
 -- the live keys are those of the items
-pub live_keys_are : (config : Config) (now : ℕ) (items held : List HeldValue) → are_apart items ≡ true → Corresponds items held → live_keys_at config now held ≡ live_keys_at config now items
+pub live_keys_are : (config : Config) (now : ℕ) (items held : List HeldValue) → have_own_keys items ≡ true → Corresponds items held → live_keys_at config now held ≡ live_keys_at config now items
 live_keys_are config now [] [] a c = refl
 live_keys_are config now [] (h ∷ held) a c = absurd (let n : suc (length held) ≡ 0 = c.number in omega arith)
-live_keys_are config now (t ∷ items) held a c = grind (arith, live_keys_are config now items (without t.value.key held) (and_parts (is_absent t.value.key items) (are_apart items) a).1, and_parts (is_absent t.value.key items) (are_apart items) a, corresponds-without t.value.key (t ∷ items) held a c, same-refl t.value.key, none-some t, live-taken config now t.value.key held, live-cons config now t items)
+live_keys_are config now (t ∷ items) held a c =
+    let are = live_keys_are config now items (items_without t.value.key held) (and_parts (is_absent t.value.key items) (have_own_keys items) a).1 in
+    let parts = and_parts (is_absent t.value.key items) (have_own_keys items) a in
+    grind (arith, are, parts, corresponds-items_without t.value.key (t ∷ items) held a c, same-refl t.value.key, none-some t, live-taken config now t.value.key held, live-cons config now t items)
 
 -- The live keys in byte order are those of any list that has each of them once.
 
 -- ---- keys without one
 
 -- which keys are among the others
-among-without : (key q : List ℕ) (keys : List (List ℕ)) → is_among q (keys_without key keys) ≡ (not (same q key) && is_among q keys)
+among-without : (key q : List ℕ) (keys : List (List ℕ)) → is_among_keys q (keys_without key keys) ≡ (not (same q key) && is_among_keys q keys)
 among-without key q [] = grind arith
 among-without key q (k ∷ keys) = grind (arith, among-without key q keys, equal_from_same k key, equal_from_same q key, same-flip_false k key)
 
 distinct-without : (key : List ℕ) (keys : List (List ℕ)) → are_distinct keys ≡ true → are_distinct (keys_without key keys) ≡ true
 distinct-without key [] d = refl
-distinct-without key (k ∷ keys) d = grind (arith, and_parts (not (is_among k keys)) (are_distinct keys) d, distinct-without key keys, and_from, among-without key k keys)
+distinct-without key (k ∷ keys) d = grind (arith, and_parts (not (is_among_keys k keys)) (are_distinct keys) d, distinct-without key keys, and_from, among-without key k keys)
 
 -- where it is not there the others are all
-without-none : (key : List ℕ) (keys : List (List ℕ)) → is_among key keys ≡ false → keys_without key keys ≡ keys
+without-none : (key : List ℕ) (keys : List (List ℕ)) → is_among_keys key keys ≡ false → keys_without key keys ≡ keys
 without-none key [] e = refl
 without-none key (k ∷ keys) e = grind (arith, without-none key keys, true≢false, same-flip_false key k)
 
 -- a key that is there may be put last
-sorted-taken : (key : List ℕ) (keys : List (List ℕ)) → are_distinct keys ≡ true → is_among key keys ≡ true → sorted keys ≡ put_sorted key (sorted (keys_without key keys))
+sorted-taken : (key : List ℕ) (keys : List (List ℕ)) → are_distinct keys ≡ true → is_among_keys key keys ≡ true → sorted keys ≡ put_sorted key (sorted (keys_without key keys))
 sorted-taken key [] d there = absurd (true≢false (sym there))
-sorted-taken key (k ∷ keys) d there = grind (arith, and_parts (not (is_among k keys)) (are_distinct keys) d, sorted-taken key keys, equal_from_same key k, without-none key keys, not-true (is_among k keys), same_from_equal k key, put_either k key (sorted (keys_without key keys)), same-flip_false key k)
+sorted-taken key (k ∷ keys) d there =
+    let parts = and_parts (not (is_among_keys k keys)) (are_distinct keys) d in
+    grind (arith, parts, sorted-taken key keys, equal_from_same key k, without-none key keys, not-true (is_among_keys k keys), same_from_equal k key, put_either k key (sorted (keys_without key keys)), same-flip_false key k)
 
 -- ---- the live keys
 
 module _ (config : Config) (now : ℕ) where
-  none-live : (keys : List (List ℕ)) → ((q : List ℕ) → is_among q keys ≡ false) → keys ≡ []
+  none-live : (keys : List (List ℕ)) → ((q : List ℕ) → is_among_keys q keys ≡ false) → keys ≡ []
   none-live [] none = refl
-  none-live (k ∷ keys) none = absurd (true≢false (ap (λ b. b || is_among k keys) (sym (same-refl k)) ∙ none k))
+  none-live (k ∷ keys) none = absurd (true≢false (ap (λ b. b || is_among_keys k keys) (sym (same-refl k)) ∙ none k))
 
-  pub live_keys_from : (items : List HeldValue) (keys : List (List ℕ)) → are_apart items ≡ true → are_distinct keys ≡ true → ((q : List ℕ) → is_among q keys ≡ has_live config now items q) → live_keys_at config now items ≡ sorted keys
+  pub live_keys_from : (items : List HeldValue) (keys : List (List ℕ)) → have_own_keys items ≡ true → are_distinct keys ≡ true → ((q : List ℕ) → is_among_keys q keys ≡ has_live config now items q) → live_keys_at config now items ≡ sorted keys
   live_keys_from [] keys a d among = sym (ap sorted (none-live keys among))
   live_keys_from (h ∷ items) keys a d among =
-      let parts = and_parts (is_absent h.value.key items) (are_apart items) a in
-      live-cons config now h items ∙ go (is_live_at config now h) refl parts.0 (λ others distinct each. live_keys_from items others parts.1 distinct each)
+      let parts = and_parts (is_absent h.value.key items) (have_own_keys items) a in
+      live-cons config now h items ∙ elim (cases_Bool (is_live_at config now h)) [
+        | inl live ↦ rw live
+            (ap (put_sorted h.value.key) (live_keys_from items (keys_without h.value.key keys) parts.1 (distinct-without h.value.key keys d) (others parts.0))
+            ∙ sym (sorted-taken h.value.key keys d (own ∙ live)))
+        | inr dead ↦ rw dead (live_keys_from items keys parts.1 d (alike parts.0 dead))
+      ]
     where
-      own : is_among h.value.key keys ≡ is_live_at config now h
+      own : is_among_keys h.value.key keys ≡ is_live_at config now h
       own = among h.value.key ∙ ap (λ b. option_map_or (is_live_at config now) (cond b (Some h) (value_at items h.value.key)) false) (same-refl h.value.key)
 
       -- the key's own value is the only one
       gone : (q : List ℕ) → is_absent h.value.key items ≡ true → same q h.value.key ≡ true → has_live config now items q ≡ false
       gone q absent e = ap (λ o. option_map_or (is_live_at config now) o false) (ap (value_at items) (equal_from_same q h.value.key e) ∙ none_from_absent h.value.key items absent)
 
-      other : (q : List ℕ) → same q h.value.key ≡ false → is_among q keys ≡ has_live config now items q
+      other : (q : List ℕ) → same q h.value.key ≡ false → is_among_keys q keys ≡ has_live config now items q
       other q e = among q ∙ ap (λ b. option_map_or (is_live_at config now) (cond b (Some h) (value_at items q)) false) e
 
-      go : (b : Bool) → is_live_at config now h ≡ b → is_absent h.value.key items ≡ true
-          → ((others : List (List ℕ)) → are_distinct others ≡ true → ((q : List ℕ) → is_among q others ≡ has_live config now items q) → live_keys_at config now items ≡ sorted others)
-          → put_if b h.value.key (live_keys_at config now items) ≡ sorted keys
-      go true live absent later =
-          ap (put_sorted h.value.key) (later (keys_without h.value.key keys) (distinct-without h.value.key keys d) (λ q. among-without h.value.key q keys ∙ by_key q (same q h.value.key) refl))
-          ∙ sym (sorted-taken h.value.key keys d (own ∙ live))
-        where
-          by_key : (q : List ℕ) (c : Bool) → same q h.value.key ≡ c → (not (same q h.value.key) && is_among q keys) ≡ has_live config now items q
-          by_key q true e = ap (λ x. not x && is_among q keys) e ∙ sym (gone q absent e)
-          by_key q false e = ap (λ x. not x && is_among q keys) e ∙ other q e
-      go false dead absent later = later keys d (λ q. by_key q (same q h.value.key) refl)
-        where
-          by_key : (q : List ℕ) (c : Bool) → same q h.value.key ≡ c → is_among q keys ≡ has_live config now items q
-          by_key q true e = ap (λ x. is_among x keys) (equal_from_same q h.value.key e) ∙ own ∙ dead ∙ sym (gone q absent e)
-          by_key q false e = other q e
+      others : is_absent h.value.key items ≡ true → (q : List ℕ) → is_among_keys q (keys_without h.value.key keys) ≡ has_live config now items q
+      others absent q = grind (arith, among-without h.value.key q keys, gone q absent, other q)
+
+      alike : is_absent h.value.key items ≡ true → is_live_at config now h ≡ false → (q : List ℕ) → is_among_keys q keys ≡ has_live config now items q
+      alike absent dead q = grind (arith, gone q absent, other q, own, equal_from_same q h.value.key)

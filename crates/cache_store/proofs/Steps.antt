@@ -9,20 +9,17 @@ use Rattle.audit_model.specs.declared.transcript.Note.{Note}
 use Rattle.cache_store.specs.Promises.{no_deed}
 use Rattle.cache_store.proofs.Held.{value_at-map, apart-map}
 use Rattle.cache_store.specs.Held.{plain, Corresponds, value_at}
-use Rattle.std.proofs.Common.{◌≡◌, ℕ, suc, Bool, true, false, not, ◌||◌, List, [], ◌∷◌, map, length, Option, option_map, Some, None, refl, ap, ◌∙◌, arith}
-use Rattle.std.proofs.lemmas.List.{append-nil}
+use Rattle.std.proofs.Common.{◌≡◌, ℕ, Bool, true, not, List, [], ◌∷◌, map, Option, option_map, Some, None, refl, ap, ◌∙◌, arith}
+use Rattle.std.proofs.Math.Bool.{or-false}
+use Rattle.std.proofs.lemmas.List.{append-nil, length-map}
 use Rattle.std.specs.List.{list_all}
 
 -- ---- tests of all values held
 
-pub or_no : (b : Bool) → (b || false) ≡ b
-or_no true = refl
-or_no false = refl
-
 module _ (config : Config) (now : ℕ) (held : List HeldValue) (deed : Deed) (notes : List Note) where
   -- a value that is neither used nor covered stays as it is
   pub after_plain : (values : List Value) → deed.covers ≡ Nothing → (h : HeldValue) → use_after config now deed h ≡ h.last_use → plain (held_after config now held deed notes values h) ≡ plain h
-  after_plain values none h used = grind (arith, or_no h.covered)
+  after_plain values none h used = grind (arith, or-false h.covered)
 
 same-none : (f : HeldValue → HeldValue) (o : Option HeldValue) → ((h : HeldValue) → o ≡ Some h → plain (f h) ≡ plain h) → option_map plain (option_map f o) ≡ option_map plain o
 same-none f None e = refl
@@ -33,13 +30,9 @@ pub corresponds-as : (f : HeldValue → HeldValue) (items held : List HeldValue)
     → ((key : List ℕ) (h : HeldValue) → value_at held key ≡ Some h → plain (f h) ≡ plain h) → Corresponds items held → Corresponds items (map f held)
 corresponds-as f items held same_key e c = record {
   found = λ q. ap (option_map plain) (value_at-map f held q same_key) ∙ same-none f (value_at held q) (e q) ∙ c.found q;
-  number = lengths f held ∙ c.number;
+  number = length-map held f ∙ c.number;
   apart = apart-map f held same_key ∙ c.apart;
 }
-  where
-    lengths : (f : HeldValue → HeldValue) (xs : List HeldValue) → length (map f xs) ≡ length xs
-    lengths f [] = refl
-    lengths f (x ∷ xs) = ap suc (lengths f xs)
 
 -- ---- steps that write and delete nothing
 

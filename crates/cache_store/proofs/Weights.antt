@@ -5,8 +5,8 @@ use Rattle.audit_model.specs.Situation.{HeldValue}
 use Rattle.audit_model.specs.declared.config.Config.{Config}
 use Rattle.cache_store.specs.Running.{weight_in}
 use Rattle.cache_store.proofs.Held.{permutation}
-use Rattle.cache_store.specs.Held.{plain, Corresponds, exceeds, are_apart}
-use Rattle.std.proofs.Common.{◌≡◌, ℕ, ◌+◌, ◌==◌, Bool, cond, true, false, List, [], ◌∷◌, map, Option, Some, None, refl, sym, ap, ◌∙◌, arith, nat_lt, option_map}
+use Rattle.cache_store.specs.Held.{plain, Corresponds, exceeds, have_own_keys}
+use Rattle.std.proofs.Common.{◌≡◌, ℕ, ◌+◌, ◌==◌, cond, true, List, [], ◌∷◌, map, Option, Some, None, refl, sym, ap, ◌∙◌, arith, nat_lt, option_map}
 use Rattle.std.proofs.lemmas.List.Sorted.{sum_by-IsPermutation}
 use Rattle.std.proofs.lemmas.List.Sums.{sum_by-cons}
 use Rattle.std.specs.List.{filter, sum_by}
@@ -14,12 +14,7 @@ use Rattle.std.specs.List.{filter, sum_by}
 -- ---- sums from the start
 
 pub weight_in-cons : (part : ℕ) (h : HeldValue) (items : List HeldValue) → weight_in part (h ∷ items) ≡ cond (h.value.part == part) (h.value.weight) 0 + weight_in part items
-weight_in-cons part h items = go (h.value.part == part)
-  where
-    go : (b : Bool) → sum_by (λ (g : HeldValue). g.value.weight) (cond b (h ∷ filter (λ (g : HeldValue). g.value.part == part) items) (filter (λ (g : HeldValue). g.value.part == part) items))
-        ≡ cond b (h.value.weight) 0 + weight_in part items
-    go true = sum_by-cons (λ (g : HeldValue). g.value.weight) h (filter (λ (g : HeldValue). g.value.part == part) items)
-    go false = omega arith
+weight_in-cons part h items = grind (arith, sum_by-cons (λ (g : HeldValue). g.value.weight) h (filter (λ (g : HeldValue). g.value.part == part) items))
 
 -- what a value adds to the weight of a part
 abbrev pub adds : ℕ → HeldValue → ℕ
@@ -34,21 +29,16 @@ sum-plain part [] = refl
 sum-plain part (h ∷ held) = sum_by-cons (adds part) (plain h) (map plain held) ∙ ap (λ n. adds part h + n) (sum-plain part held) ∙ sym (sum_by-cons (adds part) h held)
 
 -- the values held weigh what the items do
-pub same_weight : (part : ℕ) (items held : List HeldValue) → are_apart items ≡ true → Corresponds items held → weight_in part held ≡ weight_in part items
+pub same_weight : (part : ℕ) (items held : List HeldValue) → have_own_keys items ≡ true → Corresponds items held → weight_in part held ≡ weight_in part items
 same_weight part items held a c = grind (arith, weight_in-sum part held, sum-plain part held, sum_by-IsPermutation (adds part) (map plain held) items (permutation items held a c), permutation items held a c, weight_in-sum part items)
 
 -- as values
 pub weight-values : (part : ℕ) (held : List HeldValue)
     → sum_by (λ (v : Value). v.weight) (filter (λ (v : Value). v.part == part) (map (λ (h : HeldValue). h.value) held)) ≡ weight_in part held
 weight-values part [] = refl
-weight-values part (h ∷ held) = go (h.value.part == part) (weight-values part held) ∙ sym (weight_in-cons part h held)
-  where
-    vs : List Value
-    vs = filter (λ (v : Value). v.part == part) (map (λ (h : HeldValue). h.value) held)
-
-    go : (b : Bool) → sum_by (λ (v : Value). v.weight) vs ≡ weight_in part held → sum_by (λ (v : Value). v.weight) (cond b (h.value ∷ vs) vs) ≡ cond b h.value.weight 0 + weight_in part held
-    go true next = sum_by-cons (λ (v : Value). v.weight) h.value vs ∙ ap (λ n. h.value.weight + n) next
-    go false next = let n = next in omega arith
+weight-values part (h ∷ held) =
+    let first = sum_by-cons (λ (v : Value). v.weight) h.value (filter (λ (v : Value). v.part == part) (map (λ (h : HeldValue). h.value) held)) in
+    grind (arith, first, weight-values part held, weight_in-cons part h held)
 
 over-from : (capacity : Option ℕ) (config : Config) (part : ℕ) (values : List Value) (weight : ℕ) → sum_by (λ (v : Value). v.weight) (filter (λ (v : Value). v.part == part) values) ≡ weight
     → is_over (record config { capacity = capacity }) part values ≡ exceeds (option_map (share config) capacity) weight
@@ -56,6 +46,6 @@ over-from None config part values weight e = refl
 over-from (Some capacity) config part values weight e = ap (nat_lt (share config capacity)) e
 
 -- a part is over its share where its items weigh more than that
-pub over_is : (config : Config) (part : ℕ) (items held : List HeldValue) → are_apart items ≡ true → Corresponds items held
+pub over_is : (config : Config) (part : ℕ) (items held : List HeldValue) → have_own_keys items ≡ true → Corresponds items held
     → is_over config part (map (λ h. h.value) held) ≡ exceeds (option_map (share config) config.capacity) (weight_in part items)
 over_is config part items held a c = grind (arith, over-from config.capacity config part (map (λ (h : HeldValue). h.value) held) (weight_in part items) (weight-values part held ∙ same_weight part items held a c), weight-values part held, same_weight part items held a c)

@@ -8,13 +8,13 @@ use Rattle.audit_model.specs.declared.config.Config.{Config}
 use Rattle.cache_store.specs.Held.{value_at}
 
 -- the key is among these
-abbrev pub is_among : List ℕ → List (List ℕ) → Bool
-is_among key keys = list_any (λ k. same key k) keys
+abbrev pub is_among_keys : List ℕ → List (List ℕ) → Bool
+is_among_keys key keys = list_any (λ k. same key k) keys
 
 -- no key occurs twice among these
 abbrev pub are_distinct : List (List ℕ) → Bool
 are_distinct [] = true
-are_distinct (key ∷ keys) = not (is_among key keys) && are_distinct keys
+are_distinct (key ∷ keys) = not (is_among_keys key keys) && are_distinct keys
 
 -- whether the value of a key is live
 abbrev pub has_live : Config → ℕ → List HeldValue → List ℕ → Bool

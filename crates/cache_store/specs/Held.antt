@@ -13,17 +13,17 @@ abbrev pub value_at : List HeldValue → List ℕ → Option HeldValue
 value_at items key = find (λ h. same key h.value.key) items
 
 -- the values except the key's
-abbrev pub without : List ℕ → List HeldValue → List HeldValue
-without key items = without_key (λ h. h.value.key) key items
+abbrev pub items_without : List ℕ → List HeldValue → List HeldValue
+items_without key items = without_key (λ h. h.value.key) key items
 
 -- none of these has the key
 abbrev pub is_absent : List ℕ → List HeldValue → Bool
 is_absent key items = list_all (λ h. not (same key h.value.key)) items
 
 -- no key occurs twice
-abbrev pub are_apart : List HeldValue → Bool
-are_apart [] = true
-are_apart (h ∷ items) = is_absent h.value.key items && are_apart items
+abbrev pub have_own_keys : List HeldValue → Bool
+have_own_keys [] = true
+have_own_keys (h ∷ items) = is_absent h.value.key items && have_own_keys items
 
 -- a held value, apart from whether it may be evicted
 abbrev pub plain : HeldValue → HeldValue
@@ -33,7 +33,7 @@ plain h = record h { evictable = false }
 pub record Corresponds (items held : List HeldValue) : Type 0 where
   pub found : (key : List ℕ) → option_map plain (value_at held key) ≡ value_at items key
   pub number : length held ≡ length items
-  pub apart : are_apart held ≡ true
+  pub apart : have_own_keys held ≡ true
 
 -- a weight is above a limit, if there is one
 abbrev pub exceeds : Option ℕ → ℕ → Bool

@@ -30,12 +30,12 @@ abbrev pub is_apart : HostedNamespace → HostedNamespace → Bool
 is_apart space other = not (same other.name space.name || other.port == space.port)
 
 -- no two have the same name or the same port
-abbrev pub are_distinct : List HostedNamespace → Bool
-are_distinct [] = true
-are_distinct (space ∷ spaces) = list_all (is_apart space) spaces && are_distinct spaces
+abbrev pub are_all_apart : List HostedNamespace → Bool
+are_all_apart [] = true
+are_all_apart (space ∷ spaces) = list_all (is_apart space) spaces && are_all_apart spaces
 
 -- 1 to 16 namespaces, each valid, all names and all ports different
 abbrev pub are_good : List HostedNamespace → Bool
 are_good spaces =
     nat_le 1 (length spaces) && nat_le (length spaces) 16 && list_all is_good_namespace spaces
-    && are_distinct spaces
+    && are_all_apart spaces

@@ -2,7 +2,7 @@
 ghost use Rattle.std.specs.Prelude.{◌≡◌};
 ghost use Rattle.std.specs.List.{list_all};
 ghost use Rattle.audit_model.specs.Grammar.{is_value};
-ghost use Rattle.cached_config.specs.Good.{are_distinct, are_good, is_apart, is_good_namespace, is_loadable, is_name, is_name_byte};
+ghost use Rattle.cached_config.specs.Good.{are_all_apart, are_good, is_apart, is_good_namespace, is_loadable, is_name, is_name_byte};
 
 use crate::listed::{HostedNamespace, Listed};
 
@@ -28,7 +28,7 @@ fn are_all_good(spaces: &[HostedNamespace]) -> bool
 
 /// Whether no two have the same name or the same port.
 fn are_distinct(spaces: &[HostedNamespace]) -> bool
-    ensures { result ≡ are_distinct spaces.now }
+    ensures { result ≡ are_all_apart spaces.now }
 {
     let mut rest = spaces;
     while let [space, others @ ..] = rest {

@@ -24,5 +24,5 @@ abbrev pub unwritten_line : List ℕ → List ℕ
 unwritten_line program = program ++ codes ": notices cannot be written\n"
 
 -- texts, one after another
-abbrev pub joined : List (Bor (List ℕ)) → List ℕ
-joined texts = flat_map (λ text. text.now) texts
+abbrev pub joined_texts : List (Bor (List ℕ)) → List ℕ
+joined_texts texts = flat_map (λ text. text.now) texts

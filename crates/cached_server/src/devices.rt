@@ -46,7 +46,8 @@ pub struct ListLoader {
 
 impl Loader for ListLoader {
     ghost loads = { λ c key answer d. (d ≡ c)
-        × ((answer ≡ Some (listed_outcome (arc_value c.space).loads.items key)) ⊎ (answer ≡ None)) };
+        × ((answer ≡ Some (listed_outcome (arc_value c.space).loads.items key))
+        ⊎ (answer ≡ None)) };
 
     fn load(&mut self, key: &[u8]) -> Option<Outcome> {
         find_listed(self.alloc, &self.space.loads, key)

@@ -2,7 +2,7 @@
 ghost use Rattle.std.specs.Prelude.{◌≡◌, [], true, IsErr, IfOk, OnOk, OnErr, false};
 ghost use Rattle.std.specs.Io.KnownBytes.{Appends};
 ghost use Rattle.cache_run.specs.Devices.Watched.{device};
-ghost use Rattle.cached_server.specs.Lines.{joined, listening_line, lost_line, unwritten_line};
+ghost use Rattle.cached_server.specs.Lines.{joined_texts, listening_line, lost_line, unwritten_line};
 
 use crate::script::{put, write_out};
 use cache_run::{RunError, Watched};
@@ -84,7 +84,7 @@ impl<W: Write + Drop> Lines<W> {
     /// Writes texts one after another, which are whole lines, in one piece if there is room for it.
     fn send_joined(&mut self, texts: &[&[u8]]) -> Result<(), RunError>
         ensures ok { OnOk result (Appends (W.contents (device self.old.writer))
-            (W.contents (device self.new.writer)) (joined texts.now)) }
+            (W.contents (device self.new.writer)) (joined_texts texts.now)) }
         ensures whole { OnOk result (self.new.is_cut ≡ self.old.is_cut) }
         ensures cut { OnErr result (self.new.is_cut ≡ true) }
         ensures still { self.old.is_cut ≡ true → (self.new ≡ self.old) × IsErr result }

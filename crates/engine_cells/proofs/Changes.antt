@@ -6,7 +6,7 @@ use Rattle.std.proofs.lemmas.Option.{same_Some}
 use Rattle.policy_queue.specs.Indices.{has_index, without_index, index_moved_to_back}
 use Rattle.engine_reference.specs.declared.data.Record.{Record}
 use Rattle.engine_reference.specs.Records.{without, moved_to_back}
-use Rattle.engine_cells.specs.Cells.{cell_at, place_number, numbers_in, numbers_of, HaveOwnNumbers, AreNumbered, has_counts, AreListed}
+use Rattle.engine_cells.specs.Cells.{cell_at, place_number, numbers_in, numbers_of, HaveOwnNumbers, AreNumberedBelow, has_counts, AreListed}
 use Rattle.engine_cells.proofs.Indexed.{apart_left, apart_moved, has_gone, has_left, has_moved, has_others_moved, has_first, has_behind, Names, numbers_without, numbers_moved}
 
 module _ {K V : Type 0} where
@@ -70,7 +70,7 @@ module _ {K V : Type 0} where
 
   -- ---- a cell goes
 
-  pub numbered-left : (old new : List (Option (Record K V))) (next i : ℕ) → AreNumbered old next → Loses old new i → AreNumbered new next
+  pub numbered-left : (old new : List (Option (Record K V))) (next i : ℕ) → AreNumberedBelow old next → Loses old new i → AreNumberedBelow new next
   numbered-left old new next i h loses = record {
     apart = λ a b d e at bt same. h.apart a b d e (was old new i a d loses at) (was old new i b e loses bt) same;
     below = λ a d at. h.below a d (was old new i a d loses at);
@@ -98,7 +98,7 @@ module _ {K V : Type 0} where
 
   -- ---- a cell comes
 
-  pub numbered-inserted : (old new : List (Option (Record K V))) (next i : ℕ) (c : Record K V) → AreNumbered old next → Gets old new i c → c.number ≡ next → AreNumbered new (next + 1)
+  pub numbered-inserted : (old new : List (Option (Record K V))) (next i : ℕ) (c : Record K V) → AreNumberedBelow old next → Gets old new i c → c.number ≡ next → AreNumberedBelow new (next + 1)
   numbered-inserted old new next i c h gets is = record {
     apart = λ a b d e at bt same. elim (place_of old new i a c d gets at) [
       | inl p ↦ elim (place_of old new i b c e gets bt) [
@@ -141,7 +141,7 @@ module _ {K V : Type 0} where
 
   -- ---- a cell changes, keeps its number, and comes to the back of the queue
 
-  pub numbered-set : (old new : List (Option (Record K V))) (next i : ℕ) (c d : Record K V) → AreNumbered old next → cell_at old i ≡ Some c → Gets old new i d → d.number ≡ c.number → AreNumbered new next
+  pub numbered-set : (old new : List (Option (Record K V))) (next i : ℕ) (c d : Record K V) → AreNumberedBelow old next → cell_at old i ≡ Some c → Gets old new i d → d.number ≡ c.number → AreNumberedBelow new next
   numbered-set old new next i c d h there gets same = record {
     apart = λ a b x y at bt is. elim (place_of old new i a d x gets at) [
       | inl p ↦ elim (place_of old new i b d y gets bt) [

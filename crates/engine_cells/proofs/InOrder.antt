@@ -13,7 +13,7 @@ use Rattle.engine_reference.specs.Records.{record_at, held_entries}
 use Rattle.engine_reference.specs.Scanning.{held_keys}
 use Rattle.engine_cells.specs.declared.listing.Stand.{Stand}
 use Rattle.engine_cells.specs.Cells.{cell_at, records_by_number, HaveOwnNumbers}
-use Rattle.engine_cells.specs.Listing.{stands_from, key_of, keys_in}
+use Rattle.engine_cells.specs.Listing.{stands_from, cell_key, keys_in}
 use Rattle.engine_cells.specs.Tallying.{sum_over}
 use Rattle.engine_cells.proofs.Listed.{record_at-there, records-rising}
 use Rattle.engine_cells.proofs.Placed.{AllAbove, AreRising}
@@ -94,13 +94,13 @@ module _ {K V : Type 0} where
 
   -- a stand leads to the record of its number
   abbrev Leads : List (Option (Record K V)) → Stand → Type 0
-  Leads cells s = key_of (cell_at cells s.place) ≡ key_at (record_at (records_by_number cells) s.number)
+  Leads cells s = cell_key (cell_at cells s.place) ≡ key_at (record_at (records_by_number cells) s.number)
 
   all-lead : (whole : List (Option (Record K V))) (k : ℕ) (cells : List (Option (Record K V))) → HaveOwnNumbers whole → ((i : ℕ) → cell_at whole (k + i) ≡ cell_at cells i) → AllByRecursion (Leads whole) (stands_from k cells)
   all-lead whole k [] apart at = tt
   all-lead whole k (None ∷ cells) apart at = all-lead whole (k + 1) cells apart (λ i. ap (λ n. cell_at whole n) (let e : k + 1 + i ≡ k + suc i = omega arith in e) ∙ at (suc i))
   all-lead whole k (Some c ∷ cells) apart at =
-      cond_both c.is_held _ _ (λ z. AllByRecursion (Leads whole) (z ++ stands_from (k + 1) cells)) (λ _. (ap (λ o. key_of o) here ∙ sym (ap (λ o. key_at o) (record_at-there whole k c apart here)), (all-lead whole (k + 1) cells apart (λ i. ap (λ n. cell_at whole n) (let e : k + 1 + i ≡ k + suc i = omega arith in e) ∙ at (suc i))))) (λ _. all-lead whole (k + 1) cells apart (λ i. ap (λ n. cell_at whole n) (let e : k + 1 + i ≡ k + suc i = omega arith in e) ∙ at (suc i)))
+      cond_both c.is_held _ _ (λ z. AllByRecursion (Leads whole) (z ++ stands_from (k + 1) cells)) (λ _. (ap (λ o. cell_key o) here ∙ sym (ap (λ o. key_at o) (record_at-there whole k c apart here)), (all-lead whole (k + 1) cells apart (λ i. ap (λ n. cell_at whole n) (let e : k + 1 + i ≡ k + suc i = omega arith in e) ∙ at (suc i))))) (λ _. all-lead whole (k + 1) cells apart (λ i. ap (λ n. cell_at whole n) (let e : k + 1 + i ≡ k + suc i = omega arith in e) ∙ at (suc i)))
     where
       here : cell_at whole k ≡ Some c
       here = ap (λ n. cell_at whole n) (let e : k ≡ k + zero = omega arith in e) ∙ at zero

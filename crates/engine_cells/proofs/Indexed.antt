@@ -2,7 +2,7 @@
 use Rattle.std.proofs.Common.{◌≡◌, ◌≢◌, refl, ap, sym, ◌∙◌, subst, ℕ, true, false, not, cond, eqb, ◌||◌, List, [], ◌∷◌, ◌++◌, map, inl, inr}
 use Rattle.std.proofs.lemmas.Bool.{cases_eq, cond-true, cond-false, eq-eqb, ne_eqb}
 use Rattle.std.proofs.lemmas.List.{map-append}
-use Rattle.policy_queue.specs.Indices.{AreApart, Lacks, has_index, without_index, index_moved_to_back}
+use Rattle.policy_queue.specs.Indices.{IndicesDiffer, Lacks, has_index, without_index, index_moved_to_back}
 use Rattle.policy_queue.proofs.Listed.{has_here, has_later, has_lacked, lacks_not_had}
 use Rattle.engine_reference.specs.Records.{without, moved_to_back}
 
@@ -21,32 +21,32 @@ lacks_left j x (i ∷ xs) h = elim (cases_eq i x) [
 ]
 
 -- what went is lacking
-pub lacks_gone : (x : ℕ) (xs : List ℕ) → AreApart xs → Lacks x (without_index x xs)
+pub lacks_gone : (x : ℕ) (xs : List ℕ) → IndicesDiffer xs → Lacks x (without_index x xs)
 lacks_gone x [] h = tt
 lacks_gone x (i ∷ xs) h = elim (cases_eq i x) [
   | inl e ↦ subst (Lacks x) (sym (without_here x i xs e)) (subst (λ y. Lacks y xs) e h.0)
   | inr d ↦ subst (Lacks x) (sym (without_later x i xs d)) (d, lacks_gone x xs h.1)
 ]
 
-pub apart_left : (x : ℕ) (xs : List ℕ) → AreApart xs → AreApart (without_index x xs)
+pub apart_left : (x : ℕ) (xs : List ℕ) → IndicesDiffer xs → IndicesDiffer (without_index x xs)
 apart_left x [] h = tt
 apart_left x (i ∷ xs) h = elim (cases_eq i x) [
-  | inl e ↦ subst AreApart (sym (without_here x i xs e)) h.1
-  | inr d ↦ subst AreApart (sym (without_later x i xs d)) (lacks_left i x xs h.0, apart_left x xs h.1)
+  | inl e ↦ subst IndicesDiffer (sym (without_here x i xs e)) h.1
+  | inr d ↦ subst IndicesDiffer (sym (without_later x i xs d)) (lacks_left i x xs h.0, apart_left x xs h.1)
 ]
 
 lacks_pushed : (j x : ℕ) (xs : List ℕ) → x ≢ j → Lacks j xs → Lacks j (xs ++ x ∷ [])
 lacks_pushed j x [] d h = (d, tt)
 lacks_pushed j x (i ∷ xs) d h = (h.0, lacks_pushed j x xs d h.1)
 
-apart_pushed : (x : ℕ) (xs : List ℕ) → Lacks x xs → AreApart xs → AreApart (xs ++ x ∷ [])
+apart_pushed : (x : ℕ) (xs : List ℕ) → Lacks x xs → IndicesDiffer xs → IndicesDiffer (xs ++ x ∷ [])
 apart_pushed x [] l h = (tt, tt)
 apart_pushed x (i ∷ xs) l h = (lacks_pushed i x xs (λ e. l.0 (sym e)) h.0, apart_pushed x xs l.1 h.1)
 
-pub apart_moved : (x : ℕ) (xs : List ℕ) → AreApart xs → AreApart (index_moved_to_back x xs)
+pub apart_moved : (x : ℕ) (xs : List ℕ) → IndicesDiffer xs → IndicesDiffer (index_moved_to_back x xs)
 apart_moved x xs h = apart_pushed x (without_index x xs) (lacks_gone x xs h) (apart_left x xs h)
 
-pub has_gone : (x : ℕ) (xs : List ℕ) → AreApart xs → has_index x (without_index x xs) ≡ false
+pub has_gone : (x : ℕ) (xs : List ℕ) → IndicesDiffer xs → has_index x (without_index x xs) ≡ false
 has_gone x xs h = has_lacked x (without_index x xs) (lacks_gone x xs h)
 
 -- another stays
@@ -110,7 +110,7 @@ module _ (f g : ℕ → ℕ) (x num : ℕ) where
       ∙ sym (kept_other i xs n l.0)
 
   -- the list without a place stands for the numbers without its number
-  pub numbers_without : (xs : List ℕ) → AreApart xs → ((j : ℕ) → has_index j xs ≡ true → Names f g x num j) → map g (without_index x xs) ≡ without num (map f xs)
+  pub numbers_without : (xs : List ℕ) → IndicesDiffer xs → ((j : ℕ) → has_index j xs ≡ true → Names f g x num j) → map g (without_index x xs) ≡ without num (map f xs)
   numbers_without [] a h = refl
   numbers_without (i ∷ xs) a h = elim (cases_eq i x) [
     | inl e ↦
@@ -125,7 +125,7 @@ module _ (f g : ℕ → ℕ) (x num : ℕ) where
   ]
 
   -- the list with a place last stands for the numbers with its number last
-  pub numbers_moved : (xs : List ℕ) → AreApart xs → ((j : ℕ) → has_index j xs ≡ true → Names f g x num j) → g x ≡ num → map g (index_moved_to_back x xs) ≡ moved_to_back num (map f xs)
+  pub numbers_moved : (xs : List ℕ) → IndicesDiffer xs → ((j : ℕ) → has_index j xs ≡ true → Names f g x num j) → g x ≡ num → map g (index_moved_to_back x xs) ≡ moved_to_back num (map f xs)
   numbers_moved xs a h is =
       map-append g (without_index x xs) (x ∷ [])
       ∙ ap (λ ms. ms ++ g x ∷ []) (numbers_without xs a h)

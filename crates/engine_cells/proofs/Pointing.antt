@@ -18,7 +18,7 @@ use Rattle.engine_cells.specs.declared.noting.Noted.TheVariants.{Hit, Miss}
 use Rattle.engine_cells.specs.declared.noting.PlacedWrite.{PlacedWrite}
 use Rattle.engine_pending.specs.Pending.{Pending, told_if, ticketed_at, without_ticketed, with_sent_of, ticket_sent}
 use Rattle.engine_pending.specs.declared.tickets.Ticketed.{Ticketed}
-use Rattle.engine_cells.specs.Cells.{cell_at, records_by_number, numbers_of, place_number, numbers_in, HaveOwnNumbers, AreNumbered, AreListed}
+use Rattle.engine_cells.specs.Cells.{cell_at, records_by_number, numbers_of, place_number, numbers_in, HaveOwnNumbers, AreNumberedBelow, AreListed}
 use Rattle.engine_cells.specs.Kept.{Kept, is_admitted_as, is_removed_as}
 use Rattle.engine_pending.specs.Whole.{unsent_of, whole}
 use Rattle.engine_pending.proofs.Agreeing.{pending_agrees}
@@ -109,7 +109,7 @@ module _ {K V : Type 0} where
   ))
 
   -- a record is found where it stands
-  pub aims-there : (cells : List (Option (Record K V))) (next i : ℕ) (c : Record K V) → AreNumbered cells next → cell_at cells i ≡ Some c → AimsAt cells next i c.number
+  pub aims-there : (cells : List (Option (Record K V))) (next i : ℕ) (c : Record K V) → AreNumberedBelow cells next → cell_at cells i ≡ Some c → AimsAt cells next i c.number
   aims-there cells next i c h at = (h.below i c at, λ j d there same. h.apart j i d c there at same)
 
   -- a write that was made, and one that is sent

@@ -4,7 +4,7 @@ use Rattle.std.specs.List.{fold}
 use Rattle.engine_reference.specs.Rules.Hashing.{hash_of_key}
 use Rattle.std.specs.Cmp.{IsEquivalence}
 use Rattle.std.proofs.lemmas.Bool.{eqb-true, eq-eqb, cases_Bool, and_parts, and_from}
-use Rattle.engine_cells.specs.Keys.Spots.{tag_of, Spots, IsAmong, IsUnder, ComesUnder, OnlyGainsSpace}
+use Rattle.engine_cells.specs.Keys.Spots.{tag_of, Spots, HasEntry, IsUnder, ComesUnder, OnlyGainsSpace}
 use Rattle.engine_reference.specs.Records.{held_at}
 use Rattle.engine_reference.specs.declared.data.Record.{Record}
 use Rattle.engine_cells.specs.Cells.{cell_at, records_by_number}
@@ -119,7 +119,7 @@ module _ {K V : Type 0} (eq : K → K → Bool) where
         let f : Some o.cell ≡ Some c = sym o.there ∙ ap (λ k. cell_at old k) same ∙ there in
         let is : o.cell ≡ c = cc in
         let tag_is : tag_of hash ≡ tag_of c.hash = sym o.tag_is ∙ ap (λ y. tag_of y.hash) is in
-        l.gone (subst (λ k. IsUnder after c.hash k) same (subst (λ t. IsAmong after.entries t j) tag_is u))
+        l.gone (subst (λ k. IsUnder after c.hash k) same (subst (λ t. HasEntry after.entries t j) tag_is u))
     apart false e l hash j u same =
         let o = h.only hash j (subst (λ s. IsUnder s hash j) l u) in
         let f : Some o.cell ≡ Some c = sym o.there ∙ ap (λ k. cell_at old k) same ∙ there in

@@ -1,7 +1,7 @@
 -- What stands behind a number of a list, and that each stands there once.
 use Rattle.std.proofs.Common.{◌≡◌, refl, ap, sym, ◌∙◌, subst, ℕ, Bool, true, false, true≢false, cond, List, [], ◌∷◌, map, Option, Some, None, is_some, inl, inr, eqb, ◌&&◌}
 use Rattle.std.proofs.lemmas.Bool.{eq-eqb, eqb-true, ne_eqb}
-use Rattle.policy_queue.specs.Indices.{AreApart, Lacks, has_index, from_index}
+use Rattle.policy_queue.specs.Indices.{IndicesDiffer, Lacks, has_index, from_index}
 use Rattle.policy_queue.specs.Queue.{tail}
 use Rattle.engine_reference.specs.declared.data.Record.{Record}
 use Rattle.engine_reference.specs.Records.{record_at}
@@ -37,7 +37,7 @@ module _ {K V : Type 0} where
   list-behind cells places i c apart h there = numbers-behind (place_number cells) i c.number places (names cells cells places i c apart h there (λ j other. refl))
 
   -- no number stands twice
-  pub once-listed : (cells : List (Option (Record K V))) (all places : List ℕ) → HaveOwnNumbers cells → AreListed cells all → AreApart places → ((j : ℕ) → has_index j places ≡ true → has_index j all ≡ true) → AreOnce (numbers_in cells places)
+  pub once-listed : (cells : List (Option (Record K V))) (all places : List ℕ) → HaveOwnNumbers cells → AreListed cells all → IndicesDiffer places → ((j : ℕ) → has_index j places ≡ true → has_index j all ≡ true) → AreOnce (numbers_in cells places)
   once-listed cells all [] apart h own in-all = tt
   once-listed cells all (i ∷ places) apart h own in-all =
       let s = stood cells all i h (in-all i (has_first i places)) in (

@@ -5,7 +5,7 @@ use Rattle.std.specs.Option.{option_and_then}
 use Rattle.std.proofs.lemmas.List.Sums.{sum_by-cons}
 use Rattle.engine_reference.specs.Records.{record_at}
 use Rattle.engine_reference.specs.declared.data.Record.{Record}
-use Rattle.engine_cells.specs.Cells.{cell_at, records_by_number, numbers_of, place_number, numbers_in, HaveOwnNumbers, AreNumbered, has_counts, AreListed}
+use Rattle.engine_cells.specs.Cells.{cell_at, records_by_number, numbers_of, place_number, numbers_in, HaveOwnNumbers, AreNumberedBelow, has_counts, AreListed}
 use Rattle.engine_cells.proofs.Listed.{record_at-there}
 
 -- of a record: its number, and whether it is admitted
@@ -71,7 +71,7 @@ module _ {K V : Type 0} where
         alike = let g : Some (shape_of c) ≡ Some (shape_of d) = sym (ap (λ o. option_map shape_of o) e) ∙ h i ∙ ap (λ o. option_map shape_of o) f in cc;
       }
 
-  pub numbered-alike : (old new : List (Option (Record K V))) (next : ℕ) → AreAlike old new → AreNumbered old next → AreNumbered new next
+  pub numbered-alike : (old new : List (Option (Record K V))) (next : ℕ) → AreAlike old new → AreNumberedBelow old next → AreNumberedBelow new next
   numbered-alike old new next h k = record {
     apart = λ i j c d e f same.
         let a = before old new h i c e in

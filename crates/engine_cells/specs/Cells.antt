@@ -1,6 +1,6 @@
 -- What a slab of records represents: records in the order of their creation, and lists of their numbers.
 use Rattle.std.specs.Prelude.{◌≡◌, ℕ, ◌<◌, nat_lt, Bool, false, List, [], ◌∷◌, map, Option, Some, None, is_some, if◌then◌else◌, slice_index_or, option_map, unwrap_or}
-use Rattle.policy_queue.specs.Indices.{AreApart, has_index}
+use Rattle.policy_queue.specs.Indices.{IndicesDiffer, has_index}
 use Rattle.engine_reference.specs.declared.data.Record.{Record}
 
 -- the content of a place
@@ -38,7 +38,7 @@ module _ {K V : Type 0} where
       → c.number ≡ d.number → i ≡ j
 
   -- each record has a number of its own, below the next one
-  pub record AreNumbered (cells : List (Option (Record K V))) (next : ℕ) : Type 0 where
+  pub record AreNumberedBelow (cells : List (Option (Record K V))) (next : ℕ) : Type 0 where
     pub apart : HaveOwnNumbers cells
     pub below : (i : ℕ) (c : Record K V) → cell_at cells i ≡ Some c → c.number < next
 
@@ -49,5 +49,5 @@ module _ {K V : Type 0} where
 
   -- these places are those of the admitted records, each once
   pub record AreListed (cells : List (Option (Record K V))) (places : List ℕ) : Type 0 where
-    pub once : AreApart places
+    pub once : IndicesDiffer places
     pub listed : (i : ℕ) → has_index i places ≡ has_counts (cell_at cells i)

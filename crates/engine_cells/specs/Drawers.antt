@@ -8,15 +8,15 @@ use Rattle.engine_cells.specs.declared.cell_slab.Drawer.TheVariants as drawer
 
 module _ {T : Type 0} where
   -- a drawer, in terms of the entries of the kit's slab
-  abbrev pub entry_of : Drawer T → Entry T
-  entry_of (drawer.Vacant next) = Vacant next
-  entry_of (drawer.Taken value) = Occupied value
+  abbrev pub slab_entry : Drawer T → Entry T
+  slab_entry (drawer.Vacant next) = Vacant next
+  slab_entry (drawer.Taken value) = Occupied value
 
   -- the value of a drawer, if it has one
   abbrev pub value_in : Drawer T → Option T
-  value_in d = value_of (entry_of d)
+  value_in d = value_of (slab_entry d)
 
   -- the drawers are those of a sound slab, and their keys have 32 bits
-  pub record AreSound (drawers : List (Drawer T)) (len next : ℕ) : Type 0 where
-    pub sound : IsSound (map entry_of drawers) len next
+  pub record AreSoundDrawers (drawers : List (Drawer T)) (len next : ℕ) : Type 0 where
+    pub sound : IsSound (map slab_entry drawers) len next
     pub fits : length drawers ≤ 2 ^ 32 - 1

@@ -19,11 +19,11 @@ module _ {K V : Type 0} where
   stands_from place (o ∷ cells) = stand_of place o ++ stands_from (place + 1) cells
 
   -- the key of the record in a cell
-  abbrev pub key_of : Option (Record K V) → List K
-  key_of None = []
-  key_of (Some c) = c.entry.key ∷ []
+  abbrev pub cell_key : Option (Record K V) → List K
+  cell_key None = []
+  cell_key (Some c) = c.entry.key ∷ []
 
   -- the keys of records by their places
   abbrev pub keys_in : List (Option (Record K V)) → List Stand → List K
   keys_in cells [] = []
-  keys_in cells (s ∷ ss) = key_of (cell_at cells s.place) ++ keys_in cells ss
+  keys_in cells (s ∷ ss) = cell_key (cell_at cells s.place) ++ keys_in cells ss

@@ -20,14 +20,14 @@ module _ {K V : Type 0} where
 
 module _ {K V : Type 0} where
   -- there is a cell, and its record has this number
-  abbrev pub is_numbered : ℕ → Option (Record K V) → Bool
-  is_numbered number None = false
-  is_numbered number (Some c) = c.number == number
+  abbrev pub holds_number : ℕ → Option (Record K V) → Bool
+  holds_number number None = false
+  holds_number number (Some c) = c.number == number
 
   -- the record with a number, if it is there, is held and has this hash
   abbrev pub IsHeldUnder : ℕ → ℕ → List (Option (Record K V)) → Type 0
   IsHeldUnder number hash cells =
-      (i : ℕ) (c : Record K V) → cell_at cells i ≡ Some c → is_numbered number (Some c) ≡ true
+      (i : ℕ) (c : Record K V) → cell_at cells i ≡ Some c → holds_number number (Some c) ≡ true
       → (c.is_held ≡ true) × (c.hash ≡ hash)
 
 -- a place is removed from under a hash, if it has to be

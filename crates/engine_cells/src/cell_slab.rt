@@ -40,15 +40,15 @@ impl<T> Model for CellSlab<T> {
     ghost coded = { slab_code T.code };
 
     ghost use Rattle.slab.specs.Entry.{value_of};
-    ghost use Rattle.engine_cells.specs.Drawers.{entry_of, AreSound};
+    ghost use Rattle.engine_cells.specs.Drawers.{slab_entry, AreSoundDrawers};
 
     ghost view = { λ s. record {
-      slots = map value_of (map entry_of s.drawers.items);
+      slots = map value_of (map slab_entry s.drawers.items);
       vacant_key = s.next;
       capacity = min (vec_capacity s.drawers) (2 ^ 32 - 1);
     } };
 
-    ghost invariant = { λ s. AreSound s.drawers.items s.len s.next };
+    ghost invariant = { λ s. AreSoundDrawers s.drawers.items s.len s.next };
 }
 
 impl<T> Drawer<T> {

@@ -3,7 +3,7 @@ ghost use Rattle.std.specs.Prelude.{◌≡◌, ◌≤◌, ℕ, true, false, Some
 ghost use Rattle.engine_reference.specs.Records.{held_at};
 ghost use Rattle.engine_cells.specs.Keys.Spots.{IsUnder};
 ghost use Rattle.engine_cells.specs.Cells.{cell_at, records_by_number};
-ghost use Rattle.engine_cells.specs.Spotted.{is_match, is_numbered, AreSpotted, HaveHash, IsHeldUnder, LeavesIf};
+ghost use Rattle.engine_cells.specs.Spotted.{is_match, holds_number, AreSpotted, HaveHash, IsHeldUnder, LeavesIf};
 
 use crate::cell::Cell;
 use crate::cell_slab::CellSlab;
@@ -52,7 +52,7 @@ pub fn find_held<K: Eq, Q: Names<K>, V>(
 
 /// Whether a place has the record of a number.
 fn is_numbered<K, V>(cells: &CellSlab<Cell<K, V>>, place: usize, number: u64) -> bool
-    ensures { result ≡ is_numbered number (cell_at cells.now.slots place) }
+    ensures { result ≡ holds_number number (cell_at cells.now.slots place) }
 {
     match cells.get(place) {
         Some(cell) => cell.number() == number,
@@ -69,9 +69,9 @@ pub fn find_number<K: Eq, V>(
 ) -> Option<usize>
     requires spotted { AreSpotted K.eq cells.now.slots keys.now }
     requires held { IsHeldUnder number hash cells.now.slots }
-    ensures found { IfSome result (λ i. is_numbered number (cell_at cells.now.slots i) ≡ true) }
+    ensures found { IfSome result (λ i. holds_number number (cell_at cells.now.slots i) ≡ true) }
     ensures none { IfNone result
-        ((i : ℕ) → is_numbered number (cell_at cells.now.slots i) ≡ false) }
+        ((i : ℕ) → holds_number number (cell_at cells.now.slots i) ≡ false) }
 {
     keys.get(hash, |place| is_numbered(cells, place, number))
 }

@@ -1,7 +1,7 @@
 //! Places by hash: a ready hash leads to the places that stand under it, and the caller says which of them it seeks.
 ghost use Rattle.std.specs.Prelude.{◌≡◌, ◌≢◌, ◌↔◌, IsTrue, true, false, ℕ, ◌+◌, ◌-◌, ◌*◌, ◌/◌, ◌^◌, ◌<◌, ◌≤◌, length, replicate, IsOk, OnOk, OnErr, IfOk, IfSome, IfNone};
 ghost use Rattle.engine_cells.specs.Keys.Spots.{tag_of, IsUnder, Spots, ComesUnder, LeavesFrom, OnlyGainsSpace};
-ghost use Rattle.engine_cells.specs.Keys.Slots.{nowhere, vacant, slot_at, IsTaken, taken_in, most_in, home_of, steps_on, steps_to, IsOnWay, Has, HasAll, AreFound, IsFirstVacant, Adds, IsHoled, LeavesOut, Loses};
+ghost use Rattle.engine_cells.specs.Keys.Slots.{nowhere, vacant_slot, slot_at, HoldsPlace, taken_in, most_in, home_of, steps_on, steps_to, IsOnWay, Has, HasAll, AreFound, IsFirstVacant, Adds, IsHoled, LeavesOut, Loses};
 
 use std::alloc::{AllocError, Global};
 use std::marker::Model;
@@ -186,7 +186,7 @@ fn steps_to(many: usize, from: usize, to: usize) -> usize
 
 /// So many vacant slots.
 fn vacant_slots(alloc: Global, many: usize) -> Result<Vec<Slot>, AllocError>
-    ensures { IfOk result (λ slots. slots.items ≡ replicate many vacant) }
+    ensures { IfOk result (λ slots. slots.items ≡ replicate many vacant_slot) }
 {
     let slot = Slot {
         tag: 0,
@@ -227,7 +227,7 @@ fn put_in(slots: &mut Vec<Slot>, tag: u32, place: u32)
 
 /// Puts the places of other slots under their tags.
 fn put_all(slots: &mut Vec<Slot>, others: &Vec<Slot>)
-    requires vacant { slots.old.items ≡ replicate (length slots.old.items) vacant }
+    requires vacant { slots.old.items ≡ replicate (length slots.old.items) vacant_slot }
     requires room { taken_in others.now.items < length slots.old.items }
     requires found { AreFound others.now.items }
     ensures same { HasAll others.now.items slots.new.items }
@@ -298,7 +298,7 @@ fn is_on_way(many: usize, tag: u32, to: usize, steps: usize) -> bool
 /// Moves up what stands behind a slot whose place goes, up to a vacant slot, where that slot is on its way. The slot
 /// that is free in the end is answered.
 fn move_up(slots: &mut Vec<Slot>, from: usize) -> usize
-    requires there { IsTaken slots.old.items from }
+    requires there { HoldsPlace slots.old.items from }
     requires loose { taken_in slots.old.items < length slots.old.items }
     requires found { AreFound slots.old.items }
     ensures holed { IsHoled slots.old.items slots.new.items from result }
@@ -324,7 +324,7 @@ fn move_up(slots: &mut Vec<Slot>, from: usize) -> usize
 
 /// Takes a place out of its slot.
 fn take_out(slots: &mut Vec<Slot>, from: usize)
-    requires there { IsTaken slots.old.items from }
+    requires there { HoldsPlace slots.old.items from }
     requires loose { taken_in slots.old.items < length slots.old.items }
     requires found { AreFound slots.old.items }
     ensures taken { Loses slots.old.items slots.new.items from }

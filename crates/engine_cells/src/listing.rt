@@ -3,7 +3,7 @@ ghost use Rattle.std.specs.Prelude.{◌≡◌, ℕ, [], ◌++◌, OnOk};
 ghost use Rattle.std.specs.List.Sorted.{IsPermutation, IsNonDecreasingBy};
 ghost use Rattle.engine_cells.specs.Cells.{cell_at, records_by_number, HaveOwnNumbers};
 ghost use Rattle.engine_reference.specs.Scanning.{held_keys};
-ghost use Rattle.engine_cells.specs.Listing.{stand_of, stands_from, key_of, keys_in};
+ghost use Rattle.engine_cells.specs.Listing.{stand_of, stands_from, cell_key, keys_in};
 
 use crate::cell::Cell;
 use crate::cell_slab::CellSlab;
@@ -63,7 +63,7 @@ fn push_key<K: Clone + Drop, V>(
 ) -> Result<(), AllocError>
     requires exact_key { (x y : K) → K.is_clone x y → y ≡ x }
     ensures { OnOk result
-        (keys.new.items ≡ keys.old.items ++ key_of (cell_at cells.now.slots place)) }
+        (keys.new.items ≡ keys.old.items ++ cell_key (cell_at cells.now.slots place)) }
 {
     if let Some(cell) = cells.get(place) {
         let key = cell.key().clone()?;

@@ -11,7 +11,7 @@ use Rattle.engine_reference.specs.Calls.{with_sent, unsent_at, without_ticket}
 use Rattle.engine_reference.specs.Times.{end_of, is_reached}
 use Rattle.engine_reference.specs.Visible.{notice_of, told}
 use Rattle.engine_pending.specs.declared.tickets.Ticketed.{Ticketed}
-use Rattle.engine_pending.specs.Pending.{Pending, ticketed_at, without_ticketed, with_sent_of, told_if, with_write}
+use Rattle.engine_pending.specs.Pending.{Pending, ticketed_at, without_ticketed, with_sent_of, told_if, with_queued_write}
 use Rattle.engine_pending.specs.Whole.{unsent_of, whole, PendingAgrees}
 
 module _ {W : Type 0} (write_of : W → Write) (t : ℕ) where
@@ -46,7 +46,7 @@ module _ {K V O W P S R : Type 0} (read_of : O → Read) (write_of : W → Write
   told-whole true why e = refl
   told-whole false why e = refl
 
-  added-whole : (at_once : Bool) (w : W) → whole read_of write_of records access order next (with_write at_once w p)
+  added-whole : (at_once : Bool) (w : W) → whole read_of write_of records access order next (with_queued_write at_once w p)
       ≡ (let s = whole read_of write_of records access order next p in record s {
         unsent = cond at_once s.unsent (s.unsent ++ (record { ticket = s.next_ticket; write = write_of w }) ∷ []);
         writes = cond at_once (s.writes ++ write_of w ∷ []) s.writes;

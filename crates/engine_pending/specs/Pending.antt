@@ -64,8 +64,8 @@ pub record IsUntouched {K V O W P S R : Type 0} (name : Option (List ℕ)) (sett
 
 module _ {K V O W P S R : Type 0} where
   -- a write, in the room that was made for it, goes into the queue at once, or waits under the next ticket
-  abbrev pub with_write : Bool → W → Pending K V O W P S R → Pending K V O W P S R
-  with_write at_once w s = record s {
+  abbrev pub with_queued_write : Bool → W → Pending K V O W P S R → Pending K V O W P S R
+  with_queued_write at_once w s = record s {
     unsent = if at_once then s.unsent
         else s.unsent ++ (record { ticket = s.next_ticket; write = w }) ∷ [];
     writes = if at_once then s.writes ++ w ∷ [] else s.writes;

@@ -11,7 +11,7 @@ use Rattle.engine_reference.specs.Runs.{is_due}
 use Rattle.engine_reference.specs.State.{State, Answers}
 use Rattle.engine_reference.specs.Visible.{is_covered, notice_of, told}
 use Rattle.engine_pending.specs.declared.tickets.Ticketed.{Ticketed}
-use Rattle.engine_pending.specs.Pending.{Pending, ticketed_at, with_write, ticket_sent, told_if, notice_taken, stands_over, is_run_due}
+use Rattle.engine_pending.specs.Pending.{Pending, ticketed_at, with_queued_write, ticket_sent, told_if, notice_taken, stands_over, is_run_due}
 
 -- a write under its ticket, as the state has it
 abbrev pub unsent_of : {W : Type 0} → (W → Write) → Ticketed W → Unsent
@@ -57,7 +57,7 @@ module _ (K V O W P S R : Type 0) where
     pub full : (p : Pending K V O W P S R) → is_full
         (whole read_of write_of records access order next p) ≡ nat_le 128 (length p.writes)
     pub added : (at_once : Bool) (w : W) (p : Pending K V O W P S R)
-        → whole read_of write_of records access order next (with_write at_once w p)
+        → whole read_of write_of records access order next (with_queued_write at_once w p)
         ≡ (let s = whole read_of write_of records access order next p in
         record s {
           unsent = if at_once then s.unsent

@@ -4,7 +4,7 @@ ghost use Rattle.std.specs.String.{string_bytes};
 ghost use Rattle.std.specs.Result.{IsErrOf};
 ghost use Rattle.std.specs.Int.{IsNextPowerOfTwo};
 ghost use Rattle.policy_base.specs.Counts.{incremented, grown};
-ghost use Rattle.engine_pending.specs.Pending.{IsUntouched, MakesRoom, is_run_due, notice_taken, stands_over, ticket_sent, ticketed_at, told_if, with_write, without_ticketed};
+ghost use Rattle.engine_pending.specs.Pending.{IsUntouched, MakesRoom, is_run_due, notice_taken, stands_over, ticket_sent, ticketed_at, told_if, with_queued_write, without_ticketed};
 ghost use Rattle.engine_pending.specs.declared.tickets.Ticketed.{Ticketed};
 
 use crate::covering::is_any_over;
@@ -388,7 +388,7 @@ impl<K, V, O, W, S, R: Rules<K, V>> Backlog<K, V, O, W, S, R> {
     pub fn add_write(&mut self, write: W, at_once: bool)
         requires room { 0 < self.old.reserved }
         requires queue { at_once ≡ true → length self.old.writes < 128 }
-        ensures { self.new ≡ with_write at_once write self.old }
+        ensures { self.new ≡ with_queued_write at_once write self.old }
     {
         let ticket = self.next_ticket;
         self.next_ticket += 1;

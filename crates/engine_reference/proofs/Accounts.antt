@@ -13,7 +13,7 @@ use Rattle.engine_reference.specs.Soundness.{AreOnce, IsIn, number_of, IsPending
 use Rattle.std.proofs.lemmas.Bool.Decides.{nat_tests}
 
 -- what a choice gives that is none
-cond_none : {A : Type 0} (b : Bool) (x : A) (o : Option A) → cond b (Some x) o ≡ None → (b ≡ false) × (o ≡ None)
+pub cond_none : {A : Type 0} (b : Bool) (x : A) (o : Option A) → cond b (Some x) o ≡ None → (b ≡ false) × (o ≡ None)
 cond_none true x o h = absurd (cc)
 cond_none false x o h = (refl, h)
 
@@ -98,15 +98,14 @@ module _ {K V : Type 0} where
 
   pub only_one : (n : ℕ) (x : Record K V) (rs : List (Record K V)) → AreNumbered rs → record_at rs n ≡ Some x → Each (λ r. r.number ≡ n → r ≡ x) rs
   only_one n x [] numbered there = tt
-  only_one n x (r ∷ rs) numbered there = go (r.number == n) refl there (λ h. only_one n x rs numbered.1 h)
-    where
-      go : (b : Bool) → eqb r.number n ≡ b → cond b (Some r) (record_at rs n) ≡ Some x → (record_at rs n ≡ Some x → Each (λ r. r.number ≡ n → r ≡ x) rs)
-          → (r.number ≡ n → r ≡ x) × Each (λ r. r.number ≡ n → r ≡ x) rs
-      go true t h later =
-          let one : r ≡ x = cc in
-          let rest = none_there n rs (ap (λ k. record_at rs k) (sym (eqb-true r.number n t)) ∙ numbered.0) in
-          ((λ e. one), each-map (λ r. r.number ≡ n → ⊥) (λ r. r.number ≡ n → r ≡ x) (λ r other e. absurd (other e)) rs rest)
-      go false t h later = ((λ e. absurd (eqb-false r.number n t e)), later h)
+  only_one n x (r ∷ rs) numbered there = elim (cases_Bool (r.number == n)) [
+    | inl t ↦
+        let here = rw t at there in
+        let one : r ≡ x = cc in
+        let rest = none_there n rs (ap (λ k. record_at rs k) (sym (eqb-true r.number n t)) ∙ numbered.0) in
+        ((λ e. one), each-map (λ r. r.number ≡ n → ⊥) (λ r. r.number ≡ n → r ≡ x) (λ r other e. absurd (other e)) rs rest)
+    | inr t ↦ ((λ e. absurd (eqb-false r.number n t e)), only_one n x rs numbered.1 (rw t at there))
+  ]
 
   pub record_at-changed_none : (n m : ℕ) (change : Record K V → Record K V) → ((x : Record K V) → (change x).number ≡ x.number) → (rs : List (Record K V)) → record_at rs m ≡ None → record_at (changed_at n change rs) m ≡ None
   record_at-changed_none n m change same [] h = refl

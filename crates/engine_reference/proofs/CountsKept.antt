@@ -1,7 +1,7 @@
 -- The sketch's counts, which nothing changes but reads and the making of the table.
-use Rattle.std.proofs.Common.{arith, ◌≡◌, refl, ap, sym, ◌∙◌, ℕ, Bool, true, false, true≢false, cond, ◌&&◌, List, [], ◌∷◌, Option, Some, None, is_some, ◌==◌}
+use Rattle.std.proofs.Common.{arith, ◌≡◌, refl, ap, sym, ◌∙◌, ℕ, true, true≢false, ◌&&◌, List, [], ◌∷◌, Option, Some, None, is_some, ◌==◌}
 use Rattle.std.specs.Prelude.{nat_lt}
-use Rattle.std.proofs.lemmas.Bool.{eqb-true}
+use Rattle.std.proofs.lemmas.Bool.{cond_both, eqb-true}
 use Rattle.policy_base.specs.Counts.{incremented}
 use Rattle.engine_reference.specs.declared.rules.causes.RemovalCause.{RemovalCause}
 use Rattle.engine_reference.specs.declared.rules.causes.RemovalCause.TheVariants as cause
@@ -14,13 +14,12 @@ use Rattle.engine_reference.specs.declared.data.Write.TheVariants.{Put, Removed}
 use Rattle.engine_reference.specs.Admission.{Verdict, admit, displace, refuse, verdict, wants_table}
 use Rattle.engine_reference.specs.Calls.{with_sent, unsent_at, with_removed}
 use Rattle.engine_reference.specs.Laws.{CountsAreKept, SketchStep, kept, counted, made, hash_of}
-use Rattle.engine_reference.specs.Records.{record_at, without_record, held_at, admitted_weight}
-use Rattle.engine_reference.specs.Runs.{Step, reads, writes, grows, leaves, evicts, ends, with_left, left, all_left, after_read, after_hit, after_write, after_put, after_removal, counting, put_off, judged, is_overtaken}
+use Rattle.engine_reference.specs.Records.{record_at, held_at, admitted_weight}
+use Rattle.engine_reference.specs.Runs.{Step, reads, writes, grows, leaves, evicts, ends, with_left, left, all_left, after_read, after_hit, after_write, after_put, after_removal, judged, is_overtaken}
 use Rattle.engine_reference.specs.State.{State, Answers}
 use Rattle.std.specs.Prelude.{nat_le, ◌/◌}
 use Rattle.std.proofs.lemmas.Bool.{and_parts}
 use Rattle.policy_base.specs.Counts.{Sketch}
-use Rattle.engine_reference.specs.Records.{without, moved_to_back}
 use Rattle.std.proofs.lemmas.Bool.Decides.{nat_tests}
 
 module _ {K V P S R : Type 0} where
@@ -35,21 +34,16 @@ module _ {K V P S R : Type 0} where
   all_left-sketch why [] s = refl
   all_left-sketch why (r ∷ rs) s = all_left-sketch why rs (left why r.number s) ∙ left-sketch why r.number s
 
-  -- either of two states has these counts
-  either-sketch : (b : Bool) (s t u : State K V P S R) → t.sketch ≡ s.sketch → u.sketch ≡ s.sketch → (cond b t u).sketch ≡ s.sketch
-  either-sketch true s t u h k = h
-  either-sketch false s t u h k = k
-
   judged-sketch : (u : Upsert) (r : Record K V) (s : State K V P S R) (v : Verdict K V) → (judged u r s v).sketch ≡ s.sketch
   judged-sketch u r s admit = refl
   judged-sketch u r s (displace victims) = all_left-sketch cause.Size victims s
-  judged-sketch u r s refuse = either-sketch (is_overtaken u r) s (put_off u s) (left cause.Size u.number s) refl (left-sketch cause.Size u.number s)
+  judged-sketch u r s refuse = cond_both (is_overtaken u r) _ _ (λ (t : State K V P S R). t.sketch ≡ s.sketch) (λ _. refl) (λ _. left-sketch cause.Size u.number s)
 
   after_put-sketch : (u : Upsert) (o : Option (Record K V)) (s : State K V P S R) → (after_put u o s).sketch ≡ s.sketch
   after_put-sketch u None s = refl
   after_put-sketch u (Some r) s =
-      either-sketch (nat_lt r.applied u.write) s (cond (is_some r.counts) (counting u s) (judged u r s (verdict s u))) s
-      (either-sketch (is_some r.counts) s (counting u s) (judged u r s (verdict s u)) refl (judged-sketch u r s (verdict s u))) refl
+      cond_both (nat_lt r.applied u.write) _ _ (λ (t : State K V P S R). t.sketch ≡ s.sketch)
+      (λ _. cond_both (is_some r.counts) _ _ (λ (t : State K V P S R). t.sketch ≡ s.sketch) (λ _. refl) (λ _. judged-sketch u r s (verdict s u))) (λ _. refl)
 
   after_removal-sketch : (o : Option (Record K V)) (s : State K V P S R) → (after_removal o s).sketch ≡ s.sketch
   after_removal-sketch None s = refl

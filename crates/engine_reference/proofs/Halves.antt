@@ -1,7 +1,6 @@
 -- Calls in two halves.
-use Rattle.std.proofs.Common.{◌≡◌, ap, ℕ, ◌+◌, ◌-◌, arith, Bool, Option, Some, None, refl}
+use Rattle.std.proofs.Common.{◌≡◌, ap, ℕ, ◌+◌, ◌-◌, arith, Option, Some, None, refl}
 use Rattle.engine_reference.specs.declared.data.Record.{Record}
-use Rattle.engine_reference.specs.declared.data.Registered.{Registered}
 use Rattle.engine_reference.specs.Calls.{removal_rooms, with_removed, with_removal_room, with_reserved_removal, with_predicate}
 use Rattle.engine_reference.specs.Laws.{HalvesAreWhole}
 use Rattle.engine_reference.specs.Records.{held_at}

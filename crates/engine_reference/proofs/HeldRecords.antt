@@ -1,7 +1,7 @@
 -- What is held after a record was changed or taken away.
-use Rattle.std.proofs.Common.{inr, inl, arith, ◌≡◌, refl, ap, sym, ◌∙◌, ℕ, suc, Bool, true, false, cond, List, [], ◌∷◌, Some, eqb, ◌==◌}
+use Rattle.std.proofs.Common.{inr, inl, arith, ◌≡◌, refl, ap, sym, ◌∙◌, ℕ, suc, true, false, cond, List, [], ◌∷◌, Some, eqb, ◌==◌}
 use Rattle.std.specs.Prelude.{slice_get, remove}
-use Rattle.std.proofs.lemmas.Bool.{cases_Bool, eqb-true}
+use Rattle.std.proofs.lemmas.Bool.{cases_Bool}
 use Rattle.engine_reference.specs.declared.data.Entry.{Entry}
 use Rattle.engine_reference.specs.declared.data.Record.{Record}
 use Rattle.engine_reference.specs.Records.{record_at, without_record, changed_at, held_entries}
@@ -36,23 +36,25 @@ module _ {K V : Type 0} where
   held-without (x ∷ rs) number r there held =
       elim (cases_Bool (x.number == number)) [
         | inl e ↦ let h = rw e at there in let later = held-without rs number r in let same : x ≡ r = cc in let whole : held_entries (x ∷ rs) ≡ r.entry ∷ held_entries rs = ap (λ h. cond h (x.entry ∷ held_entries rs) (held_entries rs)) (ap (λ y. y.is_held) same ∙ held) ∙ ap (λ y. y.entry ∷ held_entries rs) same in record { place = 0; there = ap (λ es. slice_get es 0) whole; after = ap (λ b. held_entries (cond b rs (x ∷ without_record number rs))) e ∙ sym (ap (λ es. remove es 0) whole) }
-        | inr e ↦ let h = rw e at there in past x.is_held refl e ((held-without rs number r) h held)
+        | inr e ↦ let h = rw e at there in past e (held-without rs number r h held)
       ]
     where
-      past : (b : Bool) → x.is_held ≡ b → eqb x.number number ≡ false → GoesFrom rs number r.entry → GoesFrom (x ∷ rs) number r.entry
-      past true h t p = record {
-        place = suc p.place;
-        there = ap (λ b. slice_get (cond b (x.entry ∷ held_entries rs) (held_entries rs)) (suc p.place)) h ∙ p.there;
-        after = ap (λ b. held_entries (cond b rs (x ∷ without_record number rs))) t
-            ∙ ap (λ b. cond b (x.entry ∷ held_entries (without_record number rs)) (held_entries (without_record number rs))) h
-            ∙ ap (λ es. x.entry ∷ es) p.after
-            ∙ sym (ap (λ b. remove (cond b (x.entry ∷ held_entries rs) (held_entries rs)) (suc p.place)) h);
-      }
-      past false h t p = record {
-        place = p.place;
-        there = ap (λ b. slice_get (cond b (x.entry ∷ held_entries rs) (held_entries rs)) p.place) h ∙ p.there;
-        after = ap (λ b. held_entries (cond b rs (x ∷ without_record number rs))) t
-            ∙ ap (λ b. cond b (x.entry ∷ held_entries (without_record number rs)) (held_entries (without_record number rs))) h
-            ∙ p.after
-            ∙ sym (ap (λ b. remove (cond b (x.entry ∷ held_entries rs) (held_entries rs)) p.place) h);
-      }
+      past : eqb x.number number ≡ false → GoesFrom rs number r.entry → GoesFrom (x ∷ rs) number r.entry
+      past t p = elim (cases_Bool x.is_held) [
+        | inl h ↦ record {
+          place = suc p.place;
+          there = ap (λ b. slice_get (cond b (x.entry ∷ held_entries rs) (held_entries rs)) (suc p.place)) h ∙ p.there;
+          after = ap (λ b. held_entries (cond b rs (x ∷ without_record number rs))) t
+              ∙ ap (λ b. cond b (x.entry ∷ held_entries (without_record number rs)) (held_entries (without_record number rs))) h
+              ∙ ap (λ es. x.entry ∷ es) p.after
+              ∙ sym (ap (λ b. remove (cond b (x.entry ∷ held_entries rs) (held_entries rs)) (suc p.place)) h);
+        }
+        | inr h ↦ record {
+          place = p.place;
+          there = ap (λ b. slice_get (cond b (x.entry ∷ held_entries rs) (held_entries rs)) p.place) h ∙ p.there;
+          after = ap (λ b. held_entries (cond b rs (x ∷ without_record number rs))) t
+              ∙ ap (λ b. cond b (x.entry ∷ held_entries (without_record number rs)) (held_entries (without_record number rs))) h
+              ∙ p.after
+              ∙ sym (ap (λ b. remove (cond b (x.entry ∷ held_entries rs) (held_entries rs)) p.place) h);
+        }
+      ]

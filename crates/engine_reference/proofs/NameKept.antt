@@ -1,11 +1,11 @@
 -- The name, which nothing changes but giving one.
-use Rattle.std.proofs.Common.{inr, inl, MatchBool, ◌≡◌, refl, ap, ◌∙◌, ℕ, Bool, true, false, Option, Some, None}
+use Rattle.std.proofs.Common.{inr, inl, ◌≡◌, refl, ap, ◌∙◌, ℕ, Option, Some, None}
 use Rattle.engine_reference.specs.declared.data.Record.{Record}
 use Rattle.engine_reference.specs.declared.data.Write.{Write}
 use Rattle.engine_reference.specs.Calls.{with_sent, unsent_at, with_removed, with_written, MaintainsIfDue, with_read}
 use Rattle.engine_reference.specs.Laws.{NameIsKept}
 use Rattle.engine_reference.specs.Records.{held_at}
-use Rattle.engine_reference.specs.Runs.{RunsToEnd, is_due}
+use Rattle.engine_reference.specs.Runs.{is_due}
 use Rattle.engine_reference.specs.State.{State, Answers}
 use Rattle.engine_reference.specs.Visible.{visible_record}
 use Rattle.engine_reference.proofs.RestKept.{run-rest}

@@ -1,6 +1,7 @@
 -- What maintenance has no part in, which no run changes.
-use Rattle.std.proofs.Common.{◌≡◌, refl, ap, ◌∙◌, ℕ, Bool, true, false, cond, List, [], ◌∷◌, Option, Some, None, is_some}
+use Rattle.std.proofs.Common.{◌≡◌, refl, ap, ◌∙◌, ℕ, List, [], ◌∷◌, Option, Some, None, is_some}
 use Rattle.std.specs.Prelude.{nat_lt}
+use Rattle.std.proofs.lemmas.Bool.{cond_both}
 use Rattle.policy_base.specs.Counts.{incremented}
 use Rattle.engine_reference.specs.declared.rules.causes.RemovalCause.{RemovalCause}
 use Rattle.engine_reference.specs.declared.rules.causes.RemovalCause.TheVariants as cause
@@ -12,8 +13,8 @@ use Rattle.engine_reference.specs.declared.data.Write.{Write}
 use Rattle.engine_reference.specs.declared.data.Write.TheVariants.{Put, Removed}
 use Rattle.engine_reference.specs.Admission.{Verdict, admit, displace, refuse, verdict}
 use Rattle.engine_reference.specs.Laws.{rest_of, RunsKeepRest}
-use Rattle.engine_reference.specs.Records.{record_at, without_record, without, moved_to_back}
-use Rattle.engine_reference.specs.Runs.{Step, Steps, Runs, reads, writes, grows, leaves, evicts, ends, with_left, left, all_left, after_read, after_hit, after_write, after_put, after_removal, counting, put_off, judged, is_overtaken}
+use Rattle.engine_reference.specs.Records.{record_at}
+use Rattle.engine_reference.specs.Runs.{Step, Steps, Runs, reads, writes, grows, leaves, evicts, ends, with_left, left, all_left, after_read, after_hit, after_write, after_put, after_removal, judged, is_overtaken}
 use Rattle.engine_reference.specs.State.{State, Answers}
 
 module _ {K V P S R : Type 0} where
@@ -28,25 +29,20 @@ module _ {K V P S R : Type 0} where
   all_left-rest why [] s = refl
   all_left-rest why (r ∷ rs) s = all_left-rest why rs (left why r.number s) ∙ left-rest why r.number s
 
-  -- either of two states has this rest
-  either-rest : (b : Bool) (s t u : State K V P S R) → rest_of t ≡ rest_of s → rest_of u ≡ rest_of s → rest_of (cond b t u) ≡ rest_of s
-  either-rest true s t u h k = h
-  either-rest false s t u h k = k
-
   judged-rest : (u : Upsert) (r : Record K V) (s : State K V P S R) (v : Verdict K V) → rest_of (judged u r s v) ≡ rest_of s
   judged-rest u r s admit = refl
   judged-rest u r s (displace victims) = all_left-rest cause.Size victims s
-  judged-rest u r s refuse = either-rest (is_overtaken u r) s (put_off u s) (left cause.Size u.number s) refl (left-rest cause.Size u.number s)
+  judged-rest u r s refuse = cond_both (is_overtaken u r) _ _ (λ (t : State K V P S R). rest_of t ≡ rest_of s) (λ _. refl) (λ _. left-rest cause.Size u.number s)
 
   after_put-rest : (u : Upsert) (o : Option (Record K V)) (s : State K V P S R) → rest_of (after_put u o s) ≡ rest_of s
   after_put-rest u None s = refl
   after_put-rest u (Some r) s =
-      either-rest (nat_lt r.applied u.write) s (cond (is_some r.counts) (counting u s) (judged u r s (verdict s u))) s
-      (either-rest (is_some r.counts) s (counting u s) (judged u r s (verdict s u)) refl (judged-rest u r s (verdict s u))) refl
+      cond_both (nat_lt r.applied u.write) _ _ (λ (t : State K V P S R). rest_of t ≡ rest_of s)
+      (λ _. cond_both (is_some r.counts) _ _ (λ (t : State K V P S R). rest_of t ≡ rest_of s) (λ _. refl) (λ _. judged-rest u r s (verdict s u))) (λ _. refl)
 
   after_removal-rest : (o : Option (Record K V)) (s : State K V P S R) → rest_of (after_removal o s) ≡ rest_of s
   after_removal-rest None s = refl
-  after_removal-rest (Some r) s = either-rest r.is_held s s (record s { records = without_record r.number s.records; access = without r.number s.access; order = without r.number s.order }) refl refl
+  after_removal-rest (Some r) s = cond_both r.is_held _ _ (λ (t : State K V P S R). rest_of t ≡ rest_of s) (λ _. refl) (λ _. refl)
 
   after_write-rest : (w : Write) (s : State K V P S R) → rest_of (after_write w s) ≡ rest_of s
   after_write-rest (Put u) s = after_put-rest u (record_at s.records u.number) s
@@ -54,7 +50,7 @@ module _ {K V P S R : Type 0} where
 
   after_hit-rest : (o : Option (Record K V)) (s : State K V P S R) → rest_of (after_hit o s) ≡ rest_of s
   after_hit-rest None s = refl
-  after_hit-rest (Some r) s = either-rest (is_some r.counts) s (record s { access = moved_to_back r.number s.access }) s refl refl
+  after_hit-rest (Some r) s = cond_both (is_some r.counts) _ _ (λ (t : State K V P S R). rest_of t ≡ rest_of s) (λ _. refl) (λ _. refl)
 
   after_read-rest : (r : Read) (s : State K V P S R) → rest_of (after_read r s) ≡ rest_of s
   after_read-rest (Hit number hash) s = after_hit-rest (record_at s.records number) (record s { sketch = incremented s.sketch hash })

@@ -1,5 +1,5 @@
 -- What look-ups see of sending, clears and predicates.
-use Rattle.std.proofs.Common.{◌≡◌, refl, ap, sym, ◌∙◌, ℕ, Bool, true, false, true≢false, cond, not, ◌&&◌, ◌||◌, List, [], ◌∷◌, ◌++◌, Option, Some, None, inl, inr, ◌⊎◌}
+use Rattle.std.proofs.Common.{◌≡◌, refl, ap, ◌∙◌, ℕ, Bool, true, not, ◌&&◌, ◌||◌, List, [], ◌∷◌, ◌++◌, Option, Some, None, inl, inr, ◌⊎◌}
 use Rattle.std.specs.Prelude.{nat_lt, max}
 use Rattle.std.specs.List.{list_any}
 use Rattle.std.specs.Option.{option_map}
@@ -10,6 +10,7 @@ use Rattle.engine_reference.specs.Records.{held_at}
 use Rattle.engine_reference.specs.Visible.{visible, passing, is_visible, is_covered}
 use Rattle.std.proofs.Common.{◌<◌, arith}
 use Rattle.std.proofs.lemmas.Bool.{or_cases, ltb-true, lt-ltb}
+use Rattle.std.proofs.lemmas.List.Folds.{list_any-append}
 use Rattle.std.proofs.Math.Bool.{or-true}
 use Rattle.engine_reference.specs.Times.{has_come}
 use Rattle.engine_reference.specs.Visible.{is_covered_by}
@@ -35,10 +36,7 @@ through f a b (inr e) = inr (ap (λ o. option_map f o) e)
 
 -- not dead and not covered now, so neither before
 weaker : (dead c d : Bool) → (d ≡ true → c ≡ true) → (not dead && not c) ≡ true → (not dead && not d) ≡ true
-weaker true c d h e = e
-weaker false true d h e = absurd (true≢false (sym e))
-weaker false false true h e = absurd (true≢false (sym (h refl)))
-weaker false false false h e = e
+weaker dead c d h e = grind (arith, h, e)
 
 later_clear : (at cleared step : ℕ) (rest : Bool) → (nat_lt at cleared || rest) ≡ true → (nat_lt at (max cleared step) || rest) ≡ true
 later_clear at cleared step rest h = elim (or_cases (nat_lt at cleared) rest h) [
@@ -46,13 +44,8 @@ later_clear at cleared step rest h = elim (or_cases (nat_lt at cleared) rest h) 
   | inr t ↦ ap (λ b. nat_lt at (max cleared step) || b) t ∙ or-true (nat_lt at (max cleared step))
 ]
 
-one_more : {X : Type 0} (f : X → Bool) (x : X) (xs : List X) (b : Bool) → (b || list_any f xs) ≡ true → (b || list_any f (xs ++ x ∷ [])) ≡ true
-one_more f x xs true h = refl
-one_more f x [] false h = absurd (true≢false (sym h))
-one_more f x (y ∷ xs) false h = elim (or_cases (f y) (list_any f xs) h) [
-  | inl t ↦ ap (λ b. b || list_any f (xs ++ x ∷ [])) t
-  | inr t ↦ ap (λ b. f y || b) (one_more f x xs false t) ∙ or-true (f y)
-]
+one_more : {X : Type 0} (f : X → Bool) (x : X) (xs : List X) (at cleared : ℕ) → (nat_lt at cleared || list_any f xs) ≡ true → (nat_lt at cleared || list_any f (xs ++ x ∷ [])) ≡ true
+one_more f x xs at cleared h = grind (arith, list_any-append f xs (x ∷ []), h)
 
 module _ (K V P S R : Type 0) where
   pub cover_shows_nothing : CoverShowsNothing K V P S R
@@ -64,5 +57,5 @@ module _ (K V P S R : Type 0) where
     covered = λ eq answers p s moment key.
         through (λ r. r.entry) _ _ (stronger (λ r. is_visible answers (with_predicate p s) moment r.entry) (λ r. is_visible answers s moment r.entry)
         (λ r. weaker (has_come s.settings moment r.entry) (is_covered answers (with_predicate p s) r.entry) (is_covered answers s r.entry)
-        (one_more (λ q. is_covered_by answers s.rules q r.entry) p s.predicates (nat_lt r.entry.step s.cleared))) (held_at eq s.records key));
+        (one_more (λ q. is_covered_by answers s.rules q r.entry) p s.predicates r.entry.step s.cleared)) (held_at eq s.records key));
   }

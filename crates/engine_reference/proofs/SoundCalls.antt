@@ -1,6 +1,6 @@
 -- Calls keep a sound state sound.
-use Rattle.std.proofs.Common.{MatchBool, ◌≡◌, refl, ap, sym, ◌∙◌, subst, ℕ, ◌+◌, ◌<◌, arith, Bool, true, false, true≢false, cond, ◌&&◌, List, [], ◌∷◌, ◌++◌, Option, Some, None, map, is_some, inl, inr, ◌⊎◌, eqb, ◌==◌}
-use Rattle.std.proofs.lemmas.Bool.{cases_Bool, eqb-true, eq-eqb, ne_eqb, and_parts}
+use Rattle.std.proofs.Common.{◌≡◌, refl, ap, sym, ◌∙◌, subst, ℕ, ◌+◌, ◌<◌, arith, Bool, true, false, true≢false, cond, List, [], ◌∷◌, ◌++◌, Option, Some, None, map, is_some, inl, inr, ◌⊎◌}
+use Rattle.std.proofs.lemmas.Bool.{cases_Bool, ne_eqb}
 use Rattle.engine_reference.specs.declared.data.Entry.{Entry}
 use Rattle.engine_reference.specs.declared.data.Record.{Record}
 use Rattle.engine_reference.specs.declared.data.Unsent.{Unsent}
@@ -9,7 +9,7 @@ use Rattle.engine_reference.specs.declared.data.Write.TheVariants.{Put, Removed}
 use Rattle.engine_reference.specs.Calls.{with_written, first_entry, next_entry, with_sent, unsent_at, without_ticket, with_removed, MaintainsIfDue, with_read, used_entry}
 use Rattle.engine_reference.specs.Laws.{CallsStaySound}
 use Rattle.engine_reference.specs.Records.{record_at, held_at, changed_at, held_weight}
-use Rattle.engine_reference.specs.Runs.{RunsToEnd, is_due}
+use Rattle.engine_reference.specs.Runs.{is_due}
 use Rattle.engine_reference.specs.Soundness.{IsIn, number_of, IsPending, Each, AreNumbered, IsLastOf, Fits, IsAccounted, IsSound}
 use Rattle.engine_reference.specs.State.{State, Answers}
 use Rattle.engine_reference.specs.Visible.{visible_record}
@@ -163,13 +163,7 @@ module _ {K V : Type 0} where
   -- every record of its number is that record
   pub held_at-only : (eq : K → K → Bool) (rs : List (Record K V)) (key : K) (r : Record K V) → AreNumbered rs → held_at eq rs key ≡ Some r → record_at rs r.number ≡ Some r
   held_at-only eq [] key r numbered e = absurd (cc)
-  held_at-only eq (x ∷ rs) key r numbered e = go (x.is_held && eq key x.entry.key) e (held_at-only eq rs key r numbered.1)
-    where
-      go : (b : Bool) → cond b (Some x) (held_at eq rs key) ≡ Some r → (held_at eq rs key ≡ Some r → record_at rs r.number ≡ Some r) → cond (eqb x.number r.number) (Some x) (record_at rs r.number) ≡ Some r
-      go true e later =
-          let same : x ≡ r = cc in
-          ap (λ b. cond b (Some x) (record_at rs r.number)) (eq-eqb x.number r.number (ap (λ y. y.number) same)) ∙ ap Some same
-      go false e later = let next = later e in grind (arith, nat_tests, next)
+  held_at-only eq (x ∷ rs) key r numbered e = let next = held_at-only eq rs key r numbered.1 in grind (arith, nat_tests, e, next)
 
   pub each-push : (Q : Record K V → Type 0) (rs : List (Record K V)) (x : Record K V) → Each Q rs → Q x → Each Q (rs ++ x ∷ [])
   each-push Q [] x h k = (k, tt)
@@ -177,11 +171,9 @@ module _ {K V : Type 0} where
 
   record_at-push_none : (rs : List (Record K V)) (x : Record K V) (n : ℕ) → record_at rs n ≡ None → (x.number ≡ n → ⊥) → record_at (rs ++ x ∷ []) n ≡ None
   record_at-push_none [] x n h other = ap (λ b. cond b (Some x) None) (ne_eqb x.number n other)
-  record_at-push_none (r ∷ rs) x n h other = go (eqb r.number n) h (λ e. record_at-push_none rs x n e other)
-    where
-      go : (b : Bool) → cond b (Some r) (record_at rs n) ≡ None → (record_at rs n ≡ None → record_at (rs ++ x ∷ []) n ≡ None) → cond b (Some r) (record_at (rs ++ x ∷ []) n) ≡ None
-      go true e later = absurd (cc)
-      go false e later = later e
+  record_at-push_none (r ∷ rs) x n h other =
+      let next : record_at rs n ≡ None → record_at (rs ++ x ∷ []) n ≡ None = λ e. record_at-push_none rs x n e other in
+      grind (arith, nat_tests, h, next)
 
   pub numbered-push : (next : ℕ) (rs : List (Record K V)) (x : Record K V) → x.number ≡ next → Each (λ r. r.number < next) rs → AreNumbered rs → AreNumbered (rs ++ x ∷ [])
   numbered-push next [] x e below h = (refl, tt)

@@ -1,7 +1,7 @@
 -- Runs keep a sound state sound, and where nothing is pending its counts are exact.
-use Rattle.std.proofs.Common.{zero, suc, ◌≡◌, refl, ap, sym, ◌∙◌, subst, ℕ, ◌+◌, ◌<◌, ◌≤◌, arith, Bool, true, false, true≢false, cond, List, [], ◌∷◌, Option, Some, None, length, is_some, inl, inr}
+use Rattle.std.proofs.Common.{zero, suc, ◌≡◌, refl, ap, sym, ◌∙◌, subst, ℕ, ◌+◌, ◌<◌, ◌≤◌, arith, true, true≢false, cond, List, [], ◌∷◌, Option, Some, None, length, is_some, inl, inr}
 use Rattle.std.specs.Prelude.{fold, nat_lt, min, slice_get}
-use Rattle.std.proofs.lemmas.Bool.{cases_Bool, ltb-true, ltb-false, cases_eq, cases_lt, eq-eqb}
+use Rattle.std.proofs.lemmas.Bool.{cases_Bool, cond_both, ltb-true, ltb-false, cases_eq, cases_lt, eq-eqb}
 use Rattle.policy_base.specs.Counts.{incremented}
 use Rattle.engine_reference.specs.declared.rules.causes.RemovalCause.{RemovalCause}
 use Rattle.engine_reference.specs.declared.rules.causes.RemovalCause.TheVariants as cause
@@ -105,10 +105,6 @@ module _ {K V P S R : Type 0} where
   Frame-trans : (a b c : State K V P S R) → Frame a b → Frame b c → Frame a c
   Frame-trans a b c h k = record { unsent = k.unsent ∙ h.unsent; writes = k.writes ∙ h.writes; reads = k.reads ∙ h.reads; next = k.next ∙ h.next }
 
-  Frame-either : (b : Bool) (s t u : State K V P S R) → Frame s t → Frame s u → Frame s (cond b t u)
-  Frame-either true s t u h k = h
-  Frame-either false s t u h k = k
-
   pub with_left-frame : (why : RemovalCause) (s : State K V P S R) (o : Option (Record K V)) → Frame s (with_left why s o)
   with_left-frame why s None = Frame-refl s
   with_left-frame why s (Some r) = record { unsent = refl; writes = refl; reads = refl; next = refl }
@@ -126,17 +122,16 @@ module _ {K V P S R : Type 0} where
   judged-frame : (u : Upsert) (r : Record K V) (s : State K V P S R) (v : Verdict K V) → Frame s (judged u r s v)
   judged-frame u r s admit = counting-frame u s
   judged-frame u r s (displace vs) = let t = all_left cause.Size vs s in Frame-trans s t (counting u t) (all_left-frame cause.Size vs s) (counting-frame u t)
-  judged-frame u r s refuse = Frame-either (is_overtaken u r) s (put_off u s) (left cause.Size u.number s) (record { unsent = refl; writes = refl; reads = refl; next = refl }) (left-frame cause.Size u.number s)
+  judged-frame u r s refuse = cond_both (is_overtaken u r) _ _ (Frame s) (λ _. record { unsent = refl; writes = refl; reads = refl; next = refl }) (λ _. left-frame cause.Size u.number s)
 
   after_put-frame : (u : Upsert) (o : Option (Record K V)) (s : State K V P S R) → Frame s (after_put u o s)
   after_put-frame u None s = Frame-refl s
   after_put-frame u (Some r) s =
-      Frame-either (nat_lt r.applied u.write) s (cond (is_some r.counts) (counting u s) (judged u r s (verdict s u))) s
-      (Frame-either (is_some r.counts) s (counting u s) (judged u r s (verdict s u)) (counting-frame u s) (judged-frame u r s (verdict s u))) (Frame-refl s)
+      cond_both (nat_lt r.applied u.write) _ _ (Frame s) (λ _. cond_both (is_some r.counts) _ _ (Frame s) (λ _. counting-frame u s) (λ _. judged-frame u r s (verdict s u))) (λ _. Frame-refl s)
 
   after_removal-frame : (o : Option (Record K V)) (s : State K V P S R) → Frame s (after_removal o s)
   after_removal-frame None s = Frame-refl s
-  after_removal-frame (Some r) s = Frame-either r.is_held s s (record s { records = without_record r.number s.records; access = without r.number s.access; order = without r.number s.order }) (Frame-refl s) (record { unsent = refl; writes = refl; reads = refl; next = refl })
+  after_removal-frame (Some r) s = cond_both r.is_held _ _ (Frame s) (λ _. Frame-refl s) (λ _. record { unsent = refl; writes = refl; reads = refl; next = refl })
 
   pub after_write-frame : (w : Write) (s : State K V P S R) → Frame s (after_write w s)
   after_write-frame (Put u) s = after_put-frame u (record_at s.records u.number) s
@@ -174,28 +169,31 @@ module _ {K V P S R : Type 0} where
         all_newer : Each (λ r. r.number ≡ u.number → r.applied < u.write) s.records
         all_newer = each-map (λ r. r.number ≡ u.number → r ≡ x) (λ r. r.number ≡ u.number → r.applied < u.write) (λ r k e. subst (λ y. y.applied < u.write) (sym (k e)) newer) s.records only
 
-        refused : (b : Bool) → is_overtaken u x ≡ b → AreSound unsent rest next (cond b (put_off u s) (left cause.Size u.number s)).records (cond b (put_off u s) (left cause.Size u.number s)).access
-        refused true t = sound-put_off unsent next u rest s.records s.access
+        put_away : is_overtaken u x ≡ true → AreSound unsent rest next (put_off u s).records (put_off u s).access
+        put_away t = sound-put_off unsent next u rest s.records s.access
             (each-map (λ r. r.number ≡ u.number → r ≡ x) (λ r. r.number ≡ u.number → (r.applied < u.write) × (is_overtaken u r ≡ true))
             (λ r k e. (subst (λ y. y.applied < u.write) (sym (k e)) newer, ap (λ y. is_overtaken u y) (k e) ∙ t)) s.records only) h
-        refused false t = gone (record_at s.records u.number) refl
-          where
-            gone : (o : Option (Record K V)) → record_at s.records u.number ≡ o → AreSound unsent rest next (with_left cause.Size s o).records (with_left cause.Size s o).access
-            gone None e = absurd (let both : Some x ≡ None = sym here ∙ e in cc)
-            gone (Some r) e = sound-gone unsent next (Put u) rest r.number s.records s.access (sym (record_at-number s.records u.number r e)) h
+
+        gone : (o : Option (Record K V)) → record_at s.records u.number ≡ o → AreSound unsent rest next (with_left cause.Size s o).records (with_left cause.Size s o).access
+        gone None e = absurd (let both : Some x ≡ None = sym here ∙ e in cc)
+        gone (Some r) e = sound-gone unsent next (Put u) rest r.number s.records s.access (sym (record_at-number s.records u.number r e)) h
 
         go : (v : Verdict K V) → AreSound unsent rest next (judged u x s v).records (judged u x s v).access
         go admit = sound-counting unsent next u rest s.records s.access all_newer h
         go (displace vs) =
             let k = all_left-sound unsent (Put u ∷ rest) next (λ r. r.number ≡ u.number → r.applied < u.write) cause.Size vs s h all_newer in
             sound-counting unsent next u rest (all_left cause.Size vs s).records (all_left cause.Size vs s).access k.1 k.0
-        go refuse = refused (is_overtaken u x) refl
+        go refuse = cond_both (is_overtaken u x) _ _ (λ (t : State K V P S R). AreSound unsent rest next t.records t.access) put_away (λ _. gone (record_at s.records u.number) refl)
 
     pub after_put-sound : (o : Option (Record K V)) → record_at s.records u.number ≡ o → AreSound unsent rest next (after_put u o s).records (after_put u o s).access
     after_put-sound None here =
         sound-popped unsent next (Put u) rest s.records s.access
         (each-map (λ r. r.number ≡ u.number → ⊥) (λ r. (r.applied ≡ r.writes → ⊥) → IsLastOf (Put u) r → ⊥) (λ r other unsettled last. other (sym last.0)) s.records (none_there u.number s.records here)) h
-    after_put-sound (Some x) here = by_generation (nat_lt x.applied u.write) refl
+    after_put-sound (Some x) here =
+        let now = judged-sound x here in
+        cond_both (nat_lt x.applied u.write) _ _ (λ (t : State K V P S R). AreSound unsent rest next t.records t.access)
+        (λ t. cond_both (is_some x.counts) _ _ (λ (t : State K V P S R). AreSound unsent rest next t.records t.access) (λ _. now (ltb-true x.applied u.write t) admit) (λ _. now (ltb-true x.applied u.write t) (verdict s u)))
+        (λ t. late (ltb-false x.applied u.write t))
       where
         late : u.write ≤ x.applied → AreSound unsent rest next s.records s.access
         late older =
@@ -207,15 +205,6 @@ module _ {K V P S R : Type 0} where
             let is_last = last.1 in
             unsettled (omega arith)) s.records
             (each-both (λ r. r.number ≡ u.number → r ≡ x) (IsAccounted unsent (Put u ∷ rest)) s.records (only_one u.number x s.records h.numbered here) h.accounted)) h
-
-        by_generation : (b : Bool) → nat_lt x.applied u.write ≡ b
-            → AreSound unsent rest next (cond b (cond (is_some x.counts) (counting u s) (judged u x s (verdict s u))) s).records (cond b (cond (is_some x.counts) (counting u s) (judged u x s (verdict s u))) s).access
-        by_generation true t =
-            elim (cases_Bool (is_some x.counts)) [
-              | inl e ↦ rw e (judged-sound x here (ltb-true x.applied u.write t) admit)
-              | inr e ↦ rw e (judged-sound x here (ltb-true x.applied u.write t) (verdict s u))
-            ]
-        by_generation false t = late (ltb-false x.applied u.write t)
 
   after_removal-sound : (unsent : List Unsent) (rest : List Write) (next n : ℕ) (s : State K V P S R) → AreSound unsent (Removed n ∷ rest) next s.records s.access
       → (o : Option (Record K V)) → record_at s.records n ≡ o → AreSound unsent rest next (after_removal o s).records (after_removal o s).access
@@ -252,8 +241,8 @@ module _ {K V P S R : Type 0} where
       moved : ℕ → State K V P S R
       moved m = record t { access = moved_to_back m s.access }
 
-      by_counts : (m : ℕ) (b : Bool) → IsSound (cond b (moved m) t)
-      by_counts m true = record {
+      moved-sound : (m : ℕ) → IsSound (moved m)
+      moved-sound m = record {
         records = record {
           numbered = h.records.numbered;
           below = h.records.below;
@@ -264,11 +253,10 @@ module _ {K V P S R : Type 0} where
         };
         named = h.named;
       }
-      by_counts m false = record { records = h.records; named = h.named }
 
       by_record : (o : Option (Record K V)) → IsSound (after_hit o t)
       by_record None = record { records = h.records; named = h.named }
-      by_record (Some r) = by_counts r.number (is_some r.counts)
+      by_record (Some r) = cond_both (is_some r.counts) _ _ IsSound (λ _. moved-sound r.number) (λ _. record { records = h.records; named = h.named })
 
   pub left-is_sound : (why : RemovalCause) (n : ℕ) (s : State K V P S R) → IsSound s → IsSound (left why n s)
   left-is_sound why n s h =

@@ -1,6 +1,6 @@
 -- What look-ups see after a stretch of maintenance.
-use Rattle.std.proofs.Common.{arith, ◌≡◌, refl, ap, sym, ◌∙◌, ℕ, zero, suc, Bool, true, false, cond, not, ◌&&◌, List, [], ◌∷◌, Option, Some, None, inl, inr, ◌⊎◌}
-use Rattle.std.specs.Prelude.{slice_get, remove, if◌then◌else◌}
+use Rattle.std.proofs.Common.{arith, ◌≡◌, refl, ap, sym, ◌∙◌, ℕ, zero, suc, Bool, true, false, true≢false, cond, not, ◌&&◌, List, [], ◌∷◌, Option, Some, None, inl, inr, ◌⊎◌}
+use Rattle.std.specs.Prelude.{slice_get, remove}
 use Rattle.std.specs.Cmp.{IsEquivalence}
 use Rattle.std.specs.Option.{option_map}
 use Rattle.engine_reference.specs.declared.data.Entry.{Entry}
@@ -11,14 +11,10 @@ use Rattle.engine_reference.specs.State.{State, Answers}
 use Rattle.engine_reference.specs.Telling.{Removal, KeepsCover, TakesAway, AreApart, IsAmong, StaysVisible, entry_of, removed_entries}
 use Rattle.engine_reference.specs.Times.{has_come}
 use Rattle.engine_reference.specs.Visible.{visible, is_visible, is_covered, passing}
+use Rattle.engine_reference.proofs.Accounts.{cond_none}
 use Rattle.engine_reference.proofs.TellingSteps.{run_tells}
 use Rattle.std.proofs.lemmas.Bool.Decides.{nat_tests}
-use Rattle.std.proofs.lemmas.Bool.{cases_Bool}
-
--- what a choice gives that is none
-cond_none : {A : Type 0} (b : Bool) (x : A) (o : Option A) → cond b (Some x) o ≡ None → (b ≡ false) × (o ≡ None)
-cond_none true x o h = absurd (cc)
-cond_none false x o h = (refl, h)
+use Rattle.std.proofs.lemmas.Bool.{cases_Bool, false_from_ne_true}
 
 module _ {K V : Type 0} (eq : K → K → Bool) where
   entry_of-remove : (es : List (Entry K V)) (i : ℕ) (k : K) → entry_of eq es k ≡ None → entry_of eq (remove es i) k ≡ None
@@ -63,9 +59,8 @@ module _ {K V : Type 0} (eq : K → K → Bool) (laws : IsEquivalence eq) where
       let p = cond_none (eq b x.key) x (entry_of eq es b) none in
       ap (λ t. cond t (Some x) (entry_of eq es a)) (laws.congr a b x.key same ∙ p.0) ∙ alike_none es a b same p.1
 
-  apart_heads : (b : Bool) (x e : Entry K V) (q : K) → eq q x.key ≡ b → eq x.key e.key ≡ false → eq q e.key ≡ true → eq q x.key ≡ false
-  apart_heads true x e q t no_match h = absurd (let f : true ≡ false = sym h ∙ laws.congr q x.key e.key t ∙ no_match in cc)
-  apart_heads false x e q t no_match h = t
+  apart_heads : (x e : Entry K V) (q : K) → eq x.key e.key ≡ false → eq q e.key ≡ true → eq q x.key ≡ false
+  apart_heads x e q no_match h = false_from_ne_true _ (λ t. true≢false (sym h ∙ laws.congr q x.key e.key t ∙ no_match))
 
   -- the key's own entry is gone
   remove_same : (es : List (Entry K V)) (i : ℕ) (e : Entry K V) (q : K) → AreApart eq es → slice_get es i ≡ Some e → eq q e.key ≡ true → (entry_of eq es q ≡ Some e) × (entry_of eq (remove es i) q ≡ None)
@@ -76,7 +71,7 @@ module _ {K V : Type 0} (eq : K → K → Bool) (laws : IsEquivalence eq) where
       (ap (λ b. cond b (Some x) (entry_of eq es q)) t ∙ ap Some here, alike_none es q x.key t h.0)
   remove_same (x ∷ es) (suc i) e q h there same =
       let r = remove_same es i e q h.1 there same in
-      let f = apart_heads (eq q x.key) x e q refl (not_among es i e x.key there h.0) same in
+      let f = apart_heads x e q (not_among es i e x.key there h.0) same in
       (ap (λ b. cond b (Some x) (entry_of eq es q)) f ∙ r.0, ap (λ b. cond b (Some x) (entry_of eq (remove es i) q)) f ∙ r.1)
 
   pub taken_apart : (xs : List (Removal K V)) (old new : List (Entry K V)) → AreApart eq old → TakesAway (removed_entries xs) old new → AreApart eq new
@@ -104,16 +99,7 @@ module _ {K V : Type 0} (eq : K → K → Bool) (laws : IsEquivalence eq) where
 module _ {K V : Type 0} (eq : K → K → Bool) where
   held_at-entry : (test : Entry K V → Bool) (rs : List (Record K V)) (q : K) → option_map (λ r. r.entry) (passing (λ r. test r.entry) (held_at eq rs q)) ≡ passing test (entry_of eq (held_entries rs) q)
   held_at-entry test [] q = refl
-  held_at-entry test (r ∷ rs) q = go r.is_held (held_at-entry test rs q)
-    where
-      here : (b : Bool) → option_map (λ r. r.entry) (if b then Some r else None) ≡ (if b then Some r.entry else None)
-      here true = refl
-      here false = refl
-
-      go : (h : Bool) → option_map (λ r. r.entry) (passing (λ r. test r.entry) (held_at eq rs q)) ≡ passing test (entry_of eq (held_entries rs) q)
-          → option_map (λ r. r.entry) (passing (λ r. test r.entry) (cond (h && eq q r.entry.key) (Some r) (held_at eq rs q))) ≡ passing test (entry_of eq (cond h (r.entry ∷ held_entries rs) (held_entries rs)) q)
-      go true later = grind (arith, nat_tests, later)
-      go false later = later
+  held_at-entry test (r ∷ rs) q = let next = held_at-entry test rs q in grind (arith, nat_tests, next)
 
 module _ {K V : Type 0} where
   passing-same : (f g : Entry K V → Bool) (o : Option (Entry K V)) → ((e : Entry K V) → o ≡ Some e → f e ≡ g e) → passing f o ≡ passing g o

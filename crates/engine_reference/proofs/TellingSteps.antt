@@ -1,7 +1,7 @@
 -- Each step tells what it takes away.
 use Rattle.std.proofs.Common.{◌≡◌, refl, ap, sym, ◌∙◌, ℕ, zero, suc, ◌+◌, ◌&&◌, ◌||◌, Bool, true, false, true≢false, cond, not, List, [], ◌∷◌, ◌++◌, Option, Some, None, is_some, append_assoc, append-nil, inl, inr, ◌⊎◌}
 use Rattle.std.specs.List.{list_any}
-use Rattle.std.proofs.lemmas.Bool.{cond_both, and_parts, not-true}
+use Rattle.std.proofs.lemmas.Bool.{cases_Bool, cond_both, and_parts, not-true}
 use Rattle.engine_reference.specs.declared.data.Registered.{Registered}
 use Rattle.std.specs.Prelude.{slice_get, remove, nat_lt, if◌then◌else◌}
 use Rattle.policy_base.specs.Counts.{incremented}
@@ -74,13 +74,15 @@ module _ {K V P R : Type 0} (answers : Answers K V P R) where
   none_covered rules p [] k e none there = absurd (cc)
   none_covered rules p (r ∷ rs) k e none there =
       let parts = and_parts (not (r.is_held && is_covered_by answers rules p r.entry)) (covers_none answers rules p rs) none in
-      go r.is_held k parts.0 there (λ j. none_covered rules p rs j e parts.1)
+      elim (cases_Bool r.is_held) [
+        | inl held ↦ let first = rw held at parts.0 in at_head k first (rw held at there) (λ j. none_covered rules p rs j e parts.1)
+        | inr out ↦ none_covered rules p rs k e parts.1 (rw out at there)
+      ]
     where
-      go : (b : Bool) (k : ℕ) → not (b && is_covered_by answers rules p r.entry) ≡ true → slice_get (cond b (r.entry ∷ held_entries rs) (held_entries rs)) k ≡ Some e
+      at_head : (k : ℕ) → not (is_covered_by answers rules p r.entry) ≡ true → slice_get (r.entry ∷ held_entries rs) k ≡ Some e
           → ((j : ℕ) → slice_get (held_entries rs) j ≡ Some e → is_covered_by answers rules p e ≡ false) → is_covered_by answers rules p e ≡ false
-      go true zero h there later = let same : r.entry ≡ e = cc in ap (λ x. is_covered_by answers rules p x) (sym same) ∙ not-true (is_covered_by answers rules p r.entry) h
-      go true (suc k) h there later = later k there
-      go false k h there later = later k there
+      at_head zero h there later = let same : r.entry ≡ e = cc in ap (λ x. is_covered_by answers rules p x) (sym same) ∙ not-true (is_covered_by answers rules p r.entry) h
+      at_head (suc k) h there later = later k there
 
 module _ {K V P S R : Type 0} where
   pub Keeps-refl : (s : State K V P S R) → Keeps s s
@@ -124,23 +126,22 @@ module _ {K V P S R : Type 0} where
 
   pub with_left-tells : (why : RemovalCause) (s : State K V P S R) (number : ℕ) (o : Option (Record K V)) → record_at s.records number ≡ o → Stretch why s (with_left why s o)
   with_left-tells why s number None there = Stretch-nothing why s s (Keeps-refl s) refl refl
-  with_left-tells why s number (Some r) there = go r.is_held refl
+  with_left-tells why s number (Some r) there = elim (cases_Bool r.is_held) [
+    | inl held ↦ record {
+      removals = (record { cause = why; entry = r.entry }) ∷ [];
+      tells = record {
+        notices = ap (λ h. cond h (told s.settings.tells why r.entry s.notices) s.notices) held ∙ told_once s.settings.tells why r.entry s.notices;
+        entries = let h = held-without s.records r.number r here held in (h.place, h.there, h.after);
+      };
+      keeps = record { settings = refl; cleared = refl; rules = refl; unsent = refl; predicates = refl };
+      only = λ other. (other, tt);
+    }
+    | inr out ↦ Stretch-nothing why s (with_left why s (Some r)) (record { settings = refl; cleared = refl; rules = refl; unsent = refl; predicates = refl })
+        (ap (λ h. cond h (told s.settings.tells why r.entry s.notices) s.notices) out) (held-without_other s.records r.number r here out)
+  ]
     where
       here : record_at s.records r.number ≡ Some r
       here = ap (λ n. record_at s.records n) (record_at-number s.records number r there) ∙ there
-
-      go : (b : Bool) → r.is_held ≡ b → Stretch why s (with_left why s (Some r))
-      go true held = record {
-        removals = (record { cause = why; entry = r.entry }) ∷ [];
-        tells = record {
-          notices = ap (λ h. cond h (told s.settings.tells why r.entry s.notices) s.notices) held ∙ told_once s.settings.tells why r.entry s.notices;
-          entries = let h = held-without s.records r.number r here held in (h.place, h.there, h.after);
-        };
-        keeps = record { settings = refl; cleared = refl; rules = refl; unsent = refl; predicates = refl };
-        only = λ other. (other, tt);
-      }
-      go false out = Stretch-nothing why s (with_left why s (Some r)) (record { settings = refl; cleared = refl; rules = refl; unsent = refl; predicates = refl })
-          (ap (λ h. cond h (told s.settings.tells why r.entry s.notices) s.notices) out) (held-without_other s.records r.number r here out)
 
   pub left-tells : (why : RemovalCause) (number : ℕ) (s : State K V P S R) → Stretch why s (left why number s)
   left-tells why number s = with_left-tells why s number (record_at s.records number) refl
@@ -185,21 +186,20 @@ module _ {K V P S R : Type 0} where
 
   pub after_put-tells : (u : Upsert) (o : Option (Record K V)) (s : State K V P S R) → WriteTells u.weight s (after_put u o s)
   after_put-tells u None s = nothing_written u.weight s s (Keeps-refl s) refl refl
-  after_put-tells u (Some r) s = by_generation (nat_lt r.applied u.write)
+  after_put-tells u (Some r) s =
+      let Well = WriteTells u.weight s in
+      let counts = nothing_written u.weight s (counting u s) (Keeps-counting u s) refl (counting-held u s) in
+      cond_both (nat_lt r.applied u.write) _ _ Well (λ _. cond_both (is_some r.counts) _ _ Well (λ _. counts) (λ _. by_room)) (λ _. nothing_written u.weight s s (Keeps-refl s) refl refl)
     where
       full : Verdict K V
       full = if is_above s.settings.capacity u.weight then refuse else verdict_of_full s.settings.policy s.sketch u (settled_in s.records s.access)
 
-      by_room : (b : Bool) → is_above s.settings.capacity (admitted_weight s.records + u.weight) ≡ b → WriteTells u.weight s (judged u r s (cond b full admit))
-      by_room true above =
+      by_room : WriteTells u.weight s (judged u r s (verdict s u))
+      by_room =
           let h = judged-tells u r s full in
-          record { removals = h.removals; tells = h.tells; keeps = h.keeps; for_size = inr above }
-      by_room false below = nothing_written u.weight s (counting u s) (Keeps-counting u s) refl (counting-held u s)
-
-      by_generation : (b : Bool) → WriteTells u.weight s (cond b (cond (is_some r.counts) (counting u s) (judged u r s (verdict s u))) s)
-      by_generation true =
-          cond_both (is_some r.counts) _ _ (WriteTells u.weight s) (λ _. nothing_written u.weight s (counting u s) (Keeps-counting u s) refl (counting-held u s)) (λ _. by_room (is_above s.settings.capacity (admitted_weight s.records + u.weight)) refl)
-      by_generation false = nothing_written u.weight s s (Keeps-refl s) refl refl
+          cond_both (is_above s.settings.capacity (admitted_weight s.records + u.weight)) full admit (λ v. WriteTells u.weight s (judged u r s v))
+          (λ above. record { removals = h.removals; tells = h.tells; keeps = h.keeps; for_size = inr above })
+          (λ _. nothing_written u.weight s (counting u s) (Keeps-counting u s) refl (counting-held u s))
 
   pub after_removal-tells : (s : State K V P S R) (number : ℕ) (o : Option (Record K V)) → record_at s.records number ≡ o → WriteTells 0 s (after_removal o s)
   after_removal-tells s number None there = nothing_written 0 s s (Keeps-refl s) refl refl

@@ -1,7 +1,7 @@
 -- Records with an unapplied write stay.
 use Rattle.std.proofs.Common.{arith, ◌≡◌, refl, ap, sym, ◌∙◌, ℕ, ◌+◌, Bool, true, false, true≢false, cond, List, [], ◌∷◌, Option, Some, None, is_some, inl, inr, ◌⊎◌, eqb, ◌==◌}
 use Rattle.std.specs.Prelude.{nat_lt}
-use Rattle.std.proofs.lemmas.Bool.{cond_both, cases_Bool, eqb-true, ne_eqb}
+use Rattle.std.proofs.lemmas.Bool.{cond_both, cases_Bool}
 use Rattle.engine_reference.specs.declared.rules.causes.RemovalCause.{RemovalCause}
 use Rattle.engine_reference.specs.declared.rules.causes.RemovalCause.TheVariants as cause
 use Rattle.engine_reference.specs.declared.data.Record.{Record}
@@ -109,7 +109,12 @@ module _ {K V P S R : Type 0} where
 
   -- the victims of a verdict are settled
   victims-settled : (s : State K V P S R) (u : Upsert) (vs : List (Record K V)) → verdict s u ≡ displace vs → AllSettled s.records vs
-  victims-settled s u vs e = by_room (is_above s.settings.capacity (admitted_weight s.records + u.weight)) e
+  victims-settled s u vs e = elim (cases_Bool (is_above s.settings.capacity (admitted_weight s.records + u.weight))) [
+    | inl above ↦
+        let full = rw above at e in
+        elim (cases_Bool (is_above s.settings.capacity u.weight)) [ inl is ↦ let none = rw is at full in absurd (cc) | inr is ↦ by_policy s.settings.policy (rw is at full) ]
+    | inr below ↦ let none = rw below at e in absurd (cc)
+  ]
     where
       settled : List (Record K V)
       settled = settled_in s.records s.access
@@ -126,10 +131,6 @@ module _ {K V P S R : Type 0} where
       by_policy Lru e = absurd (cc)
       by_policy TinyLfu e = by_front (shortest_front u.weight settled) refl e
 
-      by_room : (b : Bool) → cond b (cond (is_above s.settings.capacity u.weight) refuse (verdict_of_full s.settings.policy s.sketch u settled)) admit ≡ displace vs → AllSettled s.records vs
-      by_room true e = elim (cases_Bool (is_above s.settings.capacity u.weight)) [ inl is ↦ absurd (cc) | inr is ↦ by_policy s.settings.policy (rw is at e) ]
-      by_room false e = absurd (cc)
-
   module _ (s : State K V P S R) (u : Upsert) (number : ℕ) (r : Record K V) (there : record_at s.records number ≡ Some r) (f : is_settled r ≡ false) (later : u.number ≡ number → is_overtaken u r ≡ true) where
     still : IsStill K V P S R number r s
     still = record { current = r; there = there; entry = refl; held = refl }
@@ -143,11 +144,9 @@ module _ {K V P S R : Type 0} where
 
     IsStill-after_put : (o : Option (Record K V)) → record_at s.records u.number ≡ o → IsStill K V P S R number r (after_put u o s)
     IsStill-after_put None here = still
-    IsStill-after_put (Some x) here = by_generation (nat_lt x.applied u.write)
-      where
-        by_generation : (b : Bool) → IsStill K V P S R number r (cond b (cond (is_some x.counts) (counting u s) (judged u x s (verdict s u))) s)
-        by_generation true = elim (cases_Bool (is_some x.counts)) [ inl e ↦ rw e (IsStill-counting u s number r still) | inr e ↦ rw e (IsStill-judged x here (verdict s u) refl) ]
-        by_generation false = still
+    IsStill-after_put (Some x) here =
+        let Same = IsStill K V P S R number r in
+        cond_both (nat_lt x.applied u.write) _ _ Same (λ _. cond_both (is_some x.counts) _ _ Same (λ _. IsStill-counting u s number r still) (λ _. IsStill-judged x here (verdict s u) refl)) (λ _. still)
 
 module _ (K V P S R : Type 0) where
   pub unapplied_stay : UnappliedStay K V P S R

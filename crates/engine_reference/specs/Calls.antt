@@ -8,7 +8,7 @@ use Rattle.engine_reference.specs.declared.data.Unsent.{Unsent}
 use Rattle.engine_reference.specs.declared.data.Read.TheVariants.{Hit, Miss}
 use Rattle.engine_reference.specs.declared.data.Write.{Write}
 use Rattle.engine_reference.specs.declared.data.Write.TheVariants.{Put, Removed}
-use Rattle.engine_reference.specs.Records.{record_at, held_at, changed_at, held_weight}
+use Rattle.engine_reference.specs.Records.{held_at, changed_at, held_weight}
 use Rattle.engine_reference.specs.State.{State, Answers}
 use Rattle.engine_reference.specs.Times.{own_expiration, changed_expiration, time_left}
 use Rattle.engine_reference.specs.Visible.{cause_of_write, cause_of_removal, told, visible_record}

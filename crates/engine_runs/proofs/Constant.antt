@@ -1,6 +1,7 @@
 -- What no step of a run changes, among it what a run that goes on has to know of where it began.
-use Rattle.std.proofs.Common.{◌≡◌, refl, ap, ◌∙◌, ℕ, Bool, true, false, cond, List, [], ◌∷◌, Option, Some, None, is_some}
+use Rattle.std.proofs.Common.{◌≡◌, refl, ap, ◌∙◌, ℕ, List, [], ◌∷◌, Option, Some, None, is_some}
 use Rattle.std.specs.Prelude.{nat_lt}
+use Rattle.std.proofs.lemmas.Bool.{cond_both}
 use Rattle.policy_base.specs.Counts.{incremented}
 use Rattle.engine_reference.specs.declared.rules.causes.RemovalCause.{RemovalCause}
 use Rattle.engine_reference.specs.declared.rules.causes.RemovalCause.TheVariants as cause
@@ -13,8 +14,8 @@ use Rattle.engine_reference.specs.declared.data.Read.TheVariants.{Hit, Miss}
 use Rattle.engine_reference.specs.declared.data.Write.{Write}
 use Rattle.engine_reference.specs.declared.data.Write.TheVariants.{Put, Removed}
 use Rattle.engine_reference.specs.Admission.{Verdict, admit, displace, refuse, verdict}
-use Rattle.engine_reference.specs.Records.{record_at, without_record, without, moved_to_back}
-use Rattle.engine_reference.specs.Runs.{Step, Steps, reads, writes, grows, leaves, evicts, ends, with_left, left, all_left, after_read, after_hit, after_write, after_put, after_removal, counting, put_off, judged, is_overtaken}
+use Rattle.engine_reference.specs.Records.{record_at}
+use Rattle.engine_reference.specs.Runs.{Step, Steps, reads, writes, grows, leaves, evicts, ends, with_left, left, all_left, after_read, after_hit, after_write, after_put, after_removal, judged, is_overtaken}
 use Rattle.engine_reference.specs.State.{State, Answers}
 
 pub record Constant : Type 0 where
@@ -37,24 +38,20 @@ module _ {K V P S R : Type 0} where
   all_left-constant why [] s = refl
   all_left-constant why (r ∷ rs) s = all_left-constant why rs (left why r.number s) ∙ left-constant why r.number s
 
-  either-constant : (b : Bool) (s t u : State K V P S R) → constant_of t ≡ constant_of s → constant_of u ≡ constant_of s → constant_of (cond b t u) ≡ constant_of s
-  either-constant true s t u h k = h
-  either-constant false s t u h k = k
-
   judged-constant : (u : Upsert) (r : Record K V) (s : State K V P S R) (v : Verdict K V) → constant_of (judged u r s v) ≡ constant_of s
   judged-constant u r s admit = refl
   judged-constant u r s (displace victims) = all_left-constant cause.Size victims s
-  judged-constant u r s refuse = either-constant (is_overtaken u r) s (put_off u s) (left cause.Size u.number s) refl (left-constant cause.Size u.number s)
+  judged-constant u r s refuse = cond_both (is_overtaken u r) _ _ (λ (t : State K V P S R). constant_of t ≡ constant_of s) (λ _. refl) (λ _. left-constant cause.Size u.number s)
 
   after_put-constant : (u : Upsert) (o : Option (Record K V)) (s : State K V P S R) → constant_of (after_put u o s) ≡ constant_of s
   after_put-constant u None s = refl
   after_put-constant u (Some r) s =
-      either-constant (nat_lt r.applied u.write) s (cond (is_some r.counts) (counting u s) (judged u r s (verdict s u))) s
-      (either-constant (is_some r.counts) s (counting u s) (judged u r s (verdict s u)) refl (judged-constant u r s (verdict s u))) refl
+      cond_both (nat_lt r.applied u.write) _ _ (λ (t : State K V P S R). constant_of t ≡ constant_of s)
+      (λ _. cond_both (is_some r.counts) _ _ (λ (t : State K V P S R). constant_of t ≡ constant_of s) (λ _. refl) (λ _. judged-constant u r s (verdict s u))) (λ _. refl)
 
   after_removal-constant : (o : Option (Record K V)) (s : State K V P S R) → constant_of (after_removal o s) ≡ constant_of s
   after_removal-constant None s = refl
-  after_removal-constant (Some r) s = either-constant r.is_held s s (record s { records = without_record r.number s.records; access = without r.number s.access; order = without r.number s.order }) refl refl
+  after_removal-constant (Some r) s = cond_both r.is_held _ _ (λ (t : State K V P S R). constant_of t ≡ constant_of s) (λ _. refl) (λ _. refl)
 
   after_write-constant : (w : Write) (s : State K V P S R) → constant_of (after_write w s) ≡ constant_of s
   after_write-constant (Put u) s = after_put-constant u (record_at s.records u.number) s
@@ -62,7 +59,7 @@ module _ {K V P S R : Type 0} where
 
   after_hit-constant : (o : Option (Record K V)) (s : State K V P S R) → constant_of (after_hit o s) ≡ constant_of s
   after_hit-constant None s = refl
-  after_hit-constant (Some r) s = either-constant (is_some r.counts) s (record s { access = moved_to_back r.number s.access }) s refl refl
+  after_hit-constant (Some r) s = cond_both (is_some r.counts) _ _ (λ (t : State K V P S R). constant_of t ≡ constant_of s) (λ _. refl) (λ _. refl)
 
   after_read-constant : (r : Read) (s : State K V P S R) → constant_of (after_read r s) ≡ constant_of s
   after_read-constant (Hit number hash) s = after_hit-constant (record_at s.records number) (record s { sketch = incremented s.sketch hash })

@@ -1,8 +1,9 @@
 -- The walk of a contest, and what it comes to.
-use Rattle.std.proofs.Common.{◌≡◌, refl, ap, sym, ◌∙◌, subst, ℕ, ◌+◌, ◌-◌, ◌<◌, arith, Bool, true, false, ◌&&◌, cond, length, List, [], ◌∷◌, Option, Some, None, is_some, inl, inr, eqb}
+use Rattle.std.proofs.Common.{◌≡◌, refl, ap, sym, ◌∙◌, subst, ℕ, ◌+◌, ◌-◌, ◌<◌, arith, true, false, ◌&&◌, cond, length, List, [], ◌∷◌, Option, Some, None, is_some, inl, inr, eqb}
 use Rattle.std.specs.Prelude.{nat_lt, slice_get, fold, IfSome, IfNone}
 use Rattle.std.specs.Option.{option_and_then}
-use Rattle.std.proofs.lemmas.Bool.{eq-eqb, ne_eqb, le-ltb}
+use Rattle.std.proofs.Math.Bool.{and-false}
+use Rattle.std.proofs.lemmas.Bool.{cases_Bool, eq-eqb, ne_eqb, le-ltb}
 use Rattle.std.proofs.lemmas.Bool.Decides.{nat_tests}
 use Rattle.policy_base.specs.Counts.{Sketch, frequency_of}
 use Rattle.engine_reference.specs.declared.data.Record.{Record}
@@ -31,23 +32,20 @@ behind-first (m ∷ ns) n e =
 
 in-behind : (ns : List ℕ) (n m : ℕ) (ys : List ℕ) → behind n ns ≡ m ∷ ys → IsIn m ns
 in-behind [] n m ys e = absurd (cc)
-in-behind (k ∷ ks) n m ys e = go (eqb k n) e (in-behind ks n m ys)
-  where
-    go : (b : Bool) → cond b ks (behind n ks) ≡ m ∷ ys → (behind n ks ≡ m ∷ ys → IsIn m ks) → IsIn m (k ∷ ks)
-    go true e later = inr (subst (λ l. IsIn m l) (sym e) (inl refl))
-    go false e later = inr (later e)
+in-behind (k ∷ ks) n m ys e = elim (cases_Bool (eqb k n)) [
+  | inl t ↦ let here = rw t at e in inr (subst (λ l. IsIn m l) (sym here) (inl refl))
+  | inr t ↦ inr (in-behind ks n m ys (rw t at e))
+]
 
 behind-next : (ns : List ℕ) (n m : ℕ) (ys : List ℕ) → AreOnce ns → behind n ns ≡ m ∷ ys → behind m ns ≡ ys
 behind-next [] n m ys once e = absurd (cc)
-behind-next (k ∷ ks) n m ys once e = go (eqb k n) e (behind-next ks n m ys once.1)
+behind-next (k ∷ ks) n m ys once e = elim (cases_Bool (eqb k n)) [
+  | inl t ↦ let here = rw t at e in past (subst (λ l. IsIn m l) (sym here) (inl refl)) ∙ ap (λ l. behind m l) here ∙ ap (λ b. cond b ys (behind m ys)) (eq-eqb m m refl)
+  | inr t ↦ let later = rw t at e in past (in-behind ks n m ys later) ∙ behind-next ks n m ys once.1 later
+]
   where
     past : IsIn m ks → cond (eqb k m) ks (behind m ks) ≡ behind m ks
     past i = ap (λ b. cond b ks (behind m ks)) (ne_eqb k m (λ same. once.0 (subst (λ x. IsIn x ks) (sym same) i)))
-
-    go : (b : Bool) → cond b ks (behind n ks) ≡ m ∷ ys → (behind n ks ≡ m ∷ ys → behind m ks ≡ ys) → cond (eqb k m) ks (behind m ks) ≡ ys
-    go true e later =
-        past (subst (λ l. IsIn m l) (sym e) (inl refl)) ∙ ap (λ l. behind m l) e ∙ ap (λ b. cond b ys (behind m ys)) (eq-eqb m m refl)
-    go false e later = past (in-behind ks n m ys e) ∙ later e
 
 module _ {K V P S R : Type 0} (t : Kept K V P S R) where
   pub from-first : (o : Option ℕ) → IfSome o (StandsFirst t t.state.access) → IfNone o (t.state.access ≡ []) → from_place t o ≡ t.state.access
@@ -123,10 +121,6 @@ module _ {K V P S R : Type 0} (t : Kept K V P S R) (c new : Contest) (place : �
       let b = ap (λ ns. length ns) from-here in
       omega (arith, a, b)
 
-and-false : (b : Bool) → false ≡ (b && false)
-and-false true = refl
-and-false false = refl
-
 module _ {K V P S R : Type 0} (t : Kept K V P S R) where
   -- where it is decided
   pub outcome-is : (c : Contest) → IsDecided c → outcome t c ≡ (eqb c.left 0 && nat_lt 0 c.ahead)
@@ -135,18 +129,15 @@ module _ {K V P S R : Type 0} (t : Kept K V P S R) where
       ∙ ap (λ b. b && nat_lt 0 c.ahead) (sym (eq-eqb c.left 0 e))
   outcome-is c (lost e) =
       go (shortest_front c.left (settled_in t.state.records (from_place t c.next)))
-      ∙ and-false (eqb c.left 0)
+      ∙ sym (and-false (eqb c.left 0))
       ∙ ap (λ b. eqb c.left 0 && b) (sym (le-ltb 0 c.ahead (omega arith)))
     where
       go : (o : Option (List (Record K V))) → is_won t.state.sketch c.ahead o ≡ false
       go None = refl
       go (Some vs) = le-ltb (frequencies t.state.sketch vs) c.ahead (omega arith)
   outcome-is c (ended e) =
-      ap (λ o. is_won t.state.sketch c.ahead (shortest_front c.left (settled_in t.state.records (from_place t o)))) e ∙ go (eqb c.left 0)
-    where
-      go : (b : Bool) → is_won {K = K} {V = V} t.state.sketch c.ahead (cond b (Some []) None) ≡ (b && nat_lt 0 c.ahead)
-      go true = refl
-      go false = refl
+      let none_left : is_won {K = K} {V = V} t.state.sketch c.ahead (cond (eqb c.left 0) (Some []) None) ≡ (eqb c.left 0 && nat_lt 0 c.ahead) = elim (cases_Bool (eqb c.left 0)) [ inl z ↦ rw z | inr z ↦ rw z ] in
+      ap (λ o. is_won t.state.sketch c.ahead (shortest_front c.left (settled_in t.state.records (from_place t o)))) e ∙ none_left
 
 -- ---- and what is done then
 

@@ -1,8 +1,8 @@
 -- The fronts, and why what stands there has to leave.
-use Rattle.std.proofs.Common.{◌≡◌, refl, ap, sym, ◌∙◌, subst, ℕ, arith, Bool, true, false, not, ◌&&◌, cond, List, [], ◌∷◌, Option, Some, None, is_some}
+use Rattle.std.proofs.Common.{◌≡◌, refl, ap, sym, ◌∙◌, subst, ℕ, arith, Bool, true, false, ◌&&◌, cond, List, [], ◌∷◌, Option, Some, None, is_some, inl, inr}
 use Rattle.std.specs.Prelude.{min, nat_lt, slice_get}
 use Rattle.std.specs.Option.{option_and_then}
-use Rattle.std.proofs.lemmas.Bool.{and_parts, leb-true, le-leb, le-ltb}
+use Rattle.std.proofs.lemmas.Bool.{cases_Bool, and_parts, leb-true, le-leb, le-ltb}
 use Rattle.engine_reference.specs.declared.rules.causes.RemovalCause.{RemovalCause}
 use Rattle.engine_reference.specs.declared.rules.causes.RemovalCause.TheVariants as cause
 use Rattle.engine_reference.specs.declared.data.Entry.{Entry}
@@ -62,14 +62,7 @@ module _ {K V : Type 0} where
     pub uncovered : r.is_held ≡ true → nat_lt r.entry.step clear ≡ false
 
   pub stays-by : (live : Option ℕ) (clear now : ℕ) (r : Record K V) → why_written live clear now r ≡ None → StaysBy live clear now r
-  stays-by live clear now r h = go r.is_held refl (is_reached (end_of r.entry.written live) now) refl (nat_lt r.entry.step clear) refl h
-    where
-      go : (a : Bool) → r.is_held ≡ a → (b : Bool) → is_reached (end_of r.entry.written live) now ≡ b → (d : Bool) → nat_lt r.entry.step clear ≡ d
-          → cond (not a) None (cond b (Some cause.Expired) (cond d (Some cause.Explicit) None)) ≡ None → StaysBy live clear now r
-      go false e b f d k h = record { alive = λ held. absurd (cc); uncovered = λ held. absurd (cc) }
-      go true e true f d k h = absurd (cc)
-      go true e false f true k h = absurd (cc)
-      go true e false f false k h = record { alive = λ held. f; uncovered = λ held. k }
+  stays-by live clear now r h = record { alive = λ held. grind (arith, held, h); uncovered = λ held. grind (arith, held, h) }
 
   used-not : (idle : Option ℕ) (now : ℕ) (r : Record K V) → why_used idle now r ≡ None → r.is_held ≡ true → is_reached (end_of r.entry.used idle) now ≡ false
   used-not idle now r h held = go r.is_held (is_reached (end_of r.entry.used idle) now) held h
@@ -88,21 +81,23 @@ module _ {K V : Type 0} where
 
 module _ {K V P S R : Type 0} where
   pub leaves-by_write : (s : State K V P S R) (now : ℕ) (r : Record K V) (why : RemovalCause) → why_written s.settings.live s.cleared now r ≡ Some why → MayLeave s now r why
-  leaves-by_write s now r why h = go r.is_held refl (is_reached (end_of r.entry.written s.settings.live) now) refl (nat_lt r.entry.step s.cleared) refl h
-    where
-      go : (a : Bool) → r.is_held ≡ a → (b : Bool) → is_reached (end_of r.entry.written s.settings.live) now ≡ b → (d : Bool) → nat_lt r.entry.step s.cleared ≡ d
-          → cond (not a) None (cond b (Some cause.Expired) (cond d (Some cause.Explicit) None)) ≡ Some why → MayLeave s now r why
-      go false e b f d k h = absurd (cc)
-      go true e true f d k h = dies e (live-comes s.settings now r.entry f) (cc)
-      go true e false f true k h = cleared e k (cc)
-      go true e false f false k h = absurd (cc)
+  leaves-by_write s now r why h = elim (cases_Bool r.is_held) [
+    | inl held ↦
+        let written = rw held at h in
+        elim (cases_Bool (is_reached (end_of r.entry.written s.settings.live) now)) [
+          | inl reached ↦ let is = rw reached at written in dies held (live-comes s.settings now r.entry reached) (cc)
+          | inr alive ↦
+              let covered = rw alive at written in
+              elim (cases_Bool (nat_lt r.entry.step s.cleared)) [ inl before ↦ let is = rw before at covered in cleared held before (cc) | inr after ↦ let none = rw after at covered in absurd (cc) ]
+        ]
+    | inr out ↦ let none = rw out at h in absurd (cc)
+  ]
 
   pub leaves-by_use : (s : State K V P S R) (now : ℕ) (r : Record K V) (why : RemovalCause) → why_used s.settings.idle now r ≡ Some why → MayLeave s now r why
-  leaves-by_use s now r why h = go (r.is_held && is_reached (end_of r.entry.used s.settings.idle) now) refl h
-    where
-      go : (b : Bool) → (r.is_held && is_reached (end_of r.entry.used s.settings.idle) now) ≡ b → cond b (Some cause.Expired) None ≡ Some why → MayLeave s now r why
-      go true e h = let p = and_parts _ _ e in dies p.0 (idle-comes s.settings now r.entry p.1) (cc)
-      go false e h = absurd (cc)
+  leaves-by_use s now r why h = elim (cases_Bool (r.is_held && is_reached (end_of r.entry.used s.settings.idle) now)) [
+    | inl e ↦ let p = and_parts _ _ e in let is = rw e at h in dies p.0 (idle-comes s.settings now r.entry p.1) (cc)
+    | inr e ↦ let none = rw e at h in absurd (cc)
+  ]
 
   pub leaves-by_timer : (s : State K V P S R) (now : ℕ) (r : Record K V) → is_expired now r ≡ true → MayLeave s now r cause.Expired
   leaves-by_timer s now r h = let p = and_parts _ _ h in dies p.0 (own-comes s.settings now r.entry p.1) refl

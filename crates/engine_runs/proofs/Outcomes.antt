@@ -1,6 +1,7 @@
 -- What is decided about a write is what the reference cache says.
-use Rattle.std.proofs.Common.{◌≡◌, refl, ap, sym, ◌∙◌, ◌+◌, Bool, true, false, cond, List, Option, Some, None}
+use Rattle.std.proofs.Common.{◌≡◌, refl, ap, sym, ◌∙◌, ◌+◌, Bool, true, false, cond, List, Option, Some, None, inl, inr}
 use Rattle.std.specs.Prelude.{nat_lt, is_some}
+use Rattle.std.proofs.lemmas.Bool.{cases_Bool, cond_both}
 use Rattle.policy_base.specs.Counts.{frequency_of}
 use Rattle.engine_reference.specs.declared.rules.causes.RemovalCause.TheVariants as cause
 use Rattle.engine_reference.specs.declared.rules.settings.EvictionPolicy.{EvictionPolicy}
@@ -26,17 +27,14 @@ module _ {K V P S R : Type 0} where
   carried decide.Refuse u s = left cause.Size u.number s
 
 module _ {K V P S R : Type 0} (s : State K V P S R) (u : Upsert) (r : Record K V) where
-  as_refused : (b : Bool) → cond b (put_off u s) (left cause.Size u.number s) ≡ carried (cond b decide.PutOff decide.Refuse) u s
-  as_refused true = refl
-  as_refused false = refl
+  as_refused : judged u r s refuse ≡ carried (refused_as u r) u s
+  as_refused = elim (cases_Bool (is_overtaken u r)) [ inl e ↦ rw e | inr e ↦ rw e ]
 
   as_contested : (o : Option (List (Record K V))) → front_of u.weight s ≡ o → judged u r s (contest s.sketch u.hash o) ≡ carried (decided (refused_as u r) (contest s.sketch u.hash o)) u s
-  as_contested None e = as_refused (is_overtaken u r)
-  as_contested (Some victims) e = go (nat_lt (frequencies s.sketch victims) (frequency_of s.sketch u.hash))
-    where
-      go : (b : Bool) → judged u r s (cond b (displace victims) refuse) ≡ carried (decided (refused_as u r) (cond b (displace victims) refuse)) u s
-      go true = ap (λ o. counting u (without_victims o s)) (sym e)
-      go false = as_refused (is_overtaken u r)
+  as_contested None e = as_refused
+  as_contested (Some victims) e =
+      cond_both (nat_lt (frequencies s.sketch victims) (frequency_of s.sketch u.hash)) (displace victims) refuse
+      (λ v. judged u r s v ≡ carried (decided (refused_as u r) v) u s) (λ _. ap (λ o. counting u (without_victims o s)) (sym e)) (λ _. as_refused)
 
   as_full : (policy : EvictionPolicy) → judged u r s (verdict_of_full policy s.sketch u (settled_in s.records s.access)) ≡ carried (decided (refused_as u r) (verdict_of_full policy s.sketch u (settled_in s.records s.access))) u s
   as_full Lru = refl
@@ -50,7 +48,7 @@ module _ {K V P S R : Type 0} (s : State K V P S R) (u : Upsert) (r : Record K V
 
       go : (a b : Bool) → judged u r s (cond a (cond b refuse full) admit) ≡ carried (decided (refused_as u r) (cond a (cond b refuse full) admit)) u s
       go false b = refl
-      go true true = as_refused (is_overtaken u r)
+      go true true = as_refused
       go true false = as_full s.settings.policy
 
   pub outcome : after_put u (Some r) s ≡ carried (decision s u r) u s
@@ -63,12 +61,11 @@ module _ {K V P S R : Type 0} (s : State K V P S R) (u : Upsert) (r : Record K V
 
 -- where others go, there is a front of them, and the record does not count
 module _ {K V P S R : Type 0} (s : State K V P S R) (u : Upsert) (r : Record K V) where
-  not_refused : (b : Bool) → cond b decide.PutOff decide.Refuse ≡ decide.Displace → ⊥
-  not_refused true e = cc
-  not_refused false e = cc
+  not_refused : refused_as u r ≡ decide.Displace → ⊥
+  not_refused e = elim (cases_Bool (is_overtaken u r)) [ inl t ↦ let no = rw t at e in cc | inr t ↦ let no = rw t at e in cc ]
 
   front_contested : (o : Option (List (Record K V))) → decided (refused_as u r) (contest s.sketch u.hash o) ≡ decide.Displace → is_some o ≡ true
-  front_contested None e = absurd (not_refused (is_overtaken u r) e)
+  front_contested None e = absurd (not_refused e)
   front_contested (Some victims) e = refl
 
   front_full : (policy : EvictionPolicy) → decided (refused_as u r) (verdict_of_full policy s.sketch u (settled_in s.records s.access)) ≡ decide.Displace → is_some (front_of u.weight s) ≡ true
@@ -83,7 +80,7 @@ module _ {K V P S R : Type 0} (s : State K V P S R) (u : Upsert) (r : Record K V
 
       go : (a b : Bool) → decided (refused_as u r) (cond a (cond b refuse full) admit) ≡ decide.Displace → is_some (front_of u.weight s) ≡ true
       go false b e = absurd (cc)
-      go true true e = absurd (not_refused (is_overtaken u r) e)
+      go true true e = absurd (not_refused e)
       go true false e = front_full s.settings.policy e
 
   pub front_there : decision s u r ≡ decide.Displace → is_some (front_of u.weight s) ≡ true

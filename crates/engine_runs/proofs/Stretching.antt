@@ -1,6 +1,7 @@
 -- Steps in a row, and what the count of a read leaves.
-use Rattle.std.proofs.Common.{◌≡◌, refl, ap, sym, ◌∙◌, subst, ℕ, zero, suc, ◌+◌, ◌≤◌, arith, Bool, true, false, cond, List, [], ◌∷◌, ◌++◌, drop, length, Option, Some, None, is_some}
+use Rattle.std.proofs.Common.{◌≡◌, refl, ap, sym, ◌∙◌, subst, ℕ, zero, suc, ◌+◌, ◌≤◌, arith, List, [], ◌∷◌, ◌++◌, drop, length, Option, Some, None, is_some, inl, inr}
 use Rattle.std.specs.Prelude.{nat_lt, slice_get}
+use Rattle.std.proofs.lemmas.Bool.{cases_Bool, cond_both}
 use Rattle.engine_reference.specs.Admission.{Verdict, admit, displace, refuse, verdict}
 use Rattle.engine_reference.specs.declared.rules.causes.RemovalCause.{RemovalCause}
 use Rattle.engine_reference.specs.declared.rules.causes.RemovalCause.TheVariants as cause
@@ -9,8 +10,8 @@ use Rattle.engine_reference.proofs.SoundSteps.{after_write-frame}
 use Rattle.engine_reference.specs.declared.data.Record.{Record}
 use Rattle.engine_reference.specs.declared.data.Read.{Read}
 use Rattle.engine_reference.specs.declared.data.Read.TheVariants.{Hit, Miss}
-use Rattle.engine_reference.specs.Records.{record_at, without_record, without, moved_to_back}
-use Rattle.engine_reference.specs.Runs.{Step, Steps, reads, writes, all_applied, all_counted, all_written, written_through, after_read, after_hit, after_write, after_put, after_removal, with_left, left, all_left, judged, counting, put_off, is_overtaken}
+use Rattle.engine_reference.specs.Records.{record_at}
+use Rattle.engine_reference.specs.Runs.{Step, Steps, reads, writes, all_applied, all_counted, all_written, written_through, after_read, after_hit, after_write, after_put, after_removal, with_left, left, all_left, judged, counting, is_overtaken}
 use Rattle.engine_reference.specs.State.{State, Answers}
 use Rattle.engine_reference.specs.declared.data.Write.{Write}
 use Rattle.engine_reference.specs.declared.data.Write.TheVariants.{Put, Removed}
@@ -39,11 +40,7 @@ drop-all (x ∷ xs) (suc i) h = drop-all xs i (omega arith)
 module _ {K V P S R : Type 0} where
   reads-hit : (o : Option (Record K V)) (s : State K V P S R) → (after_hit o s).reads ≡ s.reads
   reads-hit None s = refl
-  reads-hit (Some r) s = go (is_some r.counts)
-    where
-      go : (b : Bool) → (cond b (record s { access = moved_to_back r.number s.access }) s).reads ≡ s.reads
-      go true = refl
-      go false = refl
+  reads-hit (Some r) s = cond_both (is_some r.counts) _ _ (λ (t : State K V P S R). t.reads ≡ s.reads) (λ _. refl) (λ _. refl)
 
   pub reads-left : (r : Read) (s : State K V P S R) → (after_read r s).reads ≡ s.reads
   reads-left (Hit number hash) s = reads-hit (record_at s.records number) (record s { sketch = (after_read (Miss hash) s).sketch })
@@ -58,13 +55,9 @@ module _ {K V P S R : Type 0} where
       t : State K V P S R
       t = after_read (Miss hash) s
 
-      by_counts : (r : Record K V) (b : Bool) → cond b (record t { reads = rs; access = moved_to_back r.number s.access }) (record t { reads = rs }) ≡ record (cond b (record t { access = moved_to_back r.number s.access }) t) { reads = rs }
-      by_counts r true = refl
-      by_counts r false = refl
-
       go : (o : Option (Record K V)) → after_hit o (record t { reads = rs }) ≡ record (after_hit o t) { reads = rs }
       go None = refl
-      go (Some r) = by_counts r (is_some r.counts)
+      go (Some r) = elim (cases_Bool (is_some r.counts)) [ inl e ↦ rw e | inr e ↦ rw e ]
 
   module _ (ws : List Write) where
     left-apart : (why : RemovalCause) (s : State K V P S R) (o : Option (Record K V)) → with_left why (record s { writes = ws }) o ≡ record (with_left why s o) { writes = ws }
@@ -75,22 +68,21 @@ module _ {K V P S R : Type 0} where
     all_left-apart why [] s = refl
     all_left-apart why (r ∷ rs) s = ap (λ t. all_left why rs t) (left-apart why s (record_at s.records r.number)) ∙ all_left-apart why rs (left why r.number s)
 
-    either-apart : (b : Bool) (s t u v : State K V P S R) → s ≡ record u { writes = ws } → t ≡ record v { writes = ws } → cond b s t ≡ record (cond b u v) { writes = ws }
-    either-apart true s t u v h k = h
-    either-apart false s t u v h k = k
-
     judged-apart : (u : Upsert) (r : Record K V) (s : State K V P S R) (v : Verdict K V) → judged u r (record s { writes = ws }) v ≡ record (judged u r s v) { writes = ws }
     judged-apart u r s admit = refl
     judged-apart u r s (displace victims) = ap (λ t. counting u t) (all_left-apart cause.Size victims s)
-    judged-apart u r s refuse = either-apart (is_overtaken u r) _ _ (put_off u s) (left cause.Size u.number s) refl (left-apart cause.Size s (record_at s.records u.number))
+    judged-apart u r s refuse = elim (cases_Bool (is_overtaken u r)) [ inl e ↦ rw e | inr e ↦ rw e (left-apart cause.Size s (record_at s.records u.number)) ]
 
     put-apart : (u : Upsert) (o : Option (Record K V)) (s : State K V P S R) → after_put u o (record s { writes = ws }) ≡ record (after_put u o s) { writes = ws }
     put-apart u None s = refl
-    put-apart u (Some r) s = either-apart (nat_lt r.applied u.write) _ _ _ s (either-apart (is_some r.counts) _ _ (counting u s) (judged u r s (verdict s u)) refl (judged-apart u r s (verdict s u))) refl
+    put-apart u (Some r) s = elim (cases_Bool (nat_lt r.applied u.write)) [
+      | inl new ↦ rw new (elim (cases_Bool (is_some r.counts)) [ inl e ↦ rw e | inr e ↦ rw e (judged-apart u r s (verdict s u)) ])
+      | inr old ↦ rw old
+    ]
 
     removal-apart : (o : Option (Record K V)) (s : State K V P S R) → after_removal o (record s { writes = ws }) ≡ record (after_removal o s) { writes = ws }
     removal-apart None s = refl
-    removal-apart (Some r) s = either-apart r.is_held _ _ s (record s { records = without_record r.number s.records; access = without r.number s.access; order = without r.number s.order }) refl refl
+    removal-apart (Some r) s = elim (cases_Bool r.is_held) [ inl e ↦ rw e | inr e ↦ rw e ]
 
     writes-apart : (w : Write) (s : State K V P S R) → after_write w (record s { writes = ws }) ≡ record (after_write w s) { writes = ws }
     writes-apart (Put u) s = put-apart u (record_at s.records u.number) s

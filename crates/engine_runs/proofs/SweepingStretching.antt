@@ -1,8 +1,8 @@
 -- The steps of the loop, and what it leaves.
-use Rattle.std.proofs.Common.{◌≡◌, refl, ap, sym, ◌∙◌, subst, ℕ, ◌<◌, arith, Bool, true, false, cond, ◌||◌, length, List, [], ◌∷◌, ◌++◌, Option, Some, None, is_some, eqb}
+use Rattle.std.proofs.Common.{◌≡◌, refl, ap, sym, ◌∙◌, subst, ℕ, ◌<◌, arith, Bool, true, ◌||◌, length, List, [], ◌∷◌, ◌++◌, Option, Some, None, is_some, inl, inr, eqb}
 use Rattle.std.specs.Prelude.{min, nat_lt}
 use Rattle.std.specs.List.{list_any}
-use Rattle.std.proofs.lemmas.Bool.{lt-ltb}
+use Rattle.std.proofs.lemmas.Bool.{cases_Bool, lt-ltb}
 use Rattle.std.proofs.Math.Logic.{∥∥₁_elim}
 use Rattle.std.proofs.Props.{props}
 use Rattle.engine_reference.specs.declared.rules.causes.RemovalCause.{RemovalCause}
@@ -11,11 +11,12 @@ use Rattle.engine_reference.specs.declared.data.Settings.{Settings}
 use Rattle.engine_reference.specs.Admission.{is_above}
 use Rattle.engine_reference.specs.Records.{record_at, without_record, admitted_number, admitted_weight, admitted_in, with_admitted}
 use Rattle.engine_reference.specs.Runs.{Step, Steps, leaves, evicts, IsDone, IsApplied, IsSwept, is_due_for, left, with_left, first_of, is_later_tick}
-use Rattle.engine_reference.specs.Soundness.{Each, IsSound, IsAccounted}
+use Rattle.engine_reference.specs.Soundness.{IsSound, IsAccounted}
 use Rattle.engine_reference.specs.State.{State, Answers}
 use Rattle.engine_reference.specs.Times.{tick_of}
 use Rattle.engine_reference.specs.Visible.{is_covered_by}
 use Rattle.engine_reference.proofs.SoundSteps.{left-is_sound, counted}
+use Rattle.engine_reference.proofs.run_laws.Fronting.{each-at}
 use Rattle.engine_runs.specs.Fronts.{MayLeave, dies, cleared, excess, IsClean}
 use Rattle.engine_cells.specs.Stretches.{Stretch, StepsFor}
 use Rattle.engine_runs.specs.Stretches.{EndsRun, KeepsRest}
@@ -23,31 +24,18 @@ use Rattle.engine_runs.specs.Stretches.{EndsRun, KeepsRest}
 module _ {K V : Type 0} where
   pub fewer : (n : ℕ) (rs : List (Record K V)) (r : Record K V) → record_at rs n ≡ Some r → length (without_record n rs) < length rs
   fewer n [] r h = absurd (cc)
-  fewer n (x ∷ rs) r h = go (eqb x.number n) h (fewer n rs r)
-    where
-      go : (b : Bool) → cond b (Some x) (record_at rs n) ≡ Some r → (record_at rs n ≡ Some r → length (without_record n rs) < length rs) → length (cond b rs (x ∷ without_record n rs)) < length (x ∷ rs)
-      go true e later = omega arith
-      go false e later = let l = later e in omega arith
-
-  each-at : (Q : Record K V → Type 0) (rs : List (Record K V)) (n : ℕ) (r : Record K V) → Each Q rs → record_at rs n ≡ Some r → Q r
-  each-at Q [] n r h there = absurd (cc)
-  each-at Q (x ∷ rs) n r h there = go (eqb x.number n) there (each-at Q rs n r h.1)
-    where
-      go : (b : Bool) → cond b (Some x) (record_at rs n) ≡ Some r → (record_at rs n ≡ Some r → Q r) → Q r
-      go true e later = subst Q (let same : x ≡ r = cc in same) h.0
-      go false e later = later e
+  fewer n (x ∷ rs) r h = elim (cases_Bool (eqb x.number n)) [
+    | inl e ↦ rw e (omega arith)
+    | inr e ↦ let less = fewer n rs r (rw e at h) in rw e (omega arith)
+  ]
 
   pub first-admitted : (rs : List (Record K V)) (ns : List ℕ) (r : Record K V) → first_of (admitted_in rs ns) ≡ Some r → (n : ℕ) × (record_at rs n ≡ Some r)
   first-admitted rs [] r h = absurd (cc)
   first-admitted rs (n ∷ ns) r h = go (record_at rs n) refl h (first-admitted rs ns r)
     where
-      counts : (x : Record K V) (b : Bool) → record_at rs n ≡ Some x → first_of (cond b (x ∷ admitted_in rs ns) (admitted_in rs ns)) ≡ Some r → (first_of (admitted_in rs ns) ≡ Some r → (n : ℕ) × (record_at rs n ≡ Some r)) → (n : ℕ) × (record_at rs n ≡ Some r)
-      counts x true at h later = (n, at ∙ h)
-      counts x false at h later = later h
-
       go : (o : Option (Record K V)) → record_at rs n ≡ o → first_of (with_admitted o (admitted_in rs ns)) ≡ Some r → (first_of (admitted_in rs ns) ≡ Some r → (n : ℕ) × (record_at rs n ≡ Some r)) → (n : ℕ) × (record_at rs n ≡ Some r)
       go None at h later = later h
-      go (Some x) at h later = counts x (is_some x.counts) at h later
+      go (Some x) at h later = elim (cases_Bool (is_some x.counts)) [ inl c ↦ let first = rw c at h in (n, at ∙ first) | inr c ↦ later (rw c at h) ]
 
 module _ {K V P S R : Type 0} where
   -- ---- a record leaves

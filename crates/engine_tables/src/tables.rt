@@ -60,7 +60,7 @@ impl<K: Eq + Hash, V, S: BuildHasher, R: Rules<K, V>> Model for Tables<K, V, S, 
     ghost use Rattle.std.specs.Prelude.{ℕ, ◌≡◌, true, ◌+◌, ◌≤◌, ◌<◌, ◌^◌};
     ghost use Rattle.slab.specs.Slab.{slab_len};
     ghost use Rattle.engine_pending.specs.Whole.{whole};
-    ghost use Rattle.engine_cells.specs.Cells.{records_by_number, numbers_in, numbers_of, AreNumbered, AreListed};
+    ghost use Rattle.engine_cells.specs.Cells.{records_by_number, numbers_in, numbers_of, AreNumberedBelow, AreListed};
     ghost use Rattle.engine_cells.specs.Fitting.{HasPlacesFor};
     ghost use Rattle.engine_cells.specs.Noting.{read_of, write_of, AreAllAimed};
     ghost use Rattle.engine_cells.specs.Kept.{Kept};
@@ -78,7 +78,7 @@ impl<K: Eq + Hash, V, S: BuildHasher, R: Rules<K, V>> Model for Tables<K, V, S, 
 
     // the queues have the places of the admitted records; each record has room in both and, where removals are told, for its notice, and what is reserved serves a write; what waits, and the hashes of keys, lead to their records; what expires has a timer
     ghost invariant = { λ c. record {
-      kept : AreNumbered c.cells.slots c.next_number;
+      kept : AreNumberedBelow c.cells.slots c.next_number;
       used : AreListed c.cells.slots c.access.indices;
       written : AreListed c.cells.slots c.order.indices;
       cells : slab_len c.cells + c.backlog.reserved ≤ c.cells.capacity;

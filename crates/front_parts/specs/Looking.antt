@@ -19,12 +19,6 @@ pub record IsOpen {K V P S R : Type 0} (eq : K → K → Bool) (hash_by : S → 
   pub apart : AreApart eq (held_entries s.records)
 
 module _ {K V P S R : Type 0} (answers : Answers K V P R) where
-  -- the test is called on the visible value of a key, if there is one
-  abbrev pub AsksPart : (eq : K → K → Bool) → K → (now : ℕ) → (Ignores : V → Bool → Type 0)
-      → State K V P S R → (ignored : Bool) → Type 0
-  AsksPart eq key now Ignores s ignored =
-      (value : V) → visible_value answers eq s now key ≡ Some value → Ignores value ignored
-
   -- a coalesced call, by what the closure that makes a value returns: its result, and whether that was made now
   abbrev pub CoalescesPart : {F E : Type 0} → (eq : K → K → Bool) → K → (hash : ℕ) → At
       → (Ignores : V → Bool → Type 0) → (Makes : Result (Made V F) E → Type 0) → State K V P S R

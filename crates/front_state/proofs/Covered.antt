@@ -26,7 +26,7 @@ use Rattle.front_reference.specs.declared.errors.CacheError.TheVariants as error
 use Rattle.front_parts.specs.Wholes.Covering.{CoversEach, IsCoverCause, TakeAll}
 use Rattle.front_parts.specs.Places.Told.{without_told_at}
 use Rattle.front_parts.specs.Places.Calls.{IsSteadyBy, Ways, hash_in, keys_of, visible_in, visible_of}
-use Rattle.front_state.specs.Covering.{CoversAll, IsCauseToCover, keys_in}
+use Rattle.front_state.specs.Covering.{CoversAll, IsCauseToCover, keys_of_part}
 use Rattle.front_parts.specs.Iterator.Coming.{all_pairs, source_at}
 use Rattle.front_parts.proofs.iterator.Keyed.{Has, first-or}
 use Rattle.front_parts.proofs.iterator.Fronts.{GoesOver, IsSpread, all_given}
@@ -160,7 +160,7 @@ module _ {K V P S R : Type 0} (ways : Ways K V P S R) where
     belong = λ place s e at there. ∥∥₁_elim k (Prim.hlevel props) (λ x. eqb-true _ _ (each-held (λ key. part_of f.bits (hash_in ways f key) == place) s.records e (x.kept place s at).belong there));
   }
 
-  pub goes_over : (f : Front K V P S R) (now : ℕ) → GoesOver ways.answers ways.eq (λ key. hash_in ways f key) now f (source_at (λ (g : Front K V P S R). length g.parts) keys_in (λ (g : Front K V P S R) now key. visible_in ways g now key) f now)
+  pub goes_over : (f : Front K V P S R) (now : ℕ) → GoesOver ways.answers ways.eq (λ key. hash_in ways f key) now f (source_at (λ (g : Front K V P S R). length g.parts) keys_of_part (λ (g : Front K V P S R) now key. visible_in ways g now key) f now)
   goes_over f now = record {
     segments = refl;
     keys = λ place s at. ap keys_of at;
@@ -168,12 +168,12 @@ module _ {K V P S R : Type 0} (ways : Ways K V P S R) where
   }
 
   pub gives_all : IsEquivalence ways.eq → (f g : Front K V P S R) (now : ℕ) (coming : List (K × V)) → f ≡ g → Keeps ways f → ((x y : K) → ways.eq x y ≡ true → hash_in ways f x ≡ hash_in ways f y)
-      → coming ≡ all_pairs (source_at (λ (h : Front K V P S R). length h.parts) keys_in (λ (h : Front K V P S R) now key. visible_in ways h now key) g now)
+      → coming ≡ all_pairs (source_at (λ (h : Front K V P S R). length h.parts) keys_of_part (λ (h : Front K V P S R) now key. visible_in ways h now key) g now)
       → HasGiven ways.answers ways.eq (λ key. hash_in ways g key) now g (length g.parts) coming
   gives_all laws f g now coming same k respects is =
-      subst (λ (h : Front K V P S R). (coming ≡ all_pairs (source_at (λ (x : Front K V P S R). length x.parts) keys_in (λ (x : Front K V P S R) now key. visible_in ways x now key) h now)) → HasGiven ways.answers ways.eq (λ key. hash_in ways h key) now h (length h.parts) coming) same
+      subst (λ (h : Front K V P S R). (coming ≡ all_pairs (source_at (λ (x : Front K V P S R). length x.parts) keys_of_part (λ (x : Front K V P S R) now key. visible_in ways x now key) h now)) → HasGiven ways.answers ways.eq (λ key. hash_in ways h key) now h (length h.parts) coming) same
       (λ is. subst (λ xs. HasGiven ways.answers ways.eq (λ key. hash_in ways f key) now f (length f.parts) xs) (sym is)
-      (all_given ways.answers ways.eq laws (λ key. hash_in ways f key) now f (source_at (λ (h : Front K V P S R). length h.parts) keys_in (λ (h : Front K V P S R) now key. visible_in ways h now key) f now) (spread f k) (goes_over f now) respects))
+      (all_given ways.answers ways.eq laws (λ key. hash_in ways f key) now f (source_at (λ (h : Front K V P S R). length h.parts) keys_of_part (λ (h : Front K V P S R) now key. visible_in ways h now key) f now) (spread f k) (goes_over f now) respects))
       is
 
 -- keys that feed a hasher alike have one hash

@@ -24,7 +24,7 @@ use Rattle.front_reference.specs.declared.errors.CacheError.TheVariants as error
 use Rattle.front_state.proofs.Covered.{some_parts}
 use Rattle.front_state.proofs.Steady.{Keeps, KeepsEach, all_stay_steady}
 use Rattle.front_state.specs.Covering.{IsCauseToCover}
-use Rattle.front_state.specs.Sharding.{DrawsForFirst, FirstHasRoom, cover_error, with_first}
+use Rattle.front_state.specs.Sharding.{DrawsForFirst, FirstHasRoom, cover_error, with_first_part}
 
 pub disabled_alone : {T U : Type 0} (refused : Refusal) (e : CacheError) → e ≡ cover_error refused → IsErrOf {T = T} (Err refused) refusal.InvalidationClosuresDisabled
     → IsErrOf {T = U} (Err e) errors.InvalidationClosuresDisabled
@@ -50,8 +50,8 @@ module _ {K V P S R : Type 0} where
   first_set change ss s t some is does = first-step (λ k. change) 0 ss ss s t refl some is does
 
   pub first_as : (f g : Front K V P S R) (change : State K V P S R → State K V P S R) (parts : List (State K V P S R)) → f ≡ g → parts ≡ changed_first (λ k. change) 1 f.parts
-      → record f { parts = parts } ≡ with_first change g
-  first_as f g change parts same is = ap (λ ss. record f { parts = ss }) is ∙ ap (λ (x : Front K V P S R). with_first change x) same
+      → record f { parts = parts } ≡ with_first_part change g
+  first_as f g change parts same is = ap (λ ss. record f { parts = ss }) is ∙ ap (λ (x : Front K V P S R). with_first_part change x) same
 
 module _ {K V P S R : Type 0} (ways : Ways K V P S R) where
   -- a change that keeps a part at a moment and a step

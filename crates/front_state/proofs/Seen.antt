@@ -7,7 +7,7 @@ use Rattle.engine_reference.specs.declared.data.Entry.{Entry}
 use Rattle.engine_reference.specs.declared.data.Record.{Record}
 use Rattle.engine_reference.specs.declared.data.Settings.{Settings}
 use Rattle.front_parts.proofs.places.Found.{caused}
-use Rattle.front_parts.specs.Places.Calls.{IsCauseIn, Ways, hash_in, held_key_in, held_key_of, held_of, held_value_in, visible_in, visible_of}
+use Rattle.front_parts.specs.Places.Calls.{IsCauseIn, Ways, hash_in, held_key_in, held_key_of, held_in_part, held_value_in, visible_in, visible_of}
 use Rattle.front_reference.specs.Fronts.{Front, part_by_hash}
 use Rattle.front_reference.specs.Parts.{IsCause, held_value}
 use Rattle.front_reference.specs.declared.errors.CacheError.{CacheError}
@@ -25,7 +25,7 @@ module _ {K V P S R : Type 0} (ways : Ways K V P S R) (f g : Front K V P S R) (h
   sees_some now = some-shown (λ (r : Record K V). r.entry) (λ (e : Entry K V). e.value) (visible_record ways.answers ways.eq s now key) ∙ ap is_some (sees_visible now)
 
   pub sees_held : held_value ways.eq s key ≡ held_value_in ways g key
-  sees_held = ap (λ o. held_of ways o key) (sym (part_of_key ways f g h key s same is there))
+  sees_held = ap (λ o. held_in_part ways o key) (sym (part_of_key ways f g h key s same is there))
 
   pub sees_key : option_map (λ r. r.entry.key) (held_at ways.eq s.records key) ≡ held_key_in ways g key
   sees_key = ap (λ o. held_key_of ways o key) (sym (part_of_key ways f g h key s same is there))

@@ -26,8 +26,8 @@ module _ {K V P S R : Type 0} where
   IsCauseToCover f drawn left e = IsCoverCause f.parts drawn left e
 
   -- the keys that the part at a place holds
-  abbrev pub keys_in : Front K V P S R → ℕ → List K
-  keys_in f place = keys_of (slice_get f.parts place)
+  abbrev pub keys_of_part : Front K V P S R → ℕ → List K
+  keys_of_part f place = keys_of (slice_get f.parts place)
 
 -- what an iterator returns that began at a moment, if it is called to its end: each key that is visible in any part, once, with its value,
 -- and no other

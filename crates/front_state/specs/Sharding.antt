@@ -12,8 +12,8 @@ use Rattle.front_reference.specs.declared.errors.CacheError.TheVariants as error
 
 module _ {K V P S R : Type 0} where
   -- the first part is changed, and nothing else
-  abbrev pub with_first : (State K V P S R → State K V P S R) → Front K V P S R → Front K V P S R
-  with_first change f = record f { parts = changed_first (λ _. change) 1 f.parts }
+  abbrev pub with_first_part : (State K V P S R → State K V P S R) → Front K V P S R → Front K V P S R
+  with_first_part change f = record f { parts = changed_first (λ _. change) 1 f.parts }
 
   -- an identifier is drawn that is not registered in the first part
   abbrev pub DrawsForFirst : (drawn left : Stream) → (id : ℕ) → Front K V P S R → Type 0

@@ -1,10 +1,10 @@
 -- What calls of a lent cache show as those of a shelf.
-use Rattle.std.proofs.Common.{◌≡◌, ℕ, zero, suc, ◌+◌, ◌*◌, ◌/◌, ◌<◌, ◌≤◌, arith, Bool, true, false, true≢false, cond, List, [], ◌∷◌, drop, get_or, length, Option, Some, None, inl, inr, ◌⊎◌, ⊎_elim, refl, sym, ap, subst, ◌∙◌, eqb}
+use Rattle.std.proofs.Common.{◌≡◌, ℕ, zero, suc, ◌+◌, ◌*◌, ◌/◌, ◌<◌, ◌≤◌, arith, true, false, true≢false, cond, List, [], ◌∷◌, drop, get_or, length, Option, Some, None, inl, inr, ◌⊎◌, ⊎_elim, refl, sym, ap, subst, ◌∙◌, eqb}
 use Rattle.std.proofs.Math.Logic.{∥∥₁_elim, ∥∥₁_map}
 use Rattle.std.proofs.Math.Path.{fun_ext}
 use Rattle.std.proofs.Props.{props}
-use Rattle.std.proofs.lemmas.Bool.{eqb-true, eq-eqb}
-use Rattle.std.proofs.lemmas.Option.{none-some, slice_get_within, slice_get-get_or}
+use Rattle.std.proofs.lemmas.Bool.{cases_eq, false_from_ne_true}
+use Rattle.std.proofs.lemmas.Option.{none-some, same_Some, slice_get_within, slice_get-get_or}
 use Rattle.std.proofs.lemmas.Slice.Eq.{bytes_eq-Decides}
 use Rattle.std.specs.Cmp.{IsEquivalence}
 use Rattle.std.specs.Prelude.{slice_get, slice_set, unwrap_or}
@@ -30,7 +30,7 @@ use Rattle.memcache_cache.proofs.Parts.{Left, bare-seen, clears, inserts, looked
 use Rattle.memcache_cache.specs.Rules.{item_answers}
 use Rattle.memcache_cache.specs.Showing.{shelved_by}
 use Rattle.memcache_cache.specs.declared.rules.ItemRules.{ItemRules}
-use Rattle.memcache_model.specs.Bytes.{same}
+use Rattle.std.specs.Str.{bytes_eq}
 use Rattle.memcache_model.specs.Items.{Item, Items, nothing, unexpired, with_item}
 use Rattle.memcache_service.specs.Shelves.{AreLeft, Becomes, OnlyLeave, Shelved, ShowsNothing}
 
@@ -47,9 +47,6 @@ set-other (z ∷ zs) zero zero x other = absurd (other refl)
 set-other (z ∷ zs) zero (suc k) x other = refl
 set-other (z ∷ zs) (suc i) zero x other = refl
 set-other (z ∷ zs) (suc i) (suc k) x other = set-other zs i k x (λ e. other (ap suc e))
-
-pub some-same : {X : Type 0} (a b : X) → Some a ≡ Some b → a ≡ b
-some-same a b e = cc
 
 is-zero : (capacity : Option ℕ) → takes_nothing capacity ≡ true → capacity ≡ Some 0
 is-zero None e = absurd (true≢false (sym e))
@@ -69,7 +66,7 @@ each-step : {K V : Type 0} (step moment : ℕ) (rs : List (Record K V)) → Each
 each-step step moment [] h = tt
 each-step step moment (r ∷ rs) h = (h.0.0, each-step step moment rs h.1)
 
-module _ {P S R : Type 0} (ways : Ways (List ℕ) Item P S R) (laws : IsEquivalence ways.eq) (decides : (a b : List ℕ) → ways.eq a b ≡ same a b) where
+module _ {P S R : Type 0} (ways : Ways (List ℕ) Item P S R) (laws : IsEquivalence ways.eq) (decides : (a b : List ℕ) → ways.eq a b ≡ bytes_eq a b) where
   abbrev Cache : Type 0
   Cache = Front (List ℕ) Item P S R
 
@@ -95,7 +92,19 @@ module _ {P S R : Type 0} (ways : Ways (List ℕ) Item P S R) (laws : IsEquivale
     other : ways.eq q key ≡ false
 
   of_call : (key : List ℕ) (at : At) (does : ℕ → Part → Part → Type 0) (old new : Cache) → CallsKey ways key at does old new → (q : List ℕ) → InOne key q does old new ⊎ Apart key q old new
-  of_call key at does old new call q = by_place (eqb p place) refl
+  of_call key at does old new call q = elim (cases_eq p place) [
+    | inl here ↦ inl (record {
+      before = call.call.before;
+      after = call.call.after;
+      was = ap (slice_get old.parts) here ∙ call.call.there;
+      is = now_is ∙ ap (slice_get (slice_set old.parts place call.call.after)) here ∙ set-there old.parts place call.call.after call.call.before call.call.there;
+      did = call.call.does;
+    })
+    | inr other ↦ inr (record {
+      same_part = now_is ∙ set-other old.parts place p call.call.after other;
+      other = false_from_ne_true _ (λ t. other (ap (λ k. part_of old.bits (hash_in ways old k)) (equal q key t)));
+    })
+  ]
     where
       p : ℕ
       p = part_of old.bits (hash_in ways old q)
@@ -105,27 +114,6 @@ module _ {P S R : Type 0} (ways : Ways (List ℕ) Item P S R) (laws : IsEquivale
 
       now_is : part_with ways new q ≡ slice_get (slice_set old.parts place call.call.after) p
       now_is = ap (λ (f : Cache). part_with ways f q) call.changed ∙ ap (λ ps. slice_get ps p) call.call.changed
-
-      by_key : (b : Bool) → ways.eq q key ≡ b → (p ≡ place → ⊥) → ways.eq q key ≡ false
-      by_key true t other = absurd (other (ap (λ k. part_of old.bits (hash_in ways old k)) (equal q key t)))
-      by_key false t other = t
-
-      by_place : (b : Bool) → eqb p place ≡ b → InOne key q does old new ⊎ Apart key q old new
-      by_place true t =
-          let here : p ≡ place = eqb-true p place t in
-          inl (record {
-            before = call.call.before;
-            after = call.call.after;
-            was = ap (slice_get old.parts) here ∙ call.call.there;
-            is = now_is ∙ ap (slice_get (slice_set old.parts place call.call.after)) here ∙ set-there old.parts place call.call.after call.call.before call.call.there;
-            did = call.call.does;
-          })
-      by_place false t =
-          let other : p ≡ place → ⊥ = λ e. true≢false (sym (eq-eqb p place e) ∙ t) in
-          inr (record {
-            same_part = now_is ∙ set-other old.parts place p call.call.after other;
-            other = by_key (ways.eq q key) refl other;
-          })
 
   kept : (f : Cache) → IsSteadyBy ways f → (q : List ℕ) (s : Part) → part_with ways f q ≡ Some s → IsKept 63 ways.eq f.common (λ key. eqb (part_of f.bits (ways.hash f.common.hasher key)) (part_of f.bits (hash_in ways f q))) f.moment f.step s
   kept f steady q s is = steady.kept (part_of f.bits (hash_in ways f q)) s is
@@ -177,7 +165,7 @@ module _ {P S R : Type 0} (ways : Ways (List ℕ) Item P S R) (laws : IsEquivale
           let was = slice_get-get_or old.parts p t (omega arith) in
           let s = get_or old.parts p t in
           let k = call.each.each p s was in
-          let t_is : t ≡ cleared_by step s = some-same t k.0 (sym there ∙ k.1) ∙ k.2 in
+          let t_is : t ≡ cleared_by step s = same_Some t k.0 (sym there ∙ k.1) ∙ k.2 in
           let timely = (steady.kept p s was).timely early in
           now_is ∙ ap (λ o. visible_of ways o moment q) there ∙ ap (λ s. visible_value ways.answers ways.eq s moment q) t_is
           ∙ clears ways.answers ways.eq laws equal step old.step s (each-step old.step old.moment s.records timely.latest) rises moment q
@@ -193,7 +181,8 @@ module _ {P S R : Type 0} (ways : Ways (List ℕ) Item P S R) (laws : IsEquivale
   told_shows [] p moment q = refl
   told_shows (s ∷ ss) p moment q = go s.notices p (λ k. told_shows ss k moment q)
     where
-      go : (notices : List (Notice (List ℕ) Item)) (p : ℕ) → ((k : ℕ) → visible_of ways (slice_get (without_told ss) k) moment q ≡ visible_of ways (slice_get ss k) moment q) → visible_of ways (slice_get (taken_or notices (without_notice s ∷ ss) (s ∷ without_told ss)) p) moment q ≡ visible_of ways (slice_get (s ∷ ss) p) moment q
+      go : (notices : List (Notice (List ℕ) Item)) (p : ℕ) → ((k : ℕ) → visible_of ways (slice_get (without_told ss) k) moment q ≡ visible_of ways (slice_get ss k) moment q)
+          → visible_of ways (slice_get (taken_or notices (without_notice s ∷ ss) (s ∷ without_told ss)) p) moment q ≡ visible_of ways (slice_get (s ∷ ss) p) moment q
       go [] zero rest = refl
       go [] (suc p) rest = rest p
       go (n ∷ ns) zero rest = refl
@@ -257,7 +246,7 @@ module _ {P S R : Type 0} (ways : Ways (List ℕ) Item P S R) (laws : IsEquivale
 abbrev pub item_ways : {S H : Type 0} → builders.Ghosts S H → hashers.Ghosts H → Ways (List ℕ) Item (Unit {0}) S ItemRules
 item_ways b h = record {
   answers = item_answers;
-  eq = same;
+  eq = bytes_eq;
   hash = hash_of_key h.finish h.write b.build_hasher (λ (key : List ℕ). key ∷ []);
 }
 

@@ -1,11 +1,12 @@
 -- What calls leave visible in one part.
-use Rattle.std.proofs.Common.{◌≡◌, ℕ, ◌+◌, ◌<◌, ◌≤◌, arith, Bool, true, false, true≢false, cond, not, ◌&&◌, ◌||◌, List, [], ◌∷◌, ◌++◌, Option, Some, None, inl, inr, ◌⊎◌, refl, sym, ap, subst, ◌∙◌, max}
-use Rattle.std.proofs.lemmas.Bool.{eqb-true, eq-eqb, lt-ltb, le-ltb, ltb-true}
-use Rattle.std.proofs.lemmas.Option.{none-some}
+use Rattle.std.proofs.Common.{◌≡◌, ℕ, ◌+◌, ◌<◌, ◌≤◌, arith, Bool, true, false, cond, not, ◌&&◌, ◌||◌, List, [], ◌∷◌, ◌++◌, Option, Some, None, inl, inr, ◌⊎◌, refl, sym, ap, subst, ◌∙◌, max}
+use Rattle.std.proofs.Math.Bool.{and-false}
+use Rattle.std.proofs.lemmas.Bool.{cases_Bool, cond_both, eqb-true, eq-eqb, lt-ltb, le-ltb, ltb-true}
+use Rattle.std.proofs.lemmas.Option.{cond_some, none-some, same_Some}
 use Rattle.std.specs.Cmp.{IsEquivalence}
 use Rattle.std.specs.List.{list_any}
 use Rattle.std.specs.Option.{option_map}
-use Rattle.std.specs.Prelude.{MatchBool, MatchOption}
+use Rattle.std.specs.Prelude.{MatchOption}
 use Rattle.engine_reference.specs.declared.data.Entry.{Entry}
 use Rattle.engine_reference.specs.declared.data.Record.{Record}
 use Rattle.engine_reference.specs.declared.data.Write.{Write}
@@ -44,29 +45,18 @@ left-some : {X : Type 0} (o w : Option X) → ((x : X) → o ≡ Some x → w �
 left-some None w h = inr refl
 left-some (Some x) w h = inl (sym (h x refl))
 
-cond_none : {X : Type 0} (b : Bool) (x : X) (o : Option X) → cond b (Some x) o ≡ None → (b ≡ false) × (o ≡ None)
-cond_none true x o h = absurd (none-some x (sym h))
-cond_none false x o h = (refl, h)
-
-some-same : {X : Type 0} (a b : X) → Some a ≡ Some b → a ≡ b
-some-same a b e = cc
-
-and-false : (a c : Bool) → c ≡ true → (a && not c) ≡ false
-and-false true c e = ap not e
-and-false false c e = refl
-
 sooner : (o : Option ℕ) (first later : ℕ) → first ≤ later → is_reached o first ≡ true → is_reached o later ≡ true
 sooner None first later before e = e
 sooner (Some m) first later before e = grind (arith, ltb-true, le-ltb)
+
+-- a run came, or none was due
+pub ran_if_due : {K V P S R : Type 0} (answers : Answers K V P R) (now : ℕ) (old new : State K V P S R) → MaintainsIfDue answers now old new → RunsToEnd answers now old new ⊎ (new ≡ old)
+ran_if_due answers now old new m = elim (cases_Bool (is_due old now)) [ inl due ↦ inl (rw due at m) | inr rests ↦ inr (rw rests at m) ]
 
 module _ {K V : Type 0} where
   -- what is seen of a record
   abbrev shown_of : Bool → Record K V → Option V
   shown_of b r = option_map (λ e. e.value) (option_map (λ (x : Record K V). x.entry) (cond b (Some r) None))
-
-  shown : (b : Bool) (r : Record K V) (v : V) → shown_of b r ≡ Some v → (b ≡ true) × (r.entry.value ≡ v)
-  shown true r v e = (refl, some-same r.entry.value v e)
-  shown false r v e = absurd (none-some v e)
 
 module _ {K V : Type 0} (eq : K → K → Bool) (equal : (a b : K) → eq a b ≡ true → a ≡ b) where
   -- the key's record that was changed
@@ -81,9 +71,7 @@ module _ {K V : Type 0} (eq : K → K → Bool) (equal : (a b : K) → eq a b �
 
   held-pushed : (key : K) (rs : List (Record K V)) (x : Record K V) → held_at eq rs key ≡ None → held_at eq (rs ++ x ∷ []) key ≡ held_at eq (x ∷ []) key
   held-pushed key [] x none = refl
-  held-pushed key (r ∷ rs) x none =
-      let p = cond_none (r.is_held && eq key r.entry.key) r (held_at eq rs key) none in
-      ap (λ c. cond c (Some r) (held_at eq (rs ++ x ∷ []) key)) p.0 ∙ held-pushed key rs x p.1
+  held-pushed key (r ∷ rs) x none = grind (arith, none, held-pushed key rs x, none-some r)
 
 module _ {K V P S R : Type 0} (answers : Answers K V P R) (eq : K → K → Bool) (laws : IsEquivalence eq) (equal : (a b : K) → eq a b ≡ true → a ≡ b) where
   abbrev seen : State K V P S R → ℕ → K → Option V
@@ -95,17 +83,16 @@ module _ {K V P S R : Type 0} (answers : Answers K V P R) (eq : K → K → Bool
   -- what is seen is held, and visible
   seen-held : (s : State K V P S R) (moment : ℕ) (o : Option (Record K V)) (v : V) → seen_of s moment o ≡ Some v → (r : Record K V) × (o ≡ Some r) × (r.entry.value ≡ v)
   seen-held s moment None v e = absurd (none-some v e)
-  seen-held s moment (Some r) v e = (r, refl, (shown (is_visible answers s moment r.entry) r v e).1)
+  seen-held s moment (Some r) v e = (r, refl, grind (arith, e, none-some v))
 
   maintained : (now : ℕ) (old new : State K V P S R) → AreApart eq (held_entries old.records) → MaintainsIfDue answers now old new → (moment : ℕ) (q : K) → Left (seen new moment q) (seen old moment q)
-  maintained now old new apart m moment q = go (is_due old now) m
-    where
-      go : (b : Bool) → MatchBool b (RunsToEnd answers now old new) (new ≡ old) → Left (seen new moment q) (seen old moment q)
-      go false same = inl (ap (λ s. seen s moment q) same)
-      go true run = elim ((runs_keep_visible K V P S R eq laws answers now old new apart run.runs).stays moment q) [
-        | inl e ↦ inl (ap (option_map (λ e. e.value)) e)
-        | inr k ↦ inr (ap (option_map (λ e. e.value)) k.0)
-      ]
+  maintained now old new apart m moment q = elim (ran_if_due answers now old new m) [
+    | inl run ↦ elim ((runs_keep_visible K V P S R eq laws answers now old new apart run.runs).stays moment q) [
+      | inl e ↦ inl (ap (option_map (λ e. e.value)) e)
+      | inr k ↦ inr (ap (option_map (λ e. e.value)) k.0)
+    ]
+    | inr same ↦ inl (ap (λ s. seen s moment q) same)
+  ]
 
   sent-records : (ticket : ℕ) (s : State K V P S R) → (sent ticket s).records ≡ s.records
   sent-records ticket s = go (unsent_at s.unsent ticket)
@@ -120,12 +107,12 @@ module _ {K V P S R : Type 0} (answers : Answers K V P R) (eq : K → K → Bool
   wrote s key hash value now step sound None none z is =
       let x : Record K V = record { number = s.next_number; hash = hash; entry = first_entry answers s key value now step; is_held = true; writes = 1; applied = 0; counts = None } in
       let here : held_at eq (x ∷ []) key ≡ Some x = ap (λ b. cond b (Some x) None) (laws.refl key) in
-      sym (ap (λ (y : Record K V). y.entry.value) (some-same x z (sym here ∙ sym (held-pushed eq equal key s.records x none) ∙ is)))
+      sym (ap (λ (y : Record K V). y.entry.value) (same_Some x z (sym here ∙ sym (held-pushed eq equal key s.records x none) ∙ is)))
   wrote s key hash value now step sound (Some r) some z is =
       let f : Record K V → Record K V = λ x. record x { entry = next_entry answers s r.entry key value now step; writes = x.writes + 1 } in
       let held = (held_at-each (λ (x : Record K V). x.number < s.next_number) eq s.records key r sound.records.below some).1 in
       let here = found-at eq equal key f s.records r sound.records.numbered some held (laws.refl key) in
-      sym (ap (λ (y : Record K V). y.entry.value) (some-same (f r) z (sym here ∙ is)))
+      sym (ap (λ (y : Record K V). y.entry.value) (same_Some (f r) z (sym here ∙ is)))
 
   written-own : (s : State K V P S R) (key : K) (hash : ℕ) (value : V) (now step moment : ℕ) → IsSound s → Left (seen (written answers eq s key hash value now step) moment key) (Some value)
   written-own s key hash value now step moment sound =
@@ -140,7 +127,16 @@ module _ {K V P S R : Type 0} (answers : Answers K V P R) (eq : K → K → Bool
   -- a value was inserted: its key shows it, others what they showed, or nothing
   pub inserts : (key : K) (hash : ℕ) (value : V) (now step : ℕ) (old new : State K V P S R) → IsSound old → AreApart eq (held_entries old.records) → (takes_nothing old.settings.capacity ≡ true → old.records ≡ []) → Inserts answers eq key hash value now step old new → (q : K)
       → Left (seen new now q) (cond (eq q key) (Some value) (seen old now q))
-  inserts key hash value now step old new sound apart bare i q = go (takes_nothing old.settings.capacity) refl
+  inserts key hash value now step old new sound apart bare i q = elim (cases_Bool (takes_nothing old.settings.capacity)) [
+    | inl off ↦ inr (ap (λ s. seen s now q) (i.off off) ∙ bare-seen old now q (bare off))
+    | inr on ↦
+        let all_sent = sent roomy.next_ticket mid in
+        let apart_mid = (calls_keep_apart K V P S R).written eq laws answers roomy key hash value now step sound_roomy apart in
+        let apart_sent : AreApart eq (held_entries all_sent.records) = subst (λ (rs : List (Record K V)). AreApart eq (held_entries rs)) (sym (sent-records roomy.next_ticket mid)) apart_mid in
+        left-trans (seen new now q) (seen all_sent now q) (cond (eq q key) (Some value) (seen old now q)) (maintained now all_sent new apart_sent (i.takes on) now q)
+        (left-trans (seen all_sent now q) (seen mid now q) (cond (eq q key) (Some value) (seen old now q)) (inl (ap (option_map (λ e. e.value)) (sending_keeps_visible K V P S R eq answers roomy.next_ticket mid now q)))
+        of_key)
+  ]
     where
       roomy : State K V P S R
       roomy = with_room old
@@ -151,19 +147,10 @@ module _ {K V P S R : Type 0} (answers : Answers K V P R) (eq : K → K → Bool
       sound_roomy : IsSound roomy
       sound_roomy = (calls_stay_sound K V P S R).room old sound
 
-      of_key : (b : Bool) → eq q key ≡ b → Left (seen mid now q) (cond b (Some value) (seen old now q))
-      of_key true t = subst (λ k. Left (seen mid now k) (Some value)) (sym (equal q key t)) (written-own roomy key hash value now step now sound_roomy)
-      of_key false t = inl (ap (option_map (λ e. e.value)) ((only_writes_show K V P S R).written eq laws answers roomy key hash value now step now q sound_roomy t))
-
-      go : (b : Bool) → takes_nothing old.settings.capacity ≡ b → Left (seen new now q) (cond (eq q key) (Some value) (seen old now q))
-      go true off = inr (ap (λ s. seen s now q) (i.off off) ∙ bare-seen old now q (bare off))
-      go false on =
-          let all_sent = sent roomy.next_ticket mid in
-          let apart_mid = (calls_keep_apart K V P S R).written eq laws answers roomy key hash value now step sound_roomy apart in
-          let apart_sent : AreApart eq (held_entries all_sent.records) = subst (λ (rs : List (Record K V)). AreApart eq (held_entries rs)) (sym (sent-records roomy.next_ticket mid)) apart_mid in
-          left-trans (seen new now q) (seen all_sent now q) (cond (eq q key) (Some value) (seen old now q)) (maintained now all_sent new apart_sent (i.takes on) now q)
-          (left-trans (seen all_sent now q) (seen mid now q) (cond (eq q key) (Some value) (seen old now q)) (inl (ap (option_map (λ e. e.value)) (sending_keeps_visible K V P S R eq answers roomy.next_ticket mid now q)))
-          (of_key (eq q key) refl))
+      of_key : Left (seen mid now q) (cond (eq q key) (Some value) (seen old now q))
+      of_key = cond_both (eq q key) _ _ (Left (seen mid now q))
+          (λ t. subst (λ k. Left (seen mid now k) (Some value)) (sym (equal q key t)) (written-own roomy key hash value now step now sound_roomy))
+          (λ t. inl (ap (option_map (λ e. e.value)) ((only_writes_show K V P S R).written eq laws answers roomy key hash value now step now q sound_roomy t)))
 
   -- ---- a removal
 
@@ -175,21 +162,22 @@ module _ {K V P S R : Type 0} (answers : Answers K V P R) (eq : K → K → Bool
       f : Record K V → Record K V
       f x = record x { is_held = false; writes = x.writes + 1 }
 
-      absent : (b : Bool) → eq q key ≡ b → held_at eq old.records key ≡ None → new ≡ old → Left (seen new now q) (cond b None (seen old now q))
-      absent true t none same = inr (ap (λ s. seen s now q) same ∙ ap (λ k. seen old now k) (equal q key t) ∙ ap (seen_of old now) none)
-      absent false t none same = inl (ap (λ s. seen s now q) same)
+      absent : held_at eq old.records key ≡ None → new ≡ old → Left (seen new now q) (cond (eq q key) None (seen old now q))
+      absent none same = cond_both (eq q key) _ _ (Left (seen new now q))
+          (λ t. inr (ap (λ s. seen s now q) same ∙ ap (λ k. seen old now k) (equal q key t) ∙ ap (seen_of old now) none))
+          (λ _. inl (ap (λ s. seen s now q) same))
 
-      of_key : (r : Record K V) → held_at eq old.records key ≡ Some r → (b : Bool) → eq q key ≡ b → Left (seen (with_removed (Some r) old) now q) (cond b None (seen old now q))
-      of_key r some true t =
+      of_key : (r : Record K V) → held_at eq old.records key ≡ Some r → Left (seen (with_removed (Some r) old) now q) (cond (eq q key) None (seen old now q))
+      of_key r some =
           let mid = with_removed (Some r) old in
-          inr (ap (λ k. seen mid now k) (equal q key t) ∙ ap (seen_of mid now) (gone-at eq equal key f old.records r (λ x. refl) (to-records eq old.records apart) sound.records.numbered some))
-      of_key r some false t =
           let shows = (only_writes_show K V P S R).removed eq laws answers old key now q apart in
-          left-map (λ e. e.value) (visible answers eq (with_removed (Some r) old) now q) (visible answers eq old now q)
-          (subst (λ (o : Option (Record K V)). Left (visible answers eq (with_removed o old) now q) (visible answers eq old now q)) some shows)
+          cond_both (eq q key) _ _ (Left (seen mid now q))
+          (λ t. inr (ap (λ k. seen mid now k) (equal q key t) ∙ ap (seen_of mid now) (gone-at eq equal key f old.records r (λ x. refl) (to-records eq old.records apart) sound.records.numbered some)))
+          (λ _. left-map (λ e. e.value) (visible answers eq mid now q) (visible answers eq old now q)
+          (subst (λ (o : Option (Record K V)). Left (visible answers eq (with_removed o old) now q) (visible answers eq old now q)) some shows))
 
       go : (o : Option (Record K V)) → held_at eq old.records key ≡ o → MatchOption o (new ≡ old) (λ r. MaintainsIfDue answers now (taken_out answers r now old) new) → Left (seen new now q) (cond (eq q key) None (seen old now q))
-      go None none same = absent (eq q key) refl none same
+      go None none same = absent none same
       go (Some r) some m =
           let out = taken_out answers r now old in
           let mid = with_removed (Some r) old in
@@ -197,32 +185,27 @@ module _ {K V P S R : Type 0} (answers : Answers K V P R) (eq : K → K → Bool
           let apart_out : AreApart eq (held_entries out.records) = subst (λ (rs : List (Record K V)). AreApart eq (held_entries rs)) (sym (sent-records old.next_ticket mid)) apart_mid in
           left-trans (seen new now q) (seen out now q) (cond (eq q key) None (seen old now q)) (maintained now out new apart_out m now q)
           (left-trans (seen out now q) (seen mid now q) (cond (eq q key) None (seen old now q)) (inl (ap (option_map (λ e. e.value)) (sending_keeps_visible K V P S R eq answers old.next_ticket mid now q)))
-          (of_key r some (eq q key) refl))
+          (of_key r some))
 
   -- ---- a look-up
 
   -- a record after a run that was due was there before it
   came : (now : ℕ) (old mid : State K V P S R) → IsSound old → old.unsent ≡ [] → MaintainsIfDue answers now old mid → (q : K) (x : Record K V) → held_at eq mid.records q ≡ Some x → ComesFrom old.records x
-  came now old mid sound sent_all m q x at = go (is_due old now) m
-    where
-      go : (b : Bool) → MatchBool b (RunsToEnd answers now old mid) (mid ≡ old) → ComesFrom old.records x
-      go true run = (held_at-each (ComesFrom old.records) eq mid.records q x (run-leaves answers now old mid sound sent_all run.runs).from at).0
-      go false same = record {
-        owner = x;
-        there = held_at-only eq old.records q x sound.records.numbered (sym (ap (λ s. held_at eq s.records q) same) ∙ at);
-        number = refl;
-        entry = refl;
-        held = refl;
-      }
+  came now old mid sound sent_all m q x at = elim (ran_if_due answers now old mid m) [
+    | inl run ↦ (held_at-each (ComesFrom old.records) eq mid.records q x (run-leaves answers now old mid sound sent_all run.runs).from at).0
+    | inr same ↦ record {
+      owner = x;
+      there = held_at-only eq old.records q x sound.records.numbered (sym (ap (λ s. held_at eq s.records q) same) ∙ at);
+      number = refl;
+      entry = refl;
+      held = refl;
+    }
+  ]
 
   -- a visible record
   passed : (s : State K V P S R) (moment : ℕ) (o : Option (Record K V)) (r : Record K V) → passing (λ r. is_visible answers s moment r.entry) o ≡ Some r → o ≡ Some r
   passed s moment None r e = absurd (none-some r e)
-  passed s moment (Some x) r e = go (is_visible answers s moment x.entry) e
-    where
-      go : (b : Bool) → cond b (Some x) None ≡ Some r → Some x ≡ Some r
-      go true k = k
-      go false k = absurd (none-some r k)
+  passed s moment (Some x) r e = ap Some (cond_some _ x r e).1
 
   -- each key shows what it showed, or nothing
   pub looked : (key : K) (hash now : ℕ) (old new : State K V P S R) → IsSound old → old.unsent ≡ [] → AreApart eq (held_entries old.records) → NotesLookUp answers eq key hash now false old new → (q : K) → Left (seen new now q) (seen old now q)
@@ -245,11 +228,11 @@ module _ {K V P S R : Type 0} (answers : Answers K V P R) (eq : K → K → Bool
           used x at number at_new v e =
               let there = passed old now (held_at eq old.records key) r found in
               let from = came now old h.mid sound sent_all h.maintains q x at in
-              let owner_is : from.owner ≡ r = some-same from.owner r (sym from.there ∙ ap (record_at old.records) (from.number ∙ number) ∙ held_at-only eq old.records key r sound.records.numbered there) in
+              let owner_is : from.owner ≡ r = same_Some from.owner r (sym from.there ∙ ap (record_at old.records) (from.number ∙ number) ∙ held_at-only eq old.records key r sound.records.numbered there) in
               let entry_is : x.entry ≡ r.entry = sym from.entry ∙ ap (λ (y : Record K V). y.entry) owner_is in
               let q_is : q ≡ key = equal q x.entry.key (held_at-match eq h.mid.records q x at) ∙ ap (λ (y : Entry K V). y.key) entry_is ∙ sym (equal key r.entry.key (held_at-match eq old.records key r there)) in
               let z = seen-held h.mid now (Some (f x)) v (sym (ap (λ s. seen s now q) is ∙ ap (seen_of h.mid now) at_new) ∙ e) in
-              let value_is : r.entry.value ≡ v = sym (ap (λ (y : Entry K V). y.value) entry_is) ∙ ap (λ (y : Record K V). y.entry.value) (some-same (f x) z.0 z.1) ∙ z.2 in
+              let value_is : r.entry.value ≡ v = sym (ap (λ (y : Entry K V). y.value) entry_is) ∙ ap (λ (y : Record K V). y.entry.value) (same_Some (f x) z.0 z.1) ∙ z.2 in
               ap (λ k. seen old now k) q_is ∙ ap (option_map (λ e. e.value)) (ap (option_map (λ (y : Record K V). y.entry)) found) ∙ ap Some value_is
 
   -- ---- a clear, and time
@@ -264,17 +247,12 @@ module _ {K V P S R : Type 0} (answers : Answers K V P R) (eq : K → K → Bool
           let early = (held_at-each (λ (x : Record K V). x.entry.step ≤ last) eq s.records q r low is).0 in
           let under : r.entry.step < max s.cleared step = omega arith in
           let covered : is_covered answers (cleared_by step s) r.entry ≡ true = ap (λ b. b || list_any (λ p. is_covered_by answers s.rules p r.entry) s.predicates) (lt-ltb r.entry.step (max s.cleared step) under) in
-          ap (λ b. shown_of b r) (and-false (not (has_come s.settings moment r.entry)) (is_covered answers (cleared_by step s) r.entry) covered)
+          ap (λ b. shown_of b r) (ap (λ c. not (has_come s.settings moment r.entry) && not c) covered ∙ and-false (not (has_come s.settings moment r.entry)))
 
   -- what is seen later was seen before
   pub passes : (s : State K V P S R) (first later : ℕ) → first ≤ later → (q : K) → Left (seen s later q) (seen s first q)
   passes s first later before q = go (held_at eq s.records q)
     where
-      by_test : (r : Record K V) (a b c : Bool) → (a ≡ true → b ≡ true) → Left (shown_of (not b && not c) r) (shown_of (not a && not c) r)
-      by_test r a true c h = inr refl
-      by_test r true false c h = absurd (true≢false (sym (h refl)))
-      by_test r false false c h = inl refl
-
       go : (o : Option (Record K V)) → Left (seen_of s later o) (seen_of s first o)
       go None = inl refl
-      go (Some r) = by_test r (has_come s.settings first r.entry) (has_come s.settings later r.entry) (is_covered answers s r.entry) (sooner (deadline_of s.settings r.entry) first later before)
+      go (Some r) = grind (arith, sooner (deadline_of s.settings r.entry) first later before)

@@ -1,10 +1,10 @@
 -- What items weigh together.
-use Rattle.std.proofs.Common.{◌≡◌, ℕ, suc, ◌+◌, ◌≤◌, arith, Bool, true, false, true≢false, cond, ◌&&◌, ◌||◌, List, [], ◌∷◌, map, length, Option, Some, None, ⊎_elim, refl, sym, ap, subst, ◌∙◌, eqb}
-use Rattle.std.proofs.lemmas.Bool.{eqb-true, eq-eqb, ltb-false}
+use Rattle.std.proofs.Common.{inl, inr, ◌≡◌, ℕ, suc, ◌+◌, ◌≤◌, arith, Bool, true, false, true≢false, cond, List, [], ◌∷◌, map, length, Option, Some, None, ⊎_elim, refl, sym, ap, subst, ◌∙◌, eqb}
+use Rattle.std.proofs.lemmas.Bool.{cases_Bool, cases_eq, cond_both, ltb-false, or_left, or_parts, or_right}
 use Rattle.std.proofs.lemmas.Slice.Eq.{bytes_eq-Decides}
 use Rattle.std.specs.List.{list_any}
 use Rattle.std.specs.Option.{option_map, option_map_or}
-use Rattle.std.specs.Prelude.{MatchBool, MatchOption, unwrap_or}
+use Rattle.std.specs.Prelude.{MatchOption, unwrap_or}
 use Rattle.engine_reference.specs.declared.data.Record.{Record}
 use Rattle.engine_reference.specs.declared.data.Unsent.{Unsent}
 use Rattle.engine_reference.specs.declared.data.Write.{Write}
@@ -13,7 +13,6 @@ use Rattle.engine_reference.specs.Admission.{is_above}
 use Rattle.engine_reference.specs.Calls.{MaintainsIfDue, first_entry, next_entry, sent, unsent_at, used_entry, with_read, with_removed, with_room, with_sent, with_written, written}
 use Rattle.engine_reference.specs.Records.{admitted_weight, changed_at, held_at, record_at, weight_at}
 use Rattle.engine_reference.specs.RunLaws.Points.{IsInOrder}
-use Rattle.engine_reference.specs.Runs.{RunsToEnd, is_due}
 use Rattle.engine_reference.specs.Scanning.{NotesLookUp}
 use Rattle.engine_reference.specs.Soundness.{Each, IsAccounted, IsIn, IsLastOf, IsSound, number_of}
 use Rattle.engine_reference.specs.State.{Answers, State}
@@ -23,7 +22,8 @@ use Rattle.engine_reference.proofs.run_laws.Fewer.{weight-cons}
 use Rattle.engine_reference.proofs.run_laws.Shown.{held_at-match}
 use Rattle.engine_reference.proofs.run_laws.Swept.{each-run}
 use Rattle.front_reference.specs.Parts.{Inserts, TakesOut, taken_out, takes_nothing}
-use Rattle.memcache_model.specs.Bytes.{same}
+use Rattle.memcache_cache.proofs.Parts.{ran_if_due}
+use Rattle.std.specs.Str.{bytes_eq}
 use Rattle.memcache_model.specs.Items.{Item}
 use Rattle.memcache_service.specs.Shelves.{AreBeside}
 
@@ -38,19 +38,14 @@ module _ {K V : Type 0} (weigh : K → V → ℕ) where
 
   kept-at : (n : ℕ) (f : Record K V → Record K V) → ((r : Record K V) → IsWeighed r → IsWeighed (f r)) → (rs : List (Record K V)) → Each IsWeighed rs → Each IsWeighed (changed_at n f rs)
   kept-at n f keeps [] h = tt
-  kept-at n f keeps (r ∷ rs) h = go (eqb r.number n) (kept-at n f keeps rs h.1)
-    where
-      go : (b : Bool) → Each IsWeighed (changed_at n f rs) → Each IsWeighed (cond b (f r ∷ rs) (r ∷ changed_at n f rs))
-      go true rest = (keeps r h.0, h.1)
-      go false rest = (h.0, rest)
+  kept-at n f keeps (r ∷ rs) h = cond_both (eqb r.number n) _ _ (Each IsWeighed) (λ _. (keeps r h.0, h.1)) (λ _. (h.0, kept-at n f keeps rs h.1))
 
 module _ {K V P S R : Type 0} (answers : Answers K V P R) (eq : K → K → Bool) (weigh : K → V → ℕ) (weighs : (rules : R) (key : K) (value : V) → answers.weight_of rules key value ≡ weigh key value) where
   run-weighed : (now : ℕ) (old new : State K V P S R) → IsSound old → MaintainsIfDue answers now old new → AreWeighed weigh old → AreWeighed weigh new
-  run-weighed now old new sound m h = go (is_due old now) m
-    where
-      go : (b : Bool) → MatchBool b (RunsToEnd answers now old new) (new ≡ old) → AreWeighed weigh new
-      go true run = each-run (IsWeighed weigh) (λ r applied counts k. k) answers now old new sound h run.runs
-      go false is = subst (λ t. AreWeighed weigh t) (sym is) h
+  run-weighed now old new sound m h = elim (ran_if_due answers now old new m) [
+    | inl run ↦ each-run (IsWeighed weigh) (λ r applied counts k. k) answers now old new sound h run.runs
+    | inr is ↦ subst (λ t. AreWeighed weigh t) (sym is) h
+  ]
 
   sent-weighed : (ticket : ℕ) (s : State K V P S R) → AreWeighed weigh s → AreWeighed weigh (sent ticket s)
   sent-weighed ticket s h = go (unsent_at s.unsent ticket)
@@ -71,7 +66,10 @@ module _ {K V P S R : Type 0} (answers : Answers K V P R) (eq : K → K → Bool
   removed-weighed (Some r) s h = kept-at weigh r.number (λ x. record x { is_held = false; writes = x.writes + 1 }) (λ x k. k) s.records h
 
   pub inserts-weighed : (key : K) (hash : ℕ) (value : V) (now step : ℕ) (old new : State K V P S R) → IsSound old → Inserts answers eq key hash value now step old new → AreWeighed weigh old → AreWeighed weigh new
-  inserts-weighed key hash value now step old new sound i h = go (takes_nothing old.settings.capacity) refl
+  inserts-weighed key hash value now step old new sound i h = elim (cases_Bool (takes_nothing old.settings.capacity)) [
+    | inl off ↦ subst (λ t. AreWeighed weigh t) (sym (i.off off)) h
+    | inr on ↦ run-weighed now (sent roomy.next_ticket mid) new ((calls_stay_sound K V P S R).sent roomy.next_ticket mid sound_mid) (i.takes on) (sent-weighed roomy.next_ticket mid (written-weighed roomy key hash value now step h))
+  ]
     where
       roomy : State K V P S R
       roomy = with_room old
@@ -81,10 +79,6 @@ module _ {K V P S R : Type 0} (answers : Answers K V P R) (eq : K → K → Bool
 
       sound_mid : IsSound mid
       sound_mid = (calls_stay_sound K V P S R).written eq answers roomy key hash value now step ((calls_stay_sound K V P S R).room old sound)
-
-      go : (b : Bool) → takes_nothing old.settings.capacity ≡ b → AreWeighed weigh new
-      go true off = subst (λ t. AreWeighed weigh t) (sym (i.off off)) h
-      go false on = run-weighed now (sent roomy.next_ticket mid) new ((calls_stay_sound K V P S R).sent roomy.next_ticket mid sound_mid) (i.takes on) (sent-weighed roomy.next_ticket mid (written-weighed roomy key hash value now step h))
 
   pub takes_out-weighed : (key : K) (now : ℕ) (old new : State K V P S R) → IsSound old → TakesOut answers eq key now old new → AreWeighed weigh old → AreWeighed weigh new
   takes_out-weighed key now old new sound takes h = go (held_at eq old.records key) refl takes
@@ -111,50 +105,34 @@ module _ {K V P S R : Type 0} (answers : Answers K V P R) (eq : K → K → Bool
 
 -- ---- keys
 
-or-left : (a b : Bool) → a ≡ true → (a || b) ≡ true
-or-left true b e = refl
-or-left false b e = absurd (true≢false (sym e))
+bytes_eq-self : (key : List ℕ) → bytes_eq key key ≡ true
+bytes_eq-self key = (bytes_eq-Decides key key).1 refl
 
-or-right : (a b : Bool) → b ≡ true → (a || b) ≡ true
-or-right true b e = refl
-or-right false b e = e
-
-neither : (a b : Bool) → (a || b) ≡ false → b ≡ false
-neither true b e = absurd (true≢false e)
-neither false b e = e
-
-same-self : (key : List ℕ) → same key key ≡ true
-same-self key = (bytes_eq-Decides key key).1 refl
-
-same-is : (a b : List ℕ) → same a b ≡ true → a ≡ b
-same-is a b e = (bytes_eq-Decides a b).0 e
+bytes_eq-is : (a b : List ℕ) → bytes_eq a b ≡ true → a ≡ b
+bytes_eq-is a b e = (bytes_eq-Decides a b).0 e
 
 -- so much for a key, nothing for others
 abbrev hit : List ℕ → ℕ → List ℕ → ℕ
-hit k w key = cond (same key k) w 0
+hit k w key = cond (bytes_eq key k) w 0
 
 abbrev pub total : (List ℕ → ℕ) → List (List ℕ) → ℕ
 total f [] = 0
 total f (key ∷ keys) = f key + total f keys
 
-no-hits : (k : List ℕ) (w : ℕ) (others keys : List (List ℕ)) → list_any (same k) others ≡ true → AreBeside others keys → total (hit k w) keys ≡ 0
+no-hits : (k : List ℕ) (w : ℕ) (others keys : List (List ℕ)) → list_any (bytes_eq k) others ≡ true → AreBeside others keys → total (hit k w) keys ≡ 0
 no-hits k w others [] among beside = refl
-no-hits k w others (key ∷ keys) among beside = go (same key k) refl (no-hits k w (key ∷ others) keys (or-right (same k key) (list_any (same k) others) among) beside.1)
-  where
-    go : (b : Bool) → same key k ≡ b → total (hit k w) keys ≡ 0 → cond b w 0 + total (hit k w) keys ≡ 0
-    go true t rest = absurd (true≢false (sym among ∙ ap (λ z. list_any (same z) others) (sym (same-is key k t)) ∙ beside.0))
-    go false t rest = omega (arith, rest)
+no-hits k w others (key ∷ keys) among beside =
+    let rest = no-hits k w (key ∷ others) keys (or_right (bytes_eq k key) (list_any (bytes_eq k) others) among) beside.1 in
+    cond_both (bytes_eq key k) _ _ (λ n. n + total (hit k w) keys ≡ 0)
+    (λ t. absurd (true≢false (sym among ∙ ap (λ z. list_any (bytes_eq z) others) (sym (bytes_eq-is key k t)) ∙ beside.0))) (λ _. omega (arith, rest))
 
 one-hit : (k : List ℕ) (w : ℕ) (others keys : List (List ℕ)) → AreBeside others keys → total (hit k w) keys ≤ w
 one-hit k w others [] beside = omega arith
-one-hit k w others (key ∷ keys) beside = go (same key k) refl (one-hit k w (key ∷ others) keys beside.1)
-  where
-    go : (b : Bool) → same key k ≡ b → total (hit k w) keys ≤ w → cond b w 0 + total (hit k w) keys ≤ w
-    go true t rest =
-        let among : list_any (same k) (key ∷ others) ≡ true = or-left (same k key) (list_any (same k) others) (ap (λ z. same k z) (same-is key k t) ∙ same-self k) in
-        let none = no-hits k w (key ∷ others) keys among beside.1 in
-        omega (arith, none)
-    go false t rest = omega (arith, rest)
+one-hit k w others (key ∷ keys) beside = cond_both (bytes_eq key k) _ _ (λ n. n + total (hit k w) keys ≤ w)
+    (λ t. (let among : list_any (bytes_eq k) (key ∷ others) ≡ true = or_left (bytes_eq k key) (list_any (bytes_eq k) others) (ap (λ z. bytes_eq k z) (bytes_eq-is key k t) ∙ bytes_eq-self k) in
+    let none = no-hits k w (key ∷ others) keys among beside.1 in
+    omega (arith, none)))
+    (λ _. (let rest = one-hit k w (key ∷ others) keys beside.1 in omega (arith, rest)))
 
 added : (f g h : List ℕ → ℕ) → ((key : List ℕ) → f key ≤ g key + h key) → (keys : List (List ℕ)) → total f keys ≤ total g keys + total h keys
 added f g h each [] = omega arith
@@ -164,26 +142,21 @@ none-together : (f : List ℕ → ℕ) → ((key : List ℕ) → f key ≡ 0) �
 none-together f none [] = omega arith
 none-together f none (key ∷ keys) = let one = none key in let more = none-together f none keys in omega (arith, one, more)
 
-at-most : (f g : List ℕ → ℕ) (waiting others keys : List (List ℕ)) → ((key : List ℕ) → list_any (same key) others ≡ false → list_any (same key) waiting ≡ false) → ((key : List ℕ) → list_any (same key) waiting ≡ false → f key ≤ g key) → AreBeside others keys → total f keys ≤ total g keys
+at-most : (f g : List ℕ → ℕ) (waiting others keys : List (List ℕ)) → ((key : List ℕ) → list_any (bytes_eq key) others ≡ false → list_any (bytes_eq key) waiting ≡ false)
+    → ((key : List ℕ) → list_any (bytes_eq key) waiting ≡ false → f key ≤ g key) → AreBeside others keys → total f keys ≤ total g keys
 at-most f g waiting others [] less each beside = omega arith
 at-most f g waiting others (key ∷ keys) less each beside =
     let one = each key (less key beside.0) in
-    let more = at-most f g waiting (key ∷ others) keys (λ k e. less k (neither (same k key) (list_any (same k) others) e)) each beside.1 in
+    let more = at-most f g waiting (key ∷ others) keys (λ k e. less k (or_parts (bytes_eq k key) (list_any (bytes_eq k) others) e).1) each beside.1 in
     omega (arith, one, more)
 
 module _ {V : Type 0} where
   -- what counts of a key
   abbrev counted : List (Record (List ℕ) V) → List ℕ → ℕ
-  counted rs key = option_map_or weight_at (held_at same rs key) 0
+  counted rs key = option_map_or weight_at (held_at bytes_eq rs key) 0
 
   counts-one : (r : Record (List ℕ) V) (rs : List (Record (List ℕ) V)) (key : List ℕ) → counted (r ∷ rs) key ≤ hit r.entry.key (weight_at r) key + counted rs key
-  counts-one r rs key = go r.is_held (same key r.entry.key)
-    where
-      go : (held is : Bool) → option_map_or weight_at (cond (held && is) (Some r) (held_at same rs key)) 0 ≤ cond is (weight_at r) 0 + counted rs key
-      go true true = omega arith
-      go true false = omega arith
-      go false true = omega arith
-      go false false = omega arith
+  counts-one r rs key = grind arith
 
   -- the keys' records count at most as much as all
   counts-all : (rs : List (Record (List ℕ) V)) (others keys : List (List ℕ)) → AreBeside others keys → total (counted rs) keys ≤ admitted_weight rs
@@ -213,16 +186,18 @@ module _ {V : Type 0} where
       go None less = omega (arith, less)
       go (Some r) less = omega (arith, less)
 
-  waits-among : (rs : List (Record (List ℕ) V)) (ws : List Write) (w : Write) (r : Record (List ℕ) V) → IsIn w ws → record_at rs (number_of w) ≡ Some r → list_any (same r.entry.key) (waiting_of rs ws) ≡ true
+  waits-among : (rs : List (Record (List ℕ) V)) (ws : List Write) (w : Write) (r : Record (List ℕ) V) → IsIn w ws → record_at rs (number_of w) ≡ Some r → list_any (bytes_eq r.entry.key) (waiting_of rs ws) ≡ true
   waits-among rs [] w r is there = absurd is
   waits-among rs (y ∷ ys) w r is there = ⊎_elim first (λ k. later (record_at rs (number_of y)) (waits-among rs ys w r k there)) is
     where
-      first : y ≡ w → list_any (same r.entry.key) (with_key (record_at rs (number_of y)) (waiting_of rs ys)) ≡ true
-      first e = subst (λ (o : Option (Record (List ℕ) V)). list_any (same r.entry.key) (with_key o (waiting_of rs ys)) ≡ true) (sym there ∙ ap (λ z. record_at rs (number_of z)) (sym e)) (or-left (same r.entry.key r.entry.key) (list_any (same r.entry.key) (waiting_of rs ys)) (same-self r.entry.key))
+      first : y ≡ w → list_any (bytes_eq r.entry.key) (with_key (record_at rs (number_of y)) (waiting_of rs ys)) ≡ true
+      first e =
+          subst (λ (o : Option (Record (List ℕ) V)). list_any (bytes_eq r.entry.key) (with_key o (waiting_of rs ys)) ≡ true) (sym there ∙ ap (λ z. record_at rs (number_of z)) (sym e))
+          (or_left (bytes_eq r.entry.key r.entry.key) (list_any (bytes_eq r.entry.key) (waiting_of rs ys)) (bytes_eq-self r.entry.key))
 
-      later : (o : Option (Record (List ℕ) V)) → list_any (same r.entry.key) (waiting_of rs ys) ≡ true → list_any (same r.entry.key) (with_key o (waiting_of rs ys)) ≡ true
+      later : (o : Option (Record (List ℕ) V)) → list_any (bytes_eq r.entry.key) (waiting_of rs ys) ≡ true → list_any (bytes_eq r.entry.key) (with_key o (waiting_of rs ys)) ≡ true
       later None rest = rest
-      later (Some z) rest = or-right (same r.entry.key z.entry.key) (list_any (same r.entry.key) (waiting_of rs ys)) rest
+      later (Some z) rest = or_right (bytes_eq r.entry.key z.entry.key) (list_any (bytes_eq r.entry.key) (waiting_of rs ys)) rest
 
 last-number : {K V : Type 0} (w : Write) (r : Record K V) → IsLastOf w r → number_of w ≡ r.number
 last-number (Put u) r last = last.0
@@ -230,37 +205,38 @@ last-number (Removed n) r last = last.0
 
 module _ {P S R : Type 0} (answers : Answers (List ℕ) Item P R) (weigh : List ℕ → Item → ℕ) (weighs : (rules : R) (key : List ℕ) (value : Item) → answers.weight_of rules key value ≡ weigh key value) where
   -- a key beside those that wait shows no more than what counts of it
-  shown-counted : (s : State (List ℕ) Item P S R) → IsSound s → s.unsent ≡ [] → AreWeighed weigh s → (moment : ℕ) (key : List ℕ) → list_any (same key) (waiting_of s.records s.writes) ≡ false → option_map_or (weigh key) (visible_value answers same s moment key) 0 ≤ counted s.records key
-  shown-counted s sound none weighed moment key beside = go (held_at same s.records key) refl
+  shown-counted : (s : State (List ℕ) Item P S R) → IsSound s → s.unsent ≡ [] → AreWeighed weigh s → (moment : ℕ) (key : List ℕ) → list_any (bytes_eq key) (waiting_of s.records s.writes) ≡ false
+      → option_map_or (weigh key) (visible_value answers bytes_eq s moment key) 0 ≤ counted s.records key
+  shown-counted s sound none weighed moment key beside = go (held_at bytes_eq s.records key) refl
     where
-      by_sight : (b : Bool) (r : Record (List ℕ) Item) → weigh key r.entry.value ≤ weight_at r → option_map_or (weigh key) (option_map (λ e. e.value) (option_map (λ (x : Record (List ℕ) Item). x.entry) (cond b (Some r) None))) 0 ≤ weight_at r
-      by_sight true r most = most
-      by_sight false r most = omega arith
+      settled : (r : Record (List ℕ) Item) → held_at bytes_eq s.records key ≡ Some r → key ≡ r.entry.key → r.counts ≡ Some r.entry.weight
+      settled r at is =
+          let accounted = (held_at-each (IsAccounted s.unsent s.writes) bytes_eq s.records key r sound.records.accounted at).0 in
+          elim (cases_eq r.applied r.writes) [
+            | inl e ↦ (accounted.counts e).1
+            | inr behind ↦
+                let waits = accounted.waits behind in
+                let inside : IsIn waits.0 s.writes = ⊎_elim (λ k. absurd (subst (λ (us : List Unsent). IsIn waits.0 (map (λ u. u.write) us)) none k)) (λ k. k) waits.1 in
+                let there = ap (record_at s.records) (last-number waits.0 r waits.2) ∙ held_at-only bytes_eq s.records key r sound.records.numbered at in
+                let among = waits-among s.records s.writes waits.0 r inside there in
+                absurd (true≢false (sym among ∙ ap (λ z. list_any (bytes_eq z) (waiting_of s.records s.writes)) (sym is) ∙ beside))
+          ]
 
-      settled : (r : Record (List ℕ) Item) → held_at same s.records key ≡ Some r → key ≡ r.entry.key → (b : Bool) → eqb r.applied r.writes ≡ b → r.counts ≡ Some r.entry.weight
-      settled r at is true t = ((held_at-each (IsAccounted s.unsent s.writes) same s.records key r sound.records.accounted at).0.counts (eqb-true r.applied r.writes t)).1
-      settled r at is false t =
-          let accounted = (held_at-each (IsAccounted s.unsent s.writes) same s.records key r sound.records.accounted at).0 in
-          let waits = accounted.waits (λ e. true≢false (sym (eq-eqb r.applied r.writes e) ∙ t)) in
-          let inside : IsIn waits.0 s.writes = ⊎_elim (λ k. absurd (subst (λ (us : List Unsent). IsIn waits.0 (map (λ u. u.write) us)) none k)) (λ k. k) waits.1 in
-          let there = ap (record_at s.records) (last-number waits.0 r waits.2) ∙ held_at-only same s.records key r sound.records.numbered at in
-          let among = waits-among s.records s.writes waits.0 r inside there in
-          absurd (true≢false (sym among ∙ ap (λ z. list_any (same z) (waiting_of s.records s.writes)) (sym is) ∙ beside))
-
-      go : (o : Option (Record (List ℕ) Item)) → held_at same s.records key ≡ o → option_map_or (weigh key) (option_map (λ e. e.value) (option_map (λ (x : Record (List ℕ) Item). x.entry) (passing (λ r. is_visible answers s moment r.entry) o))) 0 ≤ option_map_or weight_at o 0
+      go : (o : Option (Record (List ℕ) Item)) → held_at bytes_eq s.records key ≡ o → option_map_or (weigh key) (option_map (λ e. e.value) (option_map (λ (x : Record (List ℕ) Item). x.entry) (passing (λ r. is_visible answers s moment r.entry) o))) 0 ≤ option_map_or weight_at o 0
       go None at = omega arith
       go (Some r) at =
-          let is = same-is key r.entry.key (held_at-match same s.records key r at) in
-          let counts = settled r at is (eqb r.applied r.writes) refl in
-          let weight = (held_at-each (IsWeighed weigh) same s.records key r weighed at).0 in
+          let is = bytes_eq-is key r.entry.key (held_at-match bytes_eq s.records key r at) in
+          let counts = settled r at is in
+          let weight = (held_at-each (IsWeighed weigh) bytes_eq s.records key r weighed at).0 in
           let all : weight_at r ≡ weigh key r.entry.value = ap (λ o. unwrap_or o 0) counts ∙ weight ∙ ap (λ z. weigh z r.entry.value) (sym is) in
-          by_sight (is_visible answers s moment r.entry) r (omega (arith, all))
+          grind (arith, all)
 
   -- beside those that wait all that a part shows weighs at most its capacity
-  pub shown-within : (s : State (List ℕ) Item P S R) (capacity : ℕ) → IsInOrder s → s.unsent ≡ [] → s.settings.capacity ≡ Some capacity → AreWeighed weigh s → (moment : ℕ) (keys : List (List ℕ)) → AreBeside (waiting_of s.records s.writes) keys → total (λ key. option_map_or (weigh key) (visible_value answers same s moment key) 0) keys ≤ capacity
+  pub shown-within : (s : State (List ℕ) Item P S R) (capacity : ℕ) → IsInOrder s → s.unsent ≡ [] → s.settings.capacity ≡ Some capacity → AreWeighed weigh s → (moment : ℕ) (keys : List (List ℕ))
+      → AreBeside (waiting_of s.records s.writes) keys → total (λ key. option_map_or (weigh key) (visible_value answers bytes_eq s moment key) 0) keys ≤ capacity
   shown-within s capacity order none is weighed moment keys beside =
       let waiting = waiting_of s.records s.writes in
-      let less = at-most (λ key. option_map_or (weigh key) (visible_value answers same s moment key) 0) (counted s.records) waiting waiting keys (λ key e. e) (λ key e. shown-counted s order.sound none weighed moment key e) beside in
+      let less = at-most (λ key. option_map_or (weigh key) (visible_value answers bytes_eq s moment key) 0) (counted s.records) waiting waiting keys (λ key e. e) (λ key e. shown-counted s order.sound none weighed moment key e) beside in
       let all = counts-all s.records waiting keys beside in
       let within = ltb-false capacity (admitted_weight s.records) (sym (ap (λ o. is_above o (admitted_weight s.records)) is) ∙ order.within) in
       omega (arith, less, all, within)

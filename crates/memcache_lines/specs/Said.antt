@@ -1,7 +1,7 @@
 -- What requests and lines say.
 use Rattle.memcache_model.specs.Bytes.{tokens}
 use Rattle.memcache_model.specs.Commands as model
-use Rattle.memcache_model.specs.Grammar.{Reading, whole, head, meta_head}
+use Rattle.memcache_model.specs.Grammar.{RequestLine, whole, head, meta_head}
 use Rattle.memcache_model.specs.Grammar as model-of
 use Rattle.memcache_lines.specs.declared.arrival.Arrived as arrival
 use Rattle.memcache_lines.specs.declared.arrival.Arrived.TheVariants.{Part, Request}
@@ -30,7 +30,7 @@ asks MetaNoOp = model.meta_no_op
 asks (Malformed error) = model.malformed error
 
 -- what a line says
-abbrev pub said_by : Line → Reading
+abbrev pub said_by : Line → RequestLine
 said_by (Whole command quiet) = whole (asks command) quiet
 said_by (Head h) = head h.storage h.key.now h.flags h.exptime h.size h.quiet
 said_by (MetaHead h) = meta_head h.key.now (tokens h.flags.now) h.size

@@ -1,8 +1,8 @@
 //! What stands at the front of a stream of bytes.
 ghost use Rattle.std.specs.Prelude.{◌≡◌, ◌+◌, ◌<◌, ◌≤◌, ◌^◌, length, take, IfSome};
 ghost use Rattle.std.specs.List.{position};
-ghost use Rattle.memcache_model.specs.Bytes.{is_feed, without_return};
-ghost use Rattle.memcache_model.specs.Grammar.{arrived, arrives, behind, block_in, has_end, unended};
+ghost use Rattle.memcache_model.specs.Bytes.{is_feed, without_one_return};
+ghost use Rattle.memcache_model.specs.Grammar.{arrived, arrives, arrived_line, block_in, has_end, unended};
 ghost use Rattle.memcache_lines.specs.Said.{asks, comes, said_by};
 ghost use Rattle.memcache_lines.specs.Blocks.{blocks, meta_set_with, store_with};
 
@@ -91,7 +91,7 @@ fn arrives<'a>(command: Command<'a>, quiet: bool, used: usize) -> Arrived<'a>
 /// A line of `used` bytes with its line feed, and what stands behind it.
 fn behind<'a>(most: u32, line: Line<'a>, used: usize, rest: &'a [u8]) -> Arrived<'a>
     requires { used ≤ 65537 }
-    ensures { comes result ≡ behind most (said_by line.entry) used rest.now }
+    ensures { comes result ≡ arrived_line most (said_by line.entry) used rest.now }
 {
     match line {
         Line::Whole { command, quiet } => arrives(command, quiet, used),
@@ -183,7 +183,7 @@ fn has_end(size: usize, rest: &[u8]) -> bool
 
 /// The line without one carriage return at its end.
 fn without_return(line: &[u8]) -> &[u8]
-    ensures { result.now ≡ without_return line.now }
+    ensures { result.now ≡ without_one_return line.now }
 {
     let len = line.len();
     if len == 0 {

@@ -1,7 +1,7 @@
 //! What a line says, with its words as they are in it.
-ghost use Rattle.std.specs.Prelude.{◌≡◌, codes};
-ghost use Rattle.memcache_model.specs.Bytes.{same, tokens};
-ghost use Rattle.memcache_model.specs.Grammar.{reading, whole, faulty, keys_fault, read_get, read_gat, read_delete, delete_quiet, delete_word, delete_words, on_key, read_arithmetic, read_touch, read_flush, timed, read_verbosity, read_meta, read_verb, verb_in, meta_verb_in, quiet_in, exptime_in};
+ghost use Rattle.std.specs.Prelude.{◌≡◌, codes, bytes_eq};
+ghost use Rattle.memcache_model.specs.Bytes.{tokens};
+ghost use Rattle.memcache_model.specs.Grammar.{request_line, whole, faulty, keys_fault, read_get, read_gat, read_delete, delete_quiet, delete_word, delete_words, on_key, read_arithmetic, read_touch, read_flush, timed, read_verbosity, read_meta, read_arguments, verb_named, meta_verb_in, quiet_in, exptime_in};
 ghost use Rattle.memcache_model.specs.Commands.{flush_all};
 ghost use Rattle.memcache_lines.specs.Said.{said_by, asks};
 
@@ -98,7 +98,7 @@ pub enum Line<'a> {
 
 /// Returns what a line says.
 pub fn read_line<'a>(line: &'a [u8]) -> Line<'a>
-    ensures { said_by result ≡ reading line.now }
+    ensures { said_by result ≡ request_line line.now }
 {
     match next_token(line) {
         Some((word, rest)) => match verb_of(word) {
@@ -125,7 +125,7 @@ fn all_of<'a>(command: Command<'a>, quiet: bool) -> Line<'a>
 
 /// The command that a word names.
 fn verb_of(word: &[u8]) -> Option<Verb>
-    ensures { result ≡ verb_in word.now }
+    ensures { result ≡ verb_named word.now }
 {
     if word == b"get".as_slice() {
         Some(Verb::Get { uniques: false })
@@ -191,7 +191,7 @@ fn meta_verb_of(word: &[u8]) -> Option<Verb>
 
 /// Reads what stands behind a command's word.
 fn read_behind<'a>(verb: Verb, rest: &'a [u8]) -> Line<'a>
-    ensures { said_by result ≡ read_verb verb (tokens rest.now) }
+    ensures { said_by result ≡ read_arguments verb (tokens rest.now) }
 {
     match verb {
         Verb::Get { uniques } => read_get(uniques, rest),
@@ -274,7 +274,7 @@ pub fn read_quiet(rest: &[u8]) -> Option<bool>
 
 /// Whether a word leaves out the reply.
 fn is_noreply(word: &[u8]) -> bool
-    ensures { result ≡ same word.now (codes "noreply") }
+    ensures { result ≡ bytes_eq word.now (codes "noreply") }
 {
     word == b"noreply".as_slice()
 }
@@ -333,7 +333,7 @@ fn read_delete_word(word: &[u8]) -> Result<bool, ProtocolError>
 
 /// Whether a word is a time of 0.
 fn is_zero(word: &[u8]) -> bool
-    ensures { result ≡ same word.now (codes "0") }
+    ensures { result ≡ bytes_eq word.now (codes "0") }
 {
     word == b"0".as_slice()
 }

@@ -1,7 +1,7 @@
 //! Numbers of a few digits, and expiries.
 ghost use Rattle.std.specs.Prelude.{◌≡◌, ◌≤◌, ◌+◌, ◌-◌, ◌*◌, ◌<◌, ◌^◌, ◌∷◌, SomeIff, IfSome, Some, None, nat_lt, if◌then◌else◌};
 ghost use Rattle.std.specs.List.{list_all};
-ghost use Rattle.memcache_model.specs.Bytes.{is_digit, number_below};
+ghost use Rattle.memcache_model.specs.Bytes.{is_decimal_digit, number_below};
 ghost use Rattle.memcache_model.specs.Grammar.{exptime_in, exptime_by, negative, seconds};
 
 use memcache_model::Exptime;
@@ -31,7 +31,7 @@ pub fn number(word: &[u8]) -> Option<u64>
 
 /// Whether each byte is a digit.
 fn are_digits(word: &[u8]) -> bool
-    ensures { result ≡ list_all is_digit word.now }
+    ensures { result ≡ list_all is_decimal_digit word.now }
 {
     word.iter().all(|b| b.is_ascii_digit())
 }

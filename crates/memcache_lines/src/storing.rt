@@ -1,7 +1,7 @@
 //! What stands before a data block.
 ghost use Rattle.std.specs.Prelude.{◌≡◌, ◌∷◌, ◌<◌, Some, length, MatchOption};
 ghost use Rattle.memcache_model.specs.Bytes.{tokens, number_below};
-ghost use Rattle.memcache_model.specs.Grammar.{head_of, meta_head_of, read_cas, read_meta_set, read_store};
+ghost use Rattle.memcache_model.specs.Grammar.{block_head, meta_head_of, read_cas, read_meta_set, read_store};
 ghost use Rattle.memcache_lines.specs.Said.{said_by};
 ghost use Rattle.memcache_lines.specs.Words.{head_in};
 

@@ -1,7 +1,7 @@
 //! The words of a line.
 ghost use Rattle.std.specs.Prelude.{◌≡◌, ◌∷◌, ◌<◌, [], length, slice_index, false, not, IfSome, MatchOption};
 ghost use Rattle.std.specs.List.{list_all, position};
-ghost use Rattle.memcache_model.specs.Bytes.{is_filled, is_key, is_space, tokens};
+ghost use Rattle.memcache_model.specs.Bytes.{is_filled, is_item_key, is_space, tokens};
 
 use memcache_model::MAX_KEY;
 
@@ -56,14 +56,14 @@ pub fn has_token(line: &[u8]) -> bool
 
 /// Returns whether a word may stand as a key.
 pub fn key_fits(word: &[u8]) -> bool
-    ensures { result ≡ is_key word.now }
+    ensures { result ≡ is_item_key word.now }
 {
     1 <= word.len() && word.len() <= MAX_KEY
 }
 
 /// Returns whether each word of a line may stand as a key.
 pub fn are_keys(line: &[u8]) -> bool
-    ensures { result ≡ list_all is_key (tokens line.now) }
+    ensures { result ≡ list_all is_item_key (tokens line.now) }
 {
     let mut rest = line;
     while let Some((word, behind)) = next_token(rest) {

@@ -1,15 +1,16 @@
 -- What stands at the front of a stream, and more bytes behind it.
-use Rattle.std.proofs.Common.{◌≡◌, ℕ, zero, suc, ◌+◌, ◌<◌, ◌≤◌, Bool, true, false, cond, List, [], ◌∷◌, ◌++◌, length, take, drop, Option, Some, None, refl, sym, ap, ◌∙◌, subst, arith, ⊎_elim, length-append, length-drop}
+use Rattle.std.proofs.Common.{◌≡◌, ℕ, zero, suc, ◌+◌, ◌<◌, ◌≤◌, Bool, false, cond, List, [], ◌∷◌, ◌++◌, length, take, drop, Option, Some, None, refl, sym, ap, ◌∙◌, subst, arith, ⊎_elim, length-append, length-drop}
 use Rattle.std.specs.Prelude.{not, codes}
 use Rattle.std.specs.Str.{bytes_eq}
 use Rattle.std.specs.List.{position, position_or_len}
 use Rattle.std.proofs.lemmas.Bool.{cond-true, cond-false, lt-ltb, le-ltb, ltb-true, ne_eqb, cases_lt}
 use Rattle.std.proofs.lemmas.List.{take-append-le, drop-append-le, take_all, length-take-le}
 use Rattle.std.proofs.lemmas.List.Folds.{prefix_len-append}
-use Rattle.memcache_model.specs.Bytes.{is_feed, without_return}
+use Rattle.std.proofs.lemmas.Option.{cond_some}
+use Rattle.memcache_model.specs.Bytes.{is_feed, without_one_return}
 use Rattle.memcache_model.specs.Commands.{Command, Request, store, oversize, meta_set}
 use Rattle.memcache_model.specs.declared.command.Storage.TheVariants.{Set}
-use Rattle.memcache_model.specs.Grammar.{Reading, whole, head, meta_head, Arrived, part, request, Block, too_large, unfinished, broken, filled, has_end, block_in, with_block, behind, line_at, arrived, reading}
+use Rattle.memcache_model.specs.Grammar.{RequestLine, whole, head, meta_head, Arrived, part, request, Block, too_large, unfinished, broken, filled, has_end, block_in, with_block, arrived_line, line_at, arrived, request_line}
 use Rattle.memcache_model.specs.Streams.{IsCutFree, TakesBytes}
 
 -- ---- places
@@ -18,26 +19,16 @@ place-append : (p : ℕ → Bool) (xs ys : List ℕ) → position_or_len p xs < 
 place-append p xs ys inside =
     prefix_len-append (λ x. not (p x)) xs ys ∙ cond-false _ _ _ (ne_eqb (position_or_len p xs) (length xs) (λ same. omega (arith, same, inside)))
 
-found : (n at : ℕ) (b : Bool) → cond b (Some n) None ≡ Some at → (b ≡ true) × (n ≡ at)
-found n at true is = (refl, same is)
-  where
-    same : Some n ≡ Some at → n ≡ at
-    same e = cc
-found n at false is = absurd (no is)
-  where
-    no : None ≡ Some at → ⊥
-    no e = cc
-
 -- what is found is inside
 position-inside : (p : ℕ → Bool) (xs : List ℕ) (at : ℕ) → position p xs ≡ Some at → at < length xs
 position-inside p xs at is =
-    let place = found (position_or_len p xs) at _ is in
+    let place = cond_some _ (position_or_len p xs) at is in
     subst (λ n. n < length xs) place.1 (ltb-true (position_or_len p xs) (length xs) place.0)
 
 -- and is found with more behind it
 position-append : (p : ℕ → Bool) (xs ys : List ℕ) (at : ℕ) → position p xs ≡ Some at → position p (xs ++ ys) ≡ Some at
 position-append p xs ys at is =
-    let place = found (position_or_len p xs) at _ is in
+    let place = cond_some _ (position_or_len p xs) at is in
     let inside = ltb-true (position_or_len p xs) (length xs) place.0 in
     let same = place-append p xs ys inside in
     cond-true _ _ _ (lt-ltb (position_or_len p (xs ++ ys)) (length (xs ++ ys)) (omega (arith, same, inside, length-append xs ys))) ∙ ap Some (same ∙ place.1)
@@ -94,11 +85,11 @@ with_block-append command passed_over quiet used most size rest more r n is =
     let does : Block → Arrived = with_block command passed_over quiet used in
     ap does (block-append most size rest more (λ same. no_request r n (sym (ap does same) ∙ is))) ∙ is
 
-behind-append : (most : ℕ) (line : Reading) (used : ℕ) (rest more : List ℕ) (r : Request) (n : ℕ) → behind most line used rest ≡ request r n → behind most line used (rest ++ more) ≡ request r n
-behind-append most (whole command quiet) used rest more r n is = is
-behind-append most (head storage key flags exptime size quiet) used rest more r n is =
+arrived_line-append : (most : ℕ) (line : RequestLine) (used : ℕ) (rest more : List ℕ) (r : Request) (n : ℕ) → arrived_line most line used rest ≡ request r n → arrived_line most line used (rest ++ more) ≡ request r n
+arrived_line-append most (whole command quiet) used rest more r n is = is
+arrived_line-append most (head storage key flags exptime size quiet) used rest more r n is =
     with_block-append (store storage key flags exptime) (oversize storage key) quiet (used + size + 2) most size rest more r n is
-behind-append most (meta_head key flags size) used rest more r n is =
+arrived_line-append most (meta_head key flags size) used rest more r n is =
     with_block-append (meta_set key flags) (oversize Set key) false (used + size + 2) most size rest more r n is
 
 -- ---- the front of a stream
@@ -118,9 +109,9 @@ cuts most bytes more r used is = go (position is_feed (take 65537 bytes)) refl
     go (Some end) found =
         let inside = feed-inside 65537 bytes end found in
         ap (line_at most (bytes ++ more)) (feed-append 65537 bytes more end found)
-        ∙ ap (λ line. behind most (reading (without_return line)) (end + 1) (drop (end + 1) (bytes ++ more))) (take-append-le end bytes more (omega arith))
-        ∙ ap (behind most (reading (without_return (take end bytes))) (end + 1)) (drop-append-le (end + 1) bytes more (omega arith))
-        ∙ behind-append most (reading (without_return (take end bytes))) (end + 1) (drop (end + 1) bytes) more r used (sym (ap (line_at most bytes) found) ∙ is)
+        ∙ ap (λ line. arrived_line most (request_line (without_one_return line)) (end + 1) (drop (end + 1) (bytes ++ more))) (take-append-le end bytes more (omega arith))
+        ∙ ap (arrived_line most (request_line (without_one_return (take end bytes))) (end + 1)) (drop-append-le (end + 1) bytes more (omega arith))
+        ∙ arrived_line-append most (request_line (without_one_return (take end bytes))) (end + 1) (drop (end + 1) bytes) more r used (sym (ap (line_at most bytes) found) ∙ is)
 
 -- ---- how many bytes a request takes
 
@@ -133,11 +124,11 @@ with_block-takes command passed_over quiet used unfinished r n some is = absurd 
 with_block-takes command passed_over quiet used broken r n some is = omega (arith, same_used _ r used n is)
 with_block-takes command passed_over quiet used (filled block) r n some is = omega (arith, same_used _ r used n is)
 
-behind-takes : (most : ℕ) (line : Reading) (used : ℕ) (rest : List ℕ) (r : Request) (n : ℕ) → 1 ≤ used → behind most line used rest ≡ request r n → 1 ≤ n
-behind-takes most (whole command quiet) used rest r n some is = omega (arith, same_used _ r used n is)
-behind-takes most (head storage key flags exptime size quiet) used rest r n some is =
+arrived_line-takes : (most : ℕ) (line : RequestLine) (used : ℕ) (rest : List ℕ) (r : Request) (n : ℕ) → 1 ≤ used → arrived_line most line used rest ≡ request r n → 1 ≤ n
+arrived_line-takes most (whole command quiet) used rest r n some is = omega (arith, same_used _ r used n is)
+arrived_line-takes most (head storage key flags exptime size quiet) used rest r n some is =
     with_block-takes (store storage key flags exptime) (oversize storage key) quiet (used + size + 2) (block_in most size rest) r n (omega arith) is
-behind-takes most (meta_head key flags size) used rest r n some is =
+arrived_line-takes most (meta_head key flags size) used rest r n some is =
     with_block-takes (meta_set key flags) (oversize Set key) false (used + size + 2) (block_in most size rest) r n (omega arith) is
 
 pub takes : TakesBytes
@@ -149,4 +140,4 @@ takes most bytes r used is = go (position is_feed (take 65537 bytes)) refl
         (λ short. absurd (no_request r used (sym (cond-false _ _ _ (le-ltb 65536 (length bytes) short)) ∙ sym (ap (line_at most bytes) none) ∙ is)))
         (cases_lt 65536 (length bytes))
     go (Some end) found =
-        behind-takes most (reading (without_return (take end bytes))) (end + 1) (drop (end + 1) bytes) r used (omega arith) (sym (ap (line_at most bytes) found) ∙ is)
+        arrived_line-takes most (request_line (without_one_return (take end bytes))) (end + 1) (drop (end + 1) bytes) r used (omega arith) (sym (ap (line_at most bytes) found) ∙ is)

@@ -1,17 +1,19 @@
 -- What commands do to a lease.
 use Rattle.std.proofs.Common.{◌≡◌, ℕ, ◌+◌, ◌^◌, Bool, true, false, true≢false, cond, not, ◌&&◌, ◌||◌, List, [], ◌∷◌, ◌++◌, length, Option, Some, None, refl, sym, ap, ◌∙◌, ⊎_elim, nat_lt, codes}
-use Rattle.std.proofs.lemmas.Bool.{cases_Bool}
+use Rattle.std.proofs.Math.Bool.{or-true}
+use Rattle.std.proofs.lemmas.Bool.{cases_Bool, cond_both}
 use Rattle.std.proofs.lemmas.Slice.Eq.{bytes_eq-Decides}
 use Rattle.std.specs.Fmt.{decimal}
 use Rattle.std.specs.Option.{option_or, option_map_or}
 use Rattle.std.specs.Prelude.{◌==◌, is_some}
-use Rattle.memcache_model.specs.Answers.{Service, answer, counts, counts_by, deletes, retimed, store_over, stores_within, touched, touches_one}
-use Rattle.memcache_model.specs.Bytes.{number_below, same}
+use Rattle.memcache_model.specs.Answers.{Service, answer, counts, counts_by, deletes_one, retimed, store_over, stores_within, touched, touches_one}
+use Rattle.std.specs.Str.{bytes_eq}
+use Rattle.memcache_model.specs.Bytes.{number_below}
 use Rattle.memcache_model.specs.Commands.{Command, get, gat, store, oversize, delete, arithmetic, touch, flush_all, stats, version, verbosity, quit, malformed, meta, meta_set, meta_no_op}
-use Rattle.memcache_model.specs.Items.{Item, Items, Stock, deadline_of, with_item}
+use Rattle.memcache_model.specs.Items.{Item, Items, Stock, exptime_deadline, with_item}
 use Rattle.memcache_model.specs.Leases.{OneWins, TellsLease, is_leased, may_end, wins}
 use Rattle.memcache_model.specs.Meta as meta_of
-use Rattle.memcache_model.specs.Meta.{exptime_of, flags_fault, has_flag, is_late, is_other, is_one_of, item_text, lease_text, meta_compare, meta_count_none, meta_counted, meta_counts, meta_get_live, meta_get_none, meta_item, meta_put, meta_refuses, meta_stored, mode_fault, mode_of, number_of, retimed_by, unless_faulty, vivified}
+use Rattle.memcache_model.specs.Meta.{exptime_of, flags_fault, has_flag, is_late, is_other, is_one_of, item_text, lease_text, meta_compare, meta_count_none, meta_counted, meta_counts, meta_get_live, meta_get_none, meta_item, meta_put, meta_refuses, meta_stored, mode_fault, mode_of, number_of_letter, retimed_by, unless_faulty, vivified}
 use Rattle.memcache_model.specs.Outcomes.{Outcome, new_item}
 use Rattle.memcache_model.specs.declared.command.Direction.{Direction}
 use Rattle.memcache_model.specs.declared.command.Exptime.{Exptime}
@@ -20,14 +22,10 @@ use Rattle.memcache_model.specs.declared.command.Meta.TheVariants.{Get, Delete, 
 use Rattle.memcache_model.specs.declared.command.Storage.TheVariants.{Set, Add, Replace, Append, Prepend, Cas}
 use Rattle.memcache_model.specs.declared.fault.ProtocolError.{ProtocolError}
 
-or-right : (a : Bool) → (a || true) ≡ true
-or-right true = refl
-or-right false = refl
-
 retimed-leased : (moment : ℕ) (letter : List ℕ) (words : List (List ℕ)) (item : Item) → (retimed_by moment letter words item).leased ≡ item.leased
 retimed-leased moment letter words item = go (exptime_of letter words)
   where
-    go : (o : Option Exptime) → (option_map_or (λ exptime. record item { deadline = deadline_of moment exptime }) o item).leased ≡ item.leased
+    go : (o : Option Exptime) → (option_map_or (λ exptime. record item { deadline = exptime_deadline moment exptime }) o item).leased ≡ item.leased
     go None = refl
     go (Some exptime) = refl
 
@@ -36,13 +34,12 @@ module _ (key : List ℕ) (stock : Stock) (held : is_leased (stock.items key) �
   abbrev Holds : Outcome → Type 0
   Holds o = is_leased (o.stock.items key) ≡ true
 
-  choose : (b : Bool) (x y : Outcome) → Holds x → Holds y → Holds (cond b x y)
-  choose true x y h k = h
-  choose false x y h k = k
+  choose : (test : Bool) (x y : Outcome) → Holds x → Holds y → Holds (cond test x y)
+  choose test x y h k = cond_both test x y Holds (λ _. h) (λ _. k)
 
   module _ (k : List ℕ) where
     -- another key's item changes
-    other : (o : Option Item) → same key k ≡ false → is_leased (with_item k o stock.items key) ≡ true
+    other : (o : Option Item) → bytes_eq key k ≡ false → is_leased (with_item k o stock.items key) ≡ true
     other o e = ap (λ b. is_leased (cond b o (stock.items key))) e ∙ held
 
     -- the key's item changes, and stays leased if it was
@@ -50,14 +47,14 @@ module _ (key : List ℕ) (stock : Stock) (held : is_leased (stock.items key) �
     over old new is keeps = ⊎_elim
         (λ t. rw t (keeps (ap is_leased (sym is) ∙ ap (λ q. is_leased (stock.items q)) (sym ((bytes_eq-Decides key k).0 t)) ∙ held)))
         (other (Some new))
-        (cases_Bool (same key k))
+        (cases_Bool (bytes_eq key k))
 
     -- a key without an item gets one
     fresh : (o : Option Item) → stock.items k ≡ None → is_leased (with_item k o stock.items key) ≡ true
     fresh o none = ⊎_elim
         (λ t. absurd (true≢false (sym held ∙ ap (λ q. is_leased (stock.items q)) ((bytes_eq-Decides key k).0 t) ∙ ap is_leased none)))
         (other o)
-        (cases_Bool (same key k))
+        (cases_Bool (bytes_eq key k))
 
     -- ---- storage commands
 
@@ -65,7 +62,7 @@ module _ (key : List ℕ) (stock : Stock) (held : is_leased (stock.items key) �
     adds most item None is = fresh (Some (record item { unique = stock.uniques + 1 })) is
     adds most item (Some old) is = held
 
-    replaces : (most : ℕ) (item : Item) (o : Option Item) → same key k ≡ false → Holds (store_over most Replace k item o stock)
+    replaces : (most : ℕ) (item : Item) (o : Option Item) → bytes_eq key k ≡ false → Holds (store_over most Replace k item o stock)
     replaces most item None e = held
     replaces most item (Some old) e = other (Some (record item { unique = stock.uniques + 1 })) e
 
@@ -80,13 +77,13 @@ module _ (key : List ℕ) (stock : Stock) (held : is_leased (stock.items key) �
     prepends most item None is = held
     prepends most item (Some old) is = within most old (record old { bytes = item.bytes ++ old.bytes }) is refl
 
-    compares : (most unique : ℕ) (item : Item) (o : Option Item) → same key k ≡ false → Holds (store_over most (Cas unique) k item o stock)
+    compares : (most unique : ℕ) (item : Item) (o : Option Item) → bytes_eq key k ≡ false → Holds (store_over most (Cas unique) k item o stock)
     compares most unique item None e = held
     compares most unique item (Some old) e = choose (old.unique == unique) _ _ (other (Some (record item { unique = stock.uniques + 1 })) e) held
 
     -- ---- one key
 
-    removes : (o : Option Item) → same key k ≡ false → Holds (deletes k o stock)
+    removes : (o : Option Item) → bytes_eq key k ≡ false → Holds (deletes_one k o stock)
     removes None e = held
     removes (Some item) e = other None e
 
@@ -119,7 +116,7 @@ module _ (key : List ℕ) (stock : Stock) (held : is_leased (stock.items key) �
         let won = not item.leased && (item.stale || is_late moment words item) in
         over found (record item { leased = item.leased || won }) is (λ h. ap (λ b. b || won) (retimed-leased moment (codes "T") words found ∙ h))
 
-    deletes_on : (moment : ℕ) (words : List (List ℕ)) (o : Option Item) → same key k ≡ false → Holds (meta_of.meta_delete moment k words o stock)
+    deletes_on : (moment : ℕ) (words : List (List ℕ)) (o : Option Item) → bytes_eq key k ≡ false → Holds (meta_of.meta_delete moment k words o stock)
     deletes_on moment words None e = held
     deletes_on moment words (Some item) e = choose (is_other words item) _ _ held (choose (has_flag (codes "I") words) _ _ (other _ e) (other None e))
 
@@ -135,21 +132,21 @@ module _ (key : List ℕ) (stock : Stock) (held : is_leased (stock.items key) �
     arithmetic_on moment words None none = first_count moment words (exptime_of (codes "N") words) none
     arithmetic_on moment words (Some item) is = choose (is_other words item) _ _ held (counts_meta moment words item (number_below (2 ^ 64) item.bytes) is)
 
-    puts : (most moment mode : ℕ) (words : List (List ℕ)) (item : Item) (o : Option Item) → same key k ≡ false → Holds (meta_put most moment mode k words item o stock)
+    puts : (most moment mode : ℕ) (words : List (List ℕ)) (item : Item) (o : Option Item) → bytes_eq key k ≡ false → Holds (meta_put most moment mode k words item o stock)
     puts most moment mode words item None e = choose (is_one_of (codes "SE") mode) _ _ (other _ e) held
     puts most moment mode words item (Some old) e = choose (is_one_of (codes "SR") mode) _ _ (other _ e)
         (choose (is_one_of (codes "A") mode) _ _ (choose (nat_lt most (length (old.bytes ++ item.bytes))) _ _ held (other _ e))
         (choose (is_one_of (codes "P") mode) _ _ (choose (nat_lt most (length (item.bytes ++ old.bytes))) _ _ held (other _ e)) held))
 
-    compares_meta : (most moment unique : ℕ) (words : List (List ℕ)) (item : Item) (o : Option Item) → same key k ≡ false → Holds (meta_compare most moment unique k words item o stock)
+    compares_meta : (most moment unique : ℕ) (words : List (List ℕ)) (item : Item) (o : Option Item) → bytes_eq key k ≡ false → Holds (meta_compare most moment unique k words item o stock)
     compares_meta most moment unique words item None e = held
     compares_meta most moment unique words item (Some old) e = choose (old.unique == unique) _ _ (puts most moment (mode_of words) words item (Some old) e)
         (choose (has_flag (codes "I") words && nat_lt unique old.unique) _ _ (other _ e) held)
 
-    sets : (most moment : ℕ) (words : List (List ℕ)) (block : List ℕ) (o : Option Item) → same key k ≡ false → Holds (meta_of.meta_set most moment k words block o stock)
-    sets most moment words block o e = go (number_of (codes "C") words) refl
+    sets : (most moment : ℕ) (words : List (List ℕ)) (block : List ℕ) (o : Option Item) → bytes_eq key k ≡ false → Holds (meta_of.meta_set most moment k words block o stock)
+    sets most moment words block o e = go (number_of_letter (codes "C") words) refl
       where
-        go : (unique : Option ℕ) → number_of (codes "C") words ≡ unique → Holds (meta_of.meta_set most moment k words block o stock)
+        go : (unique : Option ℕ) → number_of_letter (codes "C") words ≡ unique → Holds (meta_of.meta_set most moment k words block o stock)
         go None is = rw is (puts most moment (mode_of words) words (meta_item moment words block) o e)
         go (Some unique) is = rw is (compares_meta most moment unique words (meta_item moment words block) o e)
 
@@ -158,7 +155,7 @@ touches_all deadline [] key items held = held
 touches_all deadline (k ∷ keys) key items held = touches_all deadline keys key (with_item k (retimed deadline (items k)) items) (⊎_elim
     (λ t. rw t (retimed-leased_too (items k) (ap (λ q. is_leased (items q)) (sym ((bytes_eq-Decides key k).0 t)) ∙ held)))
     (λ t. rw t held)
-    (cases_Bool (same key k)))
+    (cases_Bool (bytes_eq key k)))
   where
     retimed-leased_too : (o : Option Item) → is_leased o ≡ true → is_leased (retimed deadline o) ≡ true
     retimed-leased_too None e = e
@@ -166,13 +163,13 @@ touches_all deadline (k ∷ keys) key items held = touches_all deadline keys key
 
 stays : (service : Service) (moment : ℕ) (command : Command) (key : List ℕ) (stock : Stock) → is_leased (stock.items key) ≡ true → may_end key command ≡ false → is_leased ((answer service moment command stock).stock.items key) ≡ true
 stays service moment (get uniques keys) key stock held ends = held
-stays service moment (gat uniques exptime keys) key stock held ends = touches_all (deadline_of moment exptime) keys key stock.items held
-stays service moment (store Set k flags exptime block) key stock held ends = other key stock held k (Some (record (new_item block flags (deadline_of moment exptime)) { unique = stock.uniques + 1 })) ends
-stays service moment (store Add k flags exptime block) key stock held ends = adds key stock held k service.most (new_item block flags (deadline_of moment exptime)) (stock.items k) refl
-stays service moment (store Replace k flags exptime block) key stock held ends = replaces key stock held k service.most (new_item block flags (deadline_of moment exptime)) (stock.items k) ends
-stays service moment (store Append k flags exptime block) key stock held ends = appends key stock held k service.most (new_item block flags (deadline_of moment exptime)) (stock.items k) refl
-stays service moment (store Prepend k flags exptime block) key stock held ends = prepends key stock held k service.most (new_item block flags (deadline_of moment exptime)) (stock.items k) refl
-stays service moment (store (Cas unique) k flags exptime block) key stock held ends = compares key stock held k service.most unique (new_item block flags (deadline_of moment exptime)) (stock.items k) ends
+stays service moment (gat uniques exptime keys) key stock held ends = touches_all (exptime_deadline moment exptime) keys key stock.items held
+stays service moment (store Set k flags exptime block) key stock held ends = other key stock held k (Some (record (new_item block flags (exptime_deadline moment exptime)) { unique = stock.uniques + 1 })) ends
+stays service moment (store Add k flags exptime block) key stock held ends = adds key stock held k service.most (new_item block flags (exptime_deadline moment exptime)) (stock.items k) refl
+stays service moment (store Replace k flags exptime block) key stock held ends = replaces key stock held k service.most (new_item block flags (exptime_deadline moment exptime)) (stock.items k) ends
+stays service moment (store Append k flags exptime block) key stock held ends = appends key stock held k service.most (new_item block flags (exptime_deadline moment exptime)) (stock.items k) refl
+stays service moment (store Prepend k flags exptime block) key stock held ends = prepends key stock held k service.most (new_item block flags (exptime_deadline moment exptime)) (stock.items k) refl
+stays service moment (store (Cas unique) k flags exptime block) key stock held ends = compares key stock held k service.most unique (new_item block flags (exptime_deadline moment exptime)) (stock.items k) ends
 stays service moment (oversize Set k) key stock held ends = other key stock held k None ends
 stays service moment (oversize Add k) key stock held ends = held
 stays service moment (oversize Replace k) key stock held ends = held
@@ -181,7 +178,7 @@ stays service moment (oversize Prepend k) key stock held ends = held
 stays service moment (oversize (Cas unique) k) key stock held ends = held
 stays service moment (delete k) key stock held ends = removes key stock held k (stock.items k) ends
 stays service moment (arithmetic direction k delta) key stock held ends = counts_on key stock held k direction delta (stock.items k) refl
-stays service moment (touch k exptime) key stock held ends = touches_on key stock held k (deadline_of moment exptime) (stock.items k) refl
+stays service moment (touch k exptime) key stock held ends = touches_on key stock held k (exptime_deadline moment exptime) (stock.items k) refl
 stays service moment (flush_all (Seconds n)) key stock held ends = held
 stays service moment (flush_all Never) key stock held ends = absurd (true≢false ends)
 stays service moment (flush_all AtOnce) key stock held ends = absurd (true≢false ends)
@@ -216,7 +213,7 @@ won moment key words stock None e = go (exptime_of (codes "N") words) e
 won moment key words stock (Some found) e =
     let item = retimed_by moment (codes "T") words found in
     let does = not item.leased && (item.stale || is_late moment words item) in
-    ap is_leased (here key (Some (record item { leased = item.leased || does })) stock.items) ∙ ap (λ b. item.leased || b) e ∙ or-right item.leased
+    ap is_leased (here key (Some (record item { leased = item.leased || does })) stock.items) ∙ ap (λ b. item.leased || b) e ∙ or-true item.leased
 
 told : (moment : ℕ) (key : List ℕ) (words : List (List ℕ)) (stock : Stock) → (is_some (stock.items key) || is_some (exptime_of (codes "N") words)) ≡ true → TellsLease moment key words stock (meta_of.meta_get moment key words (stock.items key) stock).reply
 told moment key words stock some = go (stock.items key) refl some

@@ -4,10 +4,6 @@ use Rattle.std.specs.List.{filter, list_all, slice_split}
 use Rattle.std.specs.Str.{bytes_eq}
 use Rattle.std.specs.Str.Parse.{digits_value}
 
--- the two are the same bytes
-abbrev pub same : List ℕ → List ℕ → Bool
-same a b = bytes_eq a b
-
 -- there is at least one element
 abbrev pub is_filled : {A : Type 0} → List A → Bool
 is_filled [] = false
@@ -26,25 +22,25 @@ abbrev pub tokens : List ℕ → List (List ℕ)
 tokens line = filter is_filled (slice_split is_space line)
 
 -- the line without one carriage return at its end
-abbrev pub without_return : List ℕ → List ℕ
-without_return [] = []
-without_return (b ∷ []) = if b == 13 then [] else b ∷ []
-without_return (b ∷ c ∷ bs) = b ∷ without_return (c ∷ bs)
+abbrev pub without_one_return : List ℕ → List ℕ
+without_one_return [] = []
+without_one_return (b ∷ []) = if b == 13 then [] else b ∷ []
+without_one_return (b ∷ c ∷ bs) = b ∷ without_one_return (c ∷ bs)
 
 -- a digit
-abbrev pub is_digit : ℕ → Bool
-is_digit b = nat_le 48 b && nat_le b 57
+abbrev pub is_decimal_digit : ℕ → Bool
+is_decimal_digit b = nat_le 48 b && nat_le b 57
 
 -- 1 to 20 digits
-abbrev pub is_numeral : List ℕ → Bool
-is_numeral word = nat_le 1 (length word) && nat_le (length word) 20 && list_all is_digit word
+abbrev pub is_decimal_number : List ℕ → Bool
+is_decimal_number word = nat_le 1 (length word) && nat_le (length word) 20 && list_all is_decimal_digit word
 
 -- the number that 1 to 20 digits write, if it is below the limit
 abbrev pub number_below : ℕ → List ℕ → Option ℕ
 number_below limit word =
-    if is_numeral word && nat_lt (digits_value 10 word) limit then Some (digits_value 10 word)
+    if is_decimal_number word && nat_lt (digits_value 10 word) limit then Some (digits_value 10 word)
     else None
 
 -- a key has 1 to 250 bytes
-abbrev pub is_key : List ℕ → Bool
-is_key word = nat_le 1 (length word) && nat_le (length word) 250
+abbrev pub is_item_key : List ℕ → Bool
+is_item_key word = nat_le 1 (length word) && nat_le (length word) 250

@@ -1,7 +1,8 @@
 -- Which bytes are a request, and what it asks for.
 use Rattle.std.specs.Prelude.{ℕ, zero, suc, ◌+◌, ◌^◌, Bool, true, false, not, ◌&&◌, ◌==◌, nat_lt, List, [], ◌∷◌, length, take, drop, Option, Some, None, Result, Ok, Err, if◌then◌else◌, codes}
 use Rattle.std.specs.List.{list_all, position}
-use Rattle.memcache_model.specs.Bytes.{same, is_filled, is_feed, is_key, tokens, without_return, number_below}
+use Rattle.std.specs.Str.{bytes_eq}
+use Rattle.memcache_model.specs.Bytes.{is_filled, is_feed, is_item_key, tokens, without_one_return, number_below}
 use Rattle.memcache_model.specs.Commands.{Command, Request, get, gat, store, oversize, delete, arithmetic, touch, flush_all, stats, version, verbosity, quit, malformed, meta, meta_set, meta_no_op}
 use Rattle.memcache_model.specs.declared.command.Direction.{Direction}
 use Rattle.memcache_model.specs.declared.command.Direction.TheVariants.{Up, Down}
@@ -44,57 +45,57 @@ exptime_in (b ∷ digits) =
 -- whether the reply is left out, by the words behind all others: none, or one, which may be `noreply`
 abbrev pub quiet_in : List (List ℕ) → Option Bool
 quiet_in [] = Some false
-quiet_in (word ∷ more) = if is_filled more then None else Some (same word (codes "noreply"))
+quiet_in (word ∷ more) = if is_filled more then None else Some (bytes_eq word (codes "noreply"))
 
 -- ---- a line
 
 -- what a line says: all of a request, or what stands before a data block of a number of bytes
-pub data Reading : Type 0 where
-  whole : Command → Bool → Reading
-  head : Storage → (key : List ℕ) → (flags : ℕ) → Exptime → (size : ℕ) → Bool → Reading
-  meta_head : (key : List ℕ) → (flags : List (List ℕ)) → (size : ℕ) → Reading
+pub data RequestLine : Type 0 where
+  whole : Command → Bool → RequestLine
+  head : Storage → (key : List ℕ) → (flags : ℕ) → Exptime → (size : ℕ) → Bool → RequestLine
+  meta_head : (key : List ℕ) → (flags : List (List ℕ)) → (size : ℕ) → RequestLine
 
 -- the line cannot be read
-abbrev pub faulty : ProtocolError → Reading
+abbrev pub faulty : ProtocolError → RequestLine
 faulty error = whole (malformed error) false
 
 -- what is wrong with the keys of a `get`, if anything is: there are none, or one is too long
 abbrev pub keys_fault : List (List ℕ) → Option ProtocolError
 keys_fault keys =
-    if is_filled keys then (if list_all is_key keys then None else Some fault.Format)
+    if is_filled keys then (if list_all is_item_key keys then None else Some fault.Format)
     else Some fault.Unknown
 
 -- a command on keys
-abbrev pub keyed_unless : Command → Option ProtocolError → Reading
+abbrev pub keyed_unless : Command → Option ProtocolError → RequestLine
 keyed_unless command None = whole command false
 keyed_unless command (Some error) = faulty error
 
 -- a `get` or `gets`
-abbrev pub read_get : Bool → List (List ℕ) → Reading
+abbrev pub read_get : Bool → List (List ℕ) → RequestLine
 read_get uniques keys = keyed_unless (get uniques keys) (keys_fault keys)
 
 -- a `gat` or `gats` with its expiry
-abbrev pub gat_by : Bool → List (List ℕ) → Option Exptime → Reading
+abbrev pub gat_by : Bool → List (List ℕ) → Option Exptime → RequestLine
 gat_by uniques keys None = faulty fault.Exptime
 gat_by uniques keys (Some exptime) = keyed_unless (gat uniques exptime keys) (keys_fault keys)
 
 -- its words
-abbrev pub read_gat : Bool → List (List ℕ) → Reading
+abbrev pub read_gat : Bool → List (List ℕ) → RequestLine
 read_gat uniques [] = faulty fault.Unknown
 read_gat uniques (exptime ∷ keys) = gat_by uniques keys (exptime_in exptime)
 
 -- what stands before a data block
-abbrev pub head_of : Option Storage → List ℕ → Option ℕ → Option Exptime → Option ℕ → Option Bool
-    → Reading
-head_of storage key flags exptime size None = faulty fault.Unknown
-head_of (Some storage) key (Some flags) (Some exptime) (Some size) (Some quiet) =
-    if is_key key then head storage key flags exptime size quiet else faulty fault.Format
-head_of storage key flags exptime size (Some quiet) = faulty fault.Format
+abbrev pub block_head : Option Storage → List ℕ → Option ℕ → Option Exptime → Option ℕ → Option Bool
+    → RequestLine
+block_head storage key flags exptime size None = faulty fault.Unknown
+block_head (Some storage) key (Some flags) (Some exptime) (Some size) (Some quiet) =
+    if is_item_key key then head storage key flags exptime size quiet else faulty fault.Format
+block_head storage key flags exptime size (Some quiet) = faulty fault.Format
 
 -- a storage command that knows what it does
-abbrev pub read_store : Storage → List (List ℕ) → Reading
+abbrev pub read_store : Storage → List (List ℕ) → RequestLine
 read_store storage (key ∷ flags ∷ exptime ∷ size ∷ more) =
-    head_of (Some storage) key (number_below (2 ^ 32) flags) (exptime_in exptime)
+    block_head (Some storage) key (number_below (2 ^ 32) flags) (exptime_in exptime)
     (number_below (2 ^ 31) size) (quiet_in more)
 read_store storage words = faulty fault.Unknown
 
@@ -104,28 +105,28 @@ cas_by None = None
 cas_by (Some unique) = Some (Cas unique)
 
 -- a `cas`
-abbrev pub read_cas : List (List ℕ) → Reading
+abbrev pub read_cas : List (List ℕ) → RequestLine
 read_cas (key ∷ flags ∷ exptime ∷ size ∷ unique ∷ more) =
-    head_of (cas_by (number_below (2 ^ 64) unique)) key (number_below (2 ^ 32) flags)
+    block_head (cas_by (number_below (2 ^ 64) unique)) key (number_below (2 ^ 32) flags)
     (exptime_in exptime) (number_below (2 ^ 31) size) (quiet_in more)
 read_cas words = faulty fault.Unknown
 
 -- a command on one key, if the key is one
-abbrev pub on_key : List ℕ → Command → Bool → Reading
-on_key key command quiet = if is_key key then whole command quiet else faulty fault.Format
+abbrev pub on_key : List ℕ → Command → Bool → RequestLine
+on_key key command quiet = if is_item_key key then whole command quiet else faulty fault.Format
 
 -- the only word behind the key of a `delete`: a time of 0, which old clients send, or `noreply`
 abbrev pub delete_word : List ℕ → Result Bool ProtocolError
 delete_word word =
-    if same word (codes "0") then Ok false
-    else (if same word (codes "noreply") then Ok true else Err fault.Delete)
+    if bytes_eq word (codes "0") then Ok false
+    else (if bytes_eq word (codes "noreply") then Ok true else Err fault.Delete)
 
 -- a word behind the key of a `delete`, and those behind it
 abbrev pub delete_words : List ℕ → List (List ℕ) → Result Bool ProtocolError
 delete_words word [] = delete_word word
 delete_words time (word ∷ more) =
     if is_filled more then Err fault.Unknown
-    else (if same time (codes "0") && same word (codes "noreply") then Ok true
+    else (if bytes_eq time (codes "0") && bytes_eq word (codes "noreply") then Ok true
     else Err fault.Delete)
 
 -- what may follow the key of a `delete`
@@ -134,140 +135,140 @@ delete_quiet [] = Ok false
 delete_quiet (word ∷ more) = delete_words word more
 
 -- a `delete` with what follows its key
-abbrev pub delete_by : List ℕ → Result Bool ProtocolError → Reading
+abbrev pub delete_by : List ℕ → Result Bool ProtocolError → RequestLine
 delete_by key (Ok quiet) = on_key key (delete key) quiet
 delete_by key (Err error) = faulty error
 
 -- its words
-abbrev pub read_delete : List (List ℕ) → Reading
+abbrev pub read_delete : List (List ℕ) → RequestLine
 read_delete [] = faulty fault.Unknown
 read_delete (key ∷ more) = delete_by key (delete_quiet more)
 
 -- an `incr` or `decr`
-abbrev pub arithmetic_by : Direction → List ℕ → Option ℕ → Option Bool → Reading
+abbrev pub arithmetic_by : Direction → List ℕ → Option ℕ → Option Bool → RequestLine
 arithmetic_by direction key delta None = faulty fault.Unknown
 arithmetic_by direction key None (Some quiet) = faulty fault.Delta
 arithmetic_by direction key (Some delta) (Some quiet) =
     on_key key (arithmetic direction key delta) quiet
 
 -- its words
-abbrev pub read_arithmetic : Direction → List (List ℕ) → Reading
+abbrev pub read_arithmetic : Direction → List (List ℕ) → RequestLine
 read_arithmetic direction (key ∷ delta ∷ more) =
     arithmetic_by direction key (number_below (2 ^ 64) delta) (quiet_in more)
 read_arithmetic direction words = faulty fault.Unknown
 
 -- a command that an expiry belongs to
-abbrev pub timed : (Exptime → Command) → Option Exptime → Option Bool → Reading
+abbrev pub timed : (Exptime → Command) → Option Exptime → Option Bool → RequestLine
 timed command exptime None = faulty fault.Unknown
 timed command None (Some quiet) = faulty fault.Exptime
 timed command (Some exptime) (Some quiet) = whole (command exptime) quiet
 
 -- a `touch`
-abbrev pub read_touch : List (List ℕ) → Reading
+abbrev pub read_touch : List (List ℕ) → RequestLine
 read_touch (key ∷ exptime ∷ more) =
-    if is_key key then timed (touch key) (exptime_in exptime) (quiet_in more)
+    if is_item_key key then timed (touch key) (exptime_in exptime) (quiet_in more)
     else faulty fault.Format
 read_touch words = faulty fault.Unknown
 
 -- a `flush_all`: a delay and `noreply` may follow
-abbrev pub read_flush : List (List ℕ) → Reading
+abbrev pub read_flush : List (List ℕ) → RequestLine
 read_flush [] = whole (flush_all Never) false
 read_flush (word ∷ more) =
-    if not (is_filled more) && same word (codes "noreply") then whole (flush_all Never) true
+    if not (is_filled more) && bytes_eq word (codes "noreply") then whole (flush_all Never) true
     else timed flush_all (exptime_in word) (quiet_in more)
 
 -- a `verbosity`, which does nothing, by what follows its level
-abbrev pub verbosity_by : Option Bool → Reading
+abbrev pub verbosity_by : Option Bool → RequestLine
 verbosity_by None = faulty fault.Unknown
 verbosity_by (Some quiet) = whole verbosity quiet
 
 -- its words: `noreply` may stand in place of the level
-abbrev pub read_verbosity : List (List ℕ) → Reading
+abbrev pub read_verbosity : List (List ℕ) → RequestLine
 read_verbosity [] = faulty fault.Unknown
 read_verbosity (level ∷ more) =
     if is_filled more then verbosity_by (quiet_in more)
-    else whole verbosity (same level (codes "noreply"))
+    else whole verbosity (bytes_eq level (codes "noreply"))
 
 -- a meta command on a key, with its flags
-abbrev pub read_meta : Meta → List (List ℕ) → Reading
+abbrev pub read_meta : Meta → List (List ℕ) → RequestLine
 read_meta kind [] = faulty fault.Unknown
 read_meta kind (key ∷ flags) = on_key key (meta kind key flags) false
 
 -- what stands before the data block of a `ms`
-abbrev pub meta_head_of : List ℕ → List (List ℕ) → Option ℕ → Reading
+abbrev pub meta_head_of : List ℕ → List (List ℕ) → Option ℕ → RequestLine
 meta_head_of key flags None = faulty fault.Format
 meta_head_of key flags (Some size) =
-    if is_key key then meta_head key flags size else faulty fault.Format
+    if is_item_key key then meta_head key flags size else faulty fault.Format
 
 -- its words
-abbrev pub read_meta_set : List (List ℕ) → Reading
+abbrev pub read_meta_set : List (List ℕ) → RequestLine
 read_meta_set (key ∷ size ∷ flags) = meta_head_of key flags (number_below (2 ^ 31) size)
 read_meta_set words = faulty fault.Unknown
 
 -- the words that stand behind a command's word
-abbrev pub read_verb : Verb → List (List ℕ) → Reading
-read_verb (Get uniques) words = read_get uniques words
-read_verb (Gat uniques) words = read_gat uniques words
-read_verb (Store storage) words = read_store storage words
-read_verb verb.Cas words = read_cas words
-read_verb Delete words = read_delete words
-read_verb (Arithmetic direction) words = read_arithmetic direction words
-read_verb Touch words = read_touch words
-read_verb FlushAll words = read_flush words
-read_verb Stats words = whole (stats words) false
-read_verb Version words = whole version false
-read_verb Verbosity words = read_verbosity words
-read_verb Quit words = whole quit false
-read_verb (verb.Meta kind) words = read_meta kind words
-read_verb MetaSet words = read_meta_set words
-read_verb MetaNoOp words = whole meta_no_op false
+abbrev pub read_arguments : Verb → List (List ℕ) → RequestLine
+read_arguments (Get uniques) words = read_get uniques words
+read_arguments (Gat uniques) words = read_gat uniques words
+read_arguments (Store storage) words = read_store storage words
+read_arguments verb.Cas words = read_cas words
+read_arguments Delete words = read_delete words
+read_arguments (Arithmetic direction) words = read_arithmetic direction words
+read_arguments Touch words = read_touch words
+read_arguments FlushAll words = read_flush words
+read_arguments Stats words = whole (stats words) false
+read_arguments Version words = whole version false
+read_arguments Verbosity words = read_verbosity words
+read_arguments Quit words = whole quit false
+read_arguments (verb.Meta kind) words = read_meta kind words
+read_arguments MetaSet words = read_meta_set words
+read_arguments MetaNoOp words = whole meta_no_op false
 
 -- the table of the words of meta commands
 abbrev pub meta_verb_in : List ℕ → Option Verb
 meta_verb_in word =
-    if same word (codes "mg") then Some (verb.Meta kind.Get)
-    else (if same word (codes "ms") then Some MetaSet
-    else (if same word (codes "md") then Some (verb.Meta kind.Delete)
-    else (if same word (codes "ma") then Some (verb.Meta kind.Arithmetic)
-    else (if same word (codes "mn") then Some MetaNoOp else None))))
+    if bytes_eq word (codes "mg") then Some (verb.Meta kind.Get)
+    else (if bytes_eq word (codes "ms") then Some MetaSet
+    else (if bytes_eq word (codes "md") then Some (verb.Meta kind.Delete)
+    else (if bytes_eq word (codes "ma") then Some (verb.Meta kind.Arithmetic)
+    else (if bytes_eq word (codes "mn") then Some MetaNoOp else None))))
 
 -- the table of command words
-abbrev pub verb_in : List ℕ → Option Verb
-verb_in word =
-    if same word (codes "get") then Some (Get false)
-    else (if same word (codes "set") then Some (Store Set)
-    else (if same word (codes "gets") then Some (Get true)
-    else (if same word (codes "delete") then Some Delete
-    else (if same word (codes "add") then Some (Store Add)
-    else (if same word (codes "cas") then Some verb.Cas
-    else (if same word (codes "incr") then Some (Arithmetic Up)
-    else (if same word (codes "decr") then Some (Arithmetic Down)
-    else (if same word (codes "touch") then Some Touch
-    else (if same word (codes "gat") then Some (Gat false)
-    else (if same word (codes "gats") then Some (Gat true)
-    else (if same word (codes "replace") then Some (Store Replace)
-    else (if same word (codes "append") then Some (Store Append)
-    else (if same word (codes "prepend") then Some (Store Prepend)
-    else (if same word (codes "flush_all") then Some FlushAll
-    else (if same word (codes "stats") then Some Stats
-    else (if same word (codes "version") then Some Version
-    else (if same word (codes "verbosity") then Some Verbosity
-    else (if same word (codes "quit") then Some Quit
+abbrev pub verb_named : List ℕ → Option Verb
+verb_named word =
+    if bytes_eq word (codes "get") then Some (Get false)
+    else (if bytes_eq word (codes "set") then Some (Store Set)
+    else (if bytes_eq word (codes "gets") then Some (Get true)
+    else (if bytes_eq word (codes "delete") then Some Delete
+    else (if bytes_eq word (codes "add") then Some (Store Add)
+    else (if bytes_eq word (codes "cas") then Some verb.Cas
+    else (if bytes_eq word (codes "incr") then Some (Arithmetic Up)
+    else (if bytes_eq word (codes "decr") then Some (Arithmetic Down)
+    else (if bytes_eq word (codes "touch") then Some Touch
+    else (if bytes_eq word (codes "gat") then Some (Gat false)
+    else (if bytes_eq word (codes "gats") then Some (Gat true)
+    else (if bytes_eq word (codes "replace") then Some (Store Replace)
+    else (if bytes_eq word (codes "append") then Some (Store Append)
+    else (if bytes_eq word (codes "prepend") then Some (Store Prepend)
+    else (if bytes_eq word (codes "flush_all") then Some FlushAll
+    else (if bytes_eq word (codes "stats") then Some Stats
+    else (if bytes_eq word (codes "version") then Some Version
+    else (if bytes_eq word (codes "verbosity") then Some Verbosity
+    else (if bytes_eq word (codes "quit") then Some Quit
     else meta_verb_in word))))))))))))))))))
 
 -- a command's word with the words behind it
-abbrev pub read_words : Option Verb → List (List ℕ) → Reading
-read_words None words = faulty fault.Unknown
-read_words (Some verb) words = read_verb verb words
+abbrev pub read_command : Option Verb → List (List ℕ) → RequestLine
+read_command None words = faulty fault.Unknown
+read_command (Some verb) words = read_arguments verb words
 
 -- the words of a line
-abbrev pub read_tokens : List (List ℕ) → Reading
+abbrev pub read_tokens : List (List ℕ) → RequestLine
 read_tokens [] = faulty fault.Unknown
-read_tokens (word ∷ words) = read_words (verb_in word) words
+read_tokens (word ∷ words) = read_command (verb_named word) words
 
 -- what a line says
-abbrev pub reading : List ℕ → Reading
-reading line = read_tokens (tokens line)
+abbrev pub request_line : List ℕ → RequestLine
+request_line line = read_tokens (tokens line)
 
 -- ---- a stream of bytes
 
@@ -283,7 +284,7 @@ arrives command quiet used = request (record { command = command; quiet = quiet 
 
 -- a data block of so many bytes, with a carriage return and a line feed behind it
 abbrev pub has_end : ℕ → List ℕ → Bool
-has_end size bytes = same (take 2 (drop size bytes)) (codes "\r\n")
+has_end size bytes = bytes_eq (take 2 (drop size bytes)) (codes "\r\n")
 
 -- a data block: larger than it may be, not whole yet, without its end, or whole
 pub data Block : Type 0 where
@@ -305,12 +306,12 @@ with_block command passed_over quiet used broken = arrives (malformed fault.Chun
 with_block command passed_over quiet used (filled block) = arrives (command block) quiet used
 
 -- a line with what stands behind it; `used` bytes are the line and its line feed
-abbrev pub behind : ℕ → Reading → ℕ → List ℕ → Arrived
-behind most (whole command quiet) used rest = arrives command quiet used
-behind most (head storage key flags exptime size quiet) used rest =
+abbrev pub arrived_line : ℕ → RequestLine → ℕ → List ℕ → Arrived
+arrived_line most (whole command quiet) used rest = arrives command quiet used
+arrived_line most (head storage key flags exptime size quiet) used rest =
     with_block (store storage key flags exptime) (oversize storage key) quiet (used + size + 2)
     (block_in most size rest)
-behind most (meta_head key flags size) used rest =
+arrived_line most (meta_head key flags size) used rest =
     with_block (meta_set key flags) (oversize Set key) false (used + size + 2)
     (block_in most size rest)
 
@@ -323,7 +324,7 @@ unended count =
 abbrev pub line_at : ℕ → List ℕ → Option ℕ → Arrived
 line_at most bytes None = unended (length bytes)
 line_at most bytes (Some end) =
-    behind most (reading (without_return (take end bytes))) (end + 1) (drop (end + 1) bytes)
+    arrived_line most (request_line (without_one_return (take end bytes))) (end + 1) (drop (end + 1) bytes)
 
 -- what stands at the front of a stream whose data blocks have at most `most` bytes
 abbrev pub arrived : ℕ → List ℕ → Arrived

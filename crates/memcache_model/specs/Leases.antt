@@ -1,7 +1,7 @@
 -- Leases: of the clients that ask for the lease of a key, one wins, until it ends.
 use Rattle.std.specs.Prelude.{◌≡◌, ℕ, Bool, true, false, not, ◌&&◌, ◌||◌, List, Option, Some, None, is_some, codes}
 use Rattle.memcache_model.specs.Answers.{Service, answer}
-use Rattle.memcache_model.specs.Bytes.{same}
+use Rattle.std.specs.Str.{bytes_eq}
 use Rattle.memcache_model.specs.Commands.{Command, store, oversize, delete, flush_all, meta, meta_set}
 use Rattle.memcache_model.specs.Items.{Item, Stock}
 use Rattle.memcache_model.specs.Meta.{exptime_of, is_late, item_text, lease_text, meta_get, retimed_by}
@@ -32,15 +32,15 @@ pub record TellsLease (moment : ℕ) (key : List ℕ) (words : List (List ℕ)) 
 
 -- the command may end the lease of the key: it sets its value, deletes it or makes it stale
 abbrev pub may_end : List ℕ → Command → Bool
-may_end key (store Set k flags exptime block) = same key k
-may_end key (store Replace k flags exptime block) = same key k
-may_end key (store (Cas unique) k flags exptime block) = same key k
-may_end key (oversize Set k) = same key k
-may_end key (delete k) = same key k
+may_end key (store Set k flags exptime block) = bytes_eq key k
+may_end key (store Replace k flags exptime block) = bytes_eq key k
+may_end key (store (Cas unique) k flags exptime block) = bytes_eq key k
+may_end key (oversize Set k) = bytes_eq key k
+may_end key (delete k) = bytes_eq key k
 may_end key (flush_all (Seconds n)) = false
 may_end key (flush_all exptime) = true
-may_end key (meta Delete k words) = same key k
-may_end key (meta_set k words block) = same key k
+may_end key (meta Delete k words) = bytes_eq key k
+may_end key (meta_set k words block) = bytes_eq key k
 may_end key command = false
 
 pub record OneWins : Type 0 where

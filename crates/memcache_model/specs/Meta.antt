@@ -3,10 +3,10 @@ use Rattle.std.specs.Prelude.{ℕ, ◌+◌, ◌-◌, ◌/◌, ◌^◌, Bool, tru
 use Rattle.std.specs.Fmt.{decimal}
 use Rattle.std.specs.List.{concat, list_any}
 use Rattle.std.specs.Option.{option_map, option_map_or, option_or}
-use Rattle.memcache_model.specs.Outcomes.{Outcome, says, changes, stores, new_item, counted}
+use Rattle.memcache_model.specs.Outcomes.{Outcome, says_text, changes, stores_item, new_item, counted}
 use Rattle.memcache_model.specs.Bytes.{number_below}
 use Rattle.memcache_model.specs.Grammar.{exptime_in}
-use Rattle.memcache_model.specs.Items.{Item, Stock, deadline_of}
+use Rattle.memcache_model.specs.Items.{Item, Stock, exptime_deadline}
 use Rattle.memcache_model.specs.Replies.{error_text}
 use Rattle.memcache_model.specs.declared.command.Direction.{Direction}
 use Rattle.memcache_model.specs.declared.command.Direction.TheVariants.{Up, Down}
@@ -43,8 +43,8 @@ abbrev pub limit_of : ℕ → ℕ
 limit_of letter = if is_one_of (codes "F") letter then 2 ^ 32 else 2 ^ 64
 
 -- the number behind a letter
-abbrev pub number_of : List ℕ → List (List ℕ) → Option ℕ
-number_of letter words = unwrap_or
+abbrev pub number_of_letter : List ℕ → List (List ℕ) → Option ℕ
+number_of_letter letter words = unwrap_or
     (option_map (number_below (limit_of (letter_of letter)))
     (behind_letter (letter_of letter) words)) None
 
@@ -73,7 +73,7 @@ flags_fault letters numbers times (word ∷ words) =
 -- an outcome, unless something is wrong with the flags
 abbrev pub unless_faulty : Option ProtocolError → Outcome → Stock → Outcome
 unless_faulty None outcome stock = outcome
-unless_faulty (Some error) outcome stock = says (error_text error) stock
+unless_faulty (Some error) outcome stock = says_text (error_text error) stock
 
 -- ---- replies
 
@@ -83,8 +83,8 @@ left_text moment None = codes "-1"
 left_text moment (Some deadline) = decimal ((deadline - moment) / 1000)
 
 -- what a word of the request has told of an item
-abbrev pub told_by : ℕ → (key : List ℕ) → Item → List ℕ → List ℕ
-told_by moment key item word =
+abbrev pub told_of_item : ℕ → (key : List ℕ) → Item → List ℕ → List ℕ
+told_of_item moment key item word =
     if is_one_of (codes "k") (letter_of word) then codes " k" ++ key
     else (if is_one_of (codes "O") (letter_of word) then codes " " ++ word
     else (if is_one_of (codes "s") (letter_of word) then
@@ -108,7 +108,7 @@ code_alone code key words = code ++ concat (map (told_alone key) words) ++ codes
 -- a code with what is told of an item
 abbrev pub code_with : ℕ → List ℕ → List ℕ → Item → List (List ℕ) → List ℕ
 code_with moment code key item words =
-    code ++ concat (map (told_by moment key item) words) ++ codes "\r\n"
+    code ++ concat (map (told_of_item moment key item) words) ++ codes "\r\n"
 
 -- who holds the lease, as a `mg` tells it
 abbrev pub lease_text : (held stale wins : Bool) → List ℕ
@@ -118,7 +118,7 @@ lease_text held stale wins = (if held then codes " Z" else []) ++ (if stale then
 -- an item as a `mg` or `ma` tells it: with its bytes if `v` asks for them
 abbrev pub item_text : ℕ → List ℕ → Item → List (List ℕ) → (lease : List ℕ) → List ℕ
 item_text moment key item words lease =
-    let told = concat (map (told_by moment key item) words) ++ lease ++ codes "\r\n" in
+    let told = concat (map (told_of_item moment key item) words) ++ lease ++ codes "\r\n" in
     if has_flag (codes "v") words then codes "VA " ++ decimal (length item.bytes) ++ told
     ++ item.bytes ++ codes "\r\n" else codes "HD" ++ told
 
@@ -131,14 +131,14 @@ unless_quiet words text = if has_flag (codes "q") words then [] else text
 -- an item with the expiry that a letter gives, if it is there
 abbrev pub retimed_by : ℕ → List ℕ → List (List ℕ) → Item → Item
 retimed_by moment letter words item =
-    option_map_or (λ exptime. record item { deadline = deadline_of moment exptime })
+    option_map_or (λ exptime. record item { deadline = exptime_deadline moment exptime })
     (exptime_of letter words) item
 
 -- the item is to be renewed: fewer seconds are left than `R` says
 abbrev pub is_late : ℕ → List (List ℕ) → Item → Bool
 is_late moment words item = option_map_or (λ deadline.
     option_map_or (λ seconds. nat_lt ((deadline - moment) / 1000) seconds)
-    (number_of (codes "R") words) false) item.deadline false
+    (number_of_letter (codes "R") words) false) item.deadline false
 
 -- a live item is told. Nobody holds its lease, and it is stale or late: then this client wins it
 abbrev pub meta_get_live : ℕ → List ℕ → List (List ℕ) → Item → Stock → Outcome
@@ -151,15 +151,15 @@ meta_get_live moment key words found stock =
 -- an empty item whose lease this client wins
 abbrev pub vivified : ℕ → (unique : ℕ) → Exptime → Item
 vivified moment unique exptime =
-    record (new_item [] 0 (deadline_of moment exptime)) { unique = unique; leased = true }
+    record (new_item [] 0 (exptime_deadline moment exptime)) { unique = unique; leased = true }
 
 -- there is no live item: `N` makes one
 abbrev pub meta_get_none : ℕ → List ℕ → List (List ℕ) → Option Exptime → Stock → Outcome
 meta_get_none moment key words None stock =
-    says (unless_quiet words (code_alone (codes "EN") key words)) stock
+    says_text (unless_quiet words (code_alone (codes "EN") key words)) stock
 meta_get_none moment key words (Some exptime) stock =
     let item = vivified moment (stock.uniques + 1) exptime in
-    stores (item_text moment key item words (lease_text false false true)) key item stock
+    stores_item (item_text moment key item words (lease_text false false true)) key item stock
 
 abbrev pub meta_get : ℕ → List ℕ → List (List ℕ) → Option Item → Stock → Outcome
 meta_get moment key words None stock =
@@ -172,16 +172,16 @@ meta_get moment key words (Some item) stock = meta_get_live moment key words ite
 abbrev pub meta_stored : ℕ → List ℕ → List (List ℕ) → Item → Stock → Outcome
 meta_stored moment key words item stock =
     let kept = record item { unique = stock.uniques + 1 } in
-    stores (unless_quiet words (code_with moment (codes "HD") key kept words)) key item stock
+    stores_item (unless_quiet words (code_with moment (codes "HD") key kept words)) key item stock
 
 -- nothing is stored, and a code says why
 abbrev pub meta_refuses : List ℕ → List ℕ → List (List ℕ) → Stock → Outcome
-meta_refuses code key words stock = says (code_alone code key words) stock
+meta_refuses code key words stock = says_text (code_alone code key words) stock
 
 -- the item of a block: flags by `F` and an expiry by `T`
 abbrev pub meta_item : ℕ → List (List ℕ) → (block : List ℕ) → Item
-meta_item moment words block = new_item block (unwrap_or (number_of (codes "F") words) 0)
-    (deadline_of moment (unwrap_or (exptime_of (codes "T") words) Never))
+meta_item moment words block = new_item block (unwrap_or (number_of_letter (codes "F") words) 0)
+    (exptime_deadline moment (unwrap_or (exptime_of (codes "T") words) Never))
 
 -- the mode that `M` names, by its letter: to add, append, prepend, replace or set
 abbrev pub mode_of : List (List ℕ) → ℕ
@@ -221,7 +221,7 @@ meta_compare most moment unique key words item (Some old) stock =
 
 abbrev pub meta_set : ℕ → ℕ → List ℕ → List (List ℕ) → (block : List ℕ) → Option Item → Stock
     → Outcome
-meta_set most moment key words block old stock = go (number_of (codes "C") words)
+meta_set most moment key words block old stock = go (number_of_letter (codes "C") words)
   where
     go : Option ℕ → Outcome
     go None =
@@ -234,7 +234,7 @@ meta_set most moment key words block old stock = go (number_of (codes "C") words
 -- `C` names another unique than the item's
 abbrev pub is_other : List (List ℕ) → Item → Bool
 is_other words item =
-    option_map_or (λ unique. not (item.unique == unique)) (number_of (codes "C") words) false
+    option_map_or (λ unique. not (item.unique == unique)) (number_of_letter (codes "C") words) false
 
 -- a stale item may be read on, and the next `mg` wins its lease
 abbrev pub meta_delete : ℕ → List ℕ → List (List ℕ) → Option Item → Stock → Outcome
@@ -242,7 +242,7 @@ meta_delete moment key words None stock = meta_refuses (codes "NF") key words st
 meta_delete moment key words (Some item) stock =
     if is_other words item then meta_refuses (codes "EX") key words stock
     else (if has_flag (codes "I") words then
-    stores text key (record (retimed_by moment (codes "T") words item)
+    stores_item text key (record (retimed_by moment (codes "T") words item)
     { stale = true; leased = false }) stock
     else changes text key None stock)
   where
@@ -261,14 +261,14 @@ direction_of words =
 abbrev pub meta_counted : ℕ → List ℕ → List (List ℕ) → Item → Stock → Outcome
 meta_counted moment key words item stock =
     let kept = record item { unique = stock.uniques + 1 } in
-    stores (unless_quiet words (item_text moment key kept words [])) key item stock
+    stores_item (unless_quiet words (item_text moment key kept words [])) key item stock
 
 -- a live item is counted by `D`, or by one
 abbrev pub meta_counts : ℕ → List ℕ → List (List ℕ) → Item → Option ℕ → Stock → Outcome
 meta_counts moment key words item None stock =
-    says (codes "CLIENT_ERROR cannot increment or decrement non-numeric value\r\n") stock
+    says_text (codes "CLIENT_ERROR cannot increment or decrement non-numeric value\r\n") stock
 meta_counts moment key words item (Some number) stock =
-    let count = counted (direction_of words) number (unwrap_or (number_of (codes "D") words) 1) in
+    let count = counted (direction_of words) number (unwrap_or (number_of_letter (codes "D") words) 1) in
     let timed = retimed_by moment (codes "T") words item in
     meta_counted moment key words (record timed { bytes = decimal count }) stock
 
@@ -276,8 +276,8 @@ meta_counts moment key words item (Some number) stock =
 abbrev pub meta_count_none : ℕ → List ℕ → List (List ℕ) → Option Exptime → Stock → Outcome
 meta_count_none moment key words None stock = meta_refuses (codes "NF") key words stock
 meta_count_none moment key words (Some exptime) stock =
-    let bytes = decimal (unwrap_or (number_of (codes "J") words) 0) in
-    meta_counted moment key words (new_item bytes 0 (deadline_of moment exptime)) stock
+    let bytes = decimal (unwrap_or (number_of_letter (codes "J") words) 0) in
+    meta_counted moment key words (new_item bytes 0 (exptime_deadline moment exptime)) stock
 
 abbrev pub meta_arithmetic : ℕ → List ℕ → List (List ℕ) → Option Item → Stock → Outcome
 meta_arithmetic moment key words None stock =

@@ -10,8 +10,8 @@ pub record Outcome : Type 0 where
   pub stock : Stock
 
 -- a text, and nothing changes
-abbrev pub says : List ℕ → Stock → Outcome
-says text stock = record { reply = text; stock = stock }
+abbrev pub says_text : List ℕ → Stock → Outcome
+says_text text stock = record { reply = text; stock = stock }
 
 -- a text, and a key has another item or none
 abbrev pub changes : List ℕ → List ℕ → Option Item → Stock → Outcome
@@ -19,8 +19,8 @@ changes text key item stock =
     record { reply = text; stock = record stock { items = with_item key item stock.items } }
 
 -- a text, and a key has an item with the next unique
-abbrev pub stores : List ℕ → List ℕ → Item → Stock → Outcome
-stores text key item stock = record {
+abbrev pub stores_item : List ℕ → List ℕ → Item → Stock → Outcome
+stores_item text key item stock = record {
   reply = text;
   stock = record stock {
     items = with_item key (Some (record item { unique = stock.uniques + 1 })) stock.items;

@@ -13,7 +13,8 @@ use Rattle.memcache_service.specs.declared.replies.Reply.{Reply}
 use Rattle.memcache_service.specs.declared.stock.Stock.{Stock}
 
 -- the same stock but for the key, the counters and a shelf that shows the same
-moved : {T : Type 0} (view : T → Shelved) (moment : ℕ) (all : Stocked) (mid new old final : Stock T) → LeavesAll view moment all mid new → (view mid.shelf).capacity ≡ (view old.shelf).capacity → view final.shelf ≡ view new.shelf → final.uniques ≡ new.uniques → final.flush ≡ new.flush → final.most ≡ old.most → LeavesAll view moment all old final
+moved : {T : Type 0} (view : T → Shelved) (moment : ℕ) (all : Stocked) (mid new old final : Stock T) → LeavesAll view moment all mid new → (view mid.shelf).capacity ≡ (view old.shelf).capacity
+    → view final.shelf ≡ view new.shelf → final.uniques ≡ new.uniques → final.flush ≡ new.flush → final.most ≡ old.most → LeavesAll view moment all old final
 moved view moment all mid new old final left room same uniques flush most = record {
   items = subst (λ (v : Shelved). (key : List ℕ) → (live_on v moment key ≡ all.items key) ⊎ (live_on v moment key ≡ None)) (sym same) left.items;
   uniques = uniques ∙ left.uniques;
@@ -23,12 +24,16 @@ moved view moment all mid new old final left room same uniques flush most = reco
   capacity = ap (λ (v : Shelved). v.capacity) same ∙ left.capacity ∙ room;
 }
 
-moved_refused : {T : Type 0} (view : T → Shelved) (moment : ℕ) (command : model.Command) (all : Stocked) (mid new old final : Stock T) → LeavesRefused view moment command all mid new → (view mid.shelf).capacity ≡ (view old.shelf).capacity → view final.shelf ≡ view new.shelf → final.uniques ≡ new.uniques → final.flush ≡ new.flush → final.most ≡ old.most → LeavesRefused view moment command all old final
+moved_refused : {T : Type 0} (view : T → Shelved) (moment : ℕ) (command : model.Command) (all : Stocked) (mid new old final : Stock T) → LeavesRefused view moment command all mid new
+    → (view mid.shelf).capacity ≡ (view old.shelf).capacity → view final.shelf ≡ view new.shelf → final.uniques ≡ new.uniques → final.flush ≡ new.flush → final.most ≡ old.most
+    → LeavesRefused view moment command all old final
 moved_refused view moment (model.gat told exptime keys) all mid new old final left room same uniques flush most = (left.0, moved view moment _ mid new old final left.1 room same uniques flush most)
 moved_refused view moment command all mid new old final left room same uniques flush most = stands view moment final new same uniques flush ∙ left
 
 -- a request, by the answer to its command behind a flush that was due
-pub served : {T : Type 0} (view : T → Shelved) (moment : ℕ) (request : model.Request) (all : Stocked) (old mid new final : Stock T) (before after written : List ℕ) (reply : Reply) → mid.most ≡ old.most → (view mid.shelf).capacity ≡ (view old.shelf).capacity → stock_at view moment mid ≡ all → AnswersCommand view moment request.command mid new before after reply → view final.shelf ≡ view new.shelf → final.uniques ≡ new.uniques → final.flush ≡ new.flush → final.most ≡ old.most
+pub served : {T : Type 0} (view : T → Shelved) (moment : ℕ) (request : model.Request) (all : Stocked) (old mid new final : Stock T) (before after written : List ℕ) (reply : Reply) → mid.most ≡ old.most
+    → (view mid.shelf).capacity ≡ (view old.shelf).capacity → stock_at view moment mid ≡ all → AnswersCommand view moment request.command mid new before after reply → view final.shelf ≡ view new.shelf
+    → final.uniques ≡ new.uniques → final.flush ≡ new.flush → final.most ≡ old.most
     → written ≡ take (length before) after ++ (if request.quiet then [] else said_from (length before) after reply) → WritesReply view moment all request old final before written
 served view moment request all old mid new final before after written reply kept room is answered same uniques flush most wrote = record {
   text = text;

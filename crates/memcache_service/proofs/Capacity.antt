@@ -9,7 +9,8 @@ module _ {T : Type 0} (view : T → Shelved) (moment : ℕ) where
   abbrev pub capacity : Stock T → ℕ
   capacity stock = (view stock.shelf).capacity
 
-  served-capacity : (most : ℕ) (first : Stock T) (bytes : List ℕ) (skipped : ℕ) (before : List ℕ) (new : Stock T) (left : List ℕ) (skip : ℕ) (after : List ℕ) (ends : Bool) → AreServed view moment most first bytes skipped before new left skip after ends → capacity new ≡ capacity first
+  served-capacity : (most : ℕ) (first : Stock T) (bytes : List ℕ) (skipped : ℕ) (before : List ℕ) (new : Stock T) (left : List ℕ) (skip : ℕ) (after : List ℕ) (ends : Bool)
+      → AreServed view moment most first bytes skipped before new left skip after ends → capacity new ≡ capacity first
   served-capacity most first bytes skipped before new left skip after ends no_more = refl
   served-capacity most first bytes skipped before new left skip after ends (one_more mid now r used was rest between said were arrives served) =
       ⊎_elim (λ d. d.leaves.capacity) (λ r. r.capacity) served.does ∙ served-capacity most first bytes skipped before mid rest was between false were
@@ -19,7 +20,8 @@ module _ {T : Type 0} (view : T → Shelved) (moment : ℕ) where
       ap (λ (s : T). (view s).capacity) lacks.spared.shelf ∙ served-capacity most first bytes skipped before lacks.last lacks.left lacks.skip after false lacks.served
 
   -- a piece was fed to a connection, unless it had ended
-  pub fed-capacity : (piece : List ℕ) (before after : Connection) (first new : Stock T) (closed : Bool) → before.is_closed ≡ closed → (before.is_closed ≡ false → Feeds view moment piece before after first new) → (before.is_closed ≡ true → new ≡ first) → capacity new ≡ capacity first
+  pub fed-capacity : (piece : List ℕ) (before after : Connection) (first new : Stock T) (closed : Bool) → before.is_closed ≡ closed → (before.is_closed ≡ false → Feeds view moment piece before after first new)
+      → (before.is_closed ≡ true → new ≡ first) → capacity new ≡ capacity first
   fed-capacity piece before after first new true is feeds same = ap capacity (same is)
   fed-capacity piece before after first new false is feeds same =
       let f = feeds is in

@@ -20,7 +20,8 @@ module _ {T : Type 0} (view : T → Shelved) (moment most : ℕ) (first : Stock 
       (cases_lt used (length rest))
 
   -- the same requests are served of more bytes
-  pub served-more : (bytes more : List ℕ) (new : Stock T) (left : List ℕ) (skip : ℕ) (after : List ℕ) (ends : Bool) → AreServed view moment most first bytes 0 before new left skip after ends → skip ≡ 0 → AreServed view moment most first (bytes ++ more) 0 before new (left ++ more) skip after ends
+  pub served-more : (bytes more : List ℕ) (new : Stock T) (left : List ℕ) (skip : ℕ) (after : List ℕ) (ends : Bool) → AreServed view moment most first bytes 0 before new left skip after ends → skip ≡ 0
+      → AreServed view moment most first (bytes ++ more) 0 before new (left ++ more) skip after ends
   served-more bytes more new left skip after ends no_more whole = no_more
   served-more bytes more new left skip after ends (one_more mid now r used was rest between said were arrives served) whole =
       let few : used ≤ length rest = omega (arith, whole) in

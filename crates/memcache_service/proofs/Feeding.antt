@@ -26,7 +26,8 @@ module _ {T : Type 0} (view : T → Shelved) (moment most : ℕ) (first : Stock 
   ran-as bytes skip said new left a b same ran = subst (λ (k : Connection). HasRun view moment most first bytes skip said new left k) (sym same) (record { served = ran.served; all = ran.all })
 
   -- what is left was kept
-  pub kept-ran : {E : Type 0} (r : Result (Unit {0}) E) (bytes : List ℕ) (skip : ℕ) (said : List ℕ) (new : Stock T) (left there : List ℕ) (a b : Connection) → there ≡ left → a.input.items ≡ [] → OnOk r (a.is_closed ≡ false → b.input.items ≡ a.input.items ++ there) → b ≡ record a { input = b.input } → HasRun view moment most first bytes skip said new left a → OnOk r (RunsWith bytes skip said new b)
+  pub kept-ran : {E : Type 0} (r : Result (Unit {0}) E) (bytes : List ℕ) (skip : ℕ) (said : List ℕ) (new : Stock T) (left there : List ℕ) (a b : Connection) → there ≡ left → a.input.items ≡ []
+      → OnOk r (a.is_closed ≡ false → b.input.items ≡ a.input.items ++ there) → b ≡ record a { input = b.input } → HasRun view moment most first bytes skip said new left a → OnOk r (RunsWith bytes skip said new b)
   kept-ran (Ok x) bytes skip said new left there a b is none kept same ran = (
     left,
     ran-as bytes skip said new left a b same ran,
@@ -35,13 +36,16 @@ module _ {T : Type 0} (view : T → Shelved) (moment most : ℕ) (first : Stock 
   kept-ran (Err e) bytes skip said new left there a b is none kept same ran = tt
 
   -- or there was no memory to keep it
-  pub kept-lacked : {E : Type 0} (r : Result (Unit {0}) E) (bytes : List ℕ) (skip : ℕ) (said : List ℕ) (new : Stock T) (left : List ℕ) (a b : Connection) → OnErr r (a.is_closed ≡ false) → b ≡ record a { input = b.input } → HasRun view moment most first bytes skip said new left a → OnErr r (LacksWith bytes skip said new b.output.items)
+  pub kept-lacked : {E : Type 0} (r : Result (Unit {0}) E) (bytes : List ℕ) (skip : ℕ) (said : List ℕ) (new : Stock T) (left : List ℕ) (a b : Connection) → OnErr r (a.is_closed ≡ false)
+      → b ≡ record a { input = b.input } → HasRun view moment most first bytes skip said new left a → OnErr r (LacksWith bytes skip said new b.output.items)
   kept-lacked (Ok x) bytes skip said new left a b still same ran = tt
   kept-lacked (Err e) bytes skip said new left a b still same ran = record {
     last = new;
     left = left;
     skip = a.skip;
-    served = subst (λ (after : List ℕ). AreServed view moment most first bytes skip said new left a.skip after false) (sym (ap (λ (k : Connection). k.output.items) same)) (subst (λ (ends : Bool). AreServed view moment most first bytes skip said new left a.skip a.output.items ends) still ran.served);
+    served =
+        subst (λ (after : List ℕ). AreServed view moment most first bytes skip said new left a.skip after false) (sym (ap (λ (k : Connection). k.output.items) same))
+        (subst (λ (ends : Bool). AreServed view moment most first bytes skip said new left a.skip a.output.items ends) still ran.served);
     spared = record { shelf = refl; uniques = refl; flush = refl; most = refl };
   }
 

@@ -3,15 +3,16 @@ use Rattle.std.proofs.Common.{◌≡◌, ℕ, ⊎_elim, inl, inr, ◌∙◌, ref
 use Rattle.std.proofs.lemmas.Bool.{cases_Bool}
 use Rattle.std.proofs.lemmas.Slice.Eq.{bytes_eq-Decides}
 use Rattle.std.specs.Prelude.{if◌then◌else◌}
-use Rattle.memcache_model.specs.Bytes.{same}
+use Rattle.std.specs.Str.{bytes_eq}
 use Rattle.memcache_model.specs.Items.{Item, with_item}
 use Rattle.memcache_model.specs.Outcomes.{Outcome}
 use Rattle.memcache_service.specs.Shelves.{MayComeAt, Shelved, live_on}
-use Rattle.memcache_service.specs.Stocks.{Did, Keeps, LeavesAll, Spares, stock_at}
+use Rattle.memcache_service.specs.Stocks.{Did, LeavesStock, LeavesAll, Spares, stock_at}
 use Rattle.memcache_service.specs.declared.stock.Stock.{Stock}
 
 -- a call may follow at the moment of one that did what it was to do, or was refused
-pub may_follow : {T X E : Type 0} (view : T → Shelved) (moment : ℕ) (outcome : Outcome) (text : X → List ℕ) (old new : Stock T) (r : Result X E) → IfOk r (λ x. Did view moment outcome old new (text x)) → OnErr r (Spares old new) → MayComeAt (view old.shelf) moment → MayComeAt (view new.shelf) moment
+pub may_follow : {T X E : Type 0} (view : T → Shelved) (moment : ℕ) (outcome : Outcome) (text : X → List ℕ) (old new : Stock T) (r : Result X E) → IfOk r (λ x. Did view moment outcome old new (text x))
+    → OnErr r (Spares old new) → MayComeAt (view old.shelf) moment → MayComeAt (view new.shelf) moment
 may_follow view moment outcome text old new (Ok x) done refused before = done.leaves.may_follow
 may_follow view moment outcome text old new (Err e) done refused before = subst (λ s. MayComeAt (view s) moment) (sym refused.shelf) before
 
@@ -21,7 +22,8 @@ most_kept view moment outcome text old new (Ok x) done refused = done.leaves.mos
 most_kept view moment outcome text old new (Err e) done refused = refused.most
 
 -- the live item of a key is given it again: nothing changes
-pub same_item : {T : Type 0} (view : T → Shelved) (moment : ℕ) (key : List ℕ) (item : Item) (old new : Stock T) → live_on (view old.shelf) moment key ≡ Some item → Keeps view moment old new → LeavesAll view moment (record (stock_at view moment old) { items = with_item key (Some item) (live_on (view old.shelf) moment) }) old new
+pub same_item : {T : Type 0} (view : T → Shelved) (moment : ℕ) (key : List ℕ) (item : Item) (old new : Stock T) → live_on (view old.shelf) moment key ≡ Some item → LeavesStock view moment old new
+    → LeavesAll view moment (record (stock_at view moment old) { items = with_item key (Some item) (live_on (view old.shelf) moment) }) old new
 same_item view moment key item old new is kept = record {
   items = λ k. ⊎_elim (λ e. inl (e ∙ put k)) (λ none. inr none) (kept.items k);
   uniques = kept.uniques;
@@ -35,23 +37,8 @@ same_item view moment key item old new is kept = record {
     put k = ⊎_elim
         (λ e. rw e (ap (live_on (view old.shelf) moment) ((bytes_eq-Decides k key).0 e) ∙ is))
         (λ e. rw e refl)
-        (cases_Bool (same k key))
+        (cases_Bool (bytes_eq k key))
 
 -- what it stands for, by its parts
 pub stands : {T : Type 0} (view : T → Shelved) (moment : ℕ) (a b : Stock T) → view a.shelf ≡ view b.shelf → a.uniques ≡ b.uniques → a.flush ≡ b.flush → stock_at view moment a ≡ stock_at view moment b
 stands view moment a b shelf uniques flush = cc
-
--- a stock that is spared stands for what it stood for
-pub spared_at : {T : Type 0} (view : T → Shelved) (moment : ℕ) (old new : Stock T) → Spares old new → stock_at view moment new ≡ stock_at view moment old
-spared_at view moment old new spared = stands view moment new old (ap view spared.shelf) spared.uniques spared.flush
-
--- so it keeps what it had
-pub spared_keeps : {T : Type 0} (view : T → Shelved) (moment : ℕ) (old new : Stock T) → Spares old new → MayComeAt (view old.shelf) moment → Keeps view moment old new
-spared_keeps view moment old new spared before = record {
-  items = λ key. inl (ap (λ s. live_on (view s) moment key) spared.shelf);
-  uniques = spared.uniques;
-  flush = spared.flush;
-  may_follow = subst (λ s. MayComeAt (view s) moment) (sym spared.shelf) before;
-  most = spared.most;
-  capacity = ap (λ s. (view s).capacity) spared.shelf;
-}

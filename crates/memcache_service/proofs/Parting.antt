@@ -29,7 +29,9 @@ drop-there bytes start used there within is = ⊎_elim
     (cases_lt used (length bytes - start))
 
 -- one more request was served
-pub served_one : {T : Type 0} (view : T → Shelved) (moment most : ℕ) (first : Stock T) (bytes : List ℕ) (skipped : ℕ) (before : List ℕ) (mid new : Stock T) (r : Request) (used skip start there : ℕ) (between after : List ℕ) → start ≤ length bytes → there ≡ min used (length bytes - start) → AreServed view moment most first bytes skipped before mid (drop start bytes) skip between false → arrived most (drop start bytes) ≡ request r used → IsRequestServed view moment r mid new between after → AreServed view moment most first bytes skipped before new (drop (start + there) bytes) (used - there) after (ends_behind r.command)
+pub served_one : {T : Type 0} (view : T → Shelved) (moment most : ℕ) (first : Stock T) (bytes : List ℕ) (skipped : ℕ) (before : List ℕ) (mid new : Stock T) (r : Request) (used skip start there : ℕ) (between after : List ℕ)
+    → start ≤ length bytes → there ≡ min used (length bytes - start) → AreServed view moment most first bytes skipped before mid (drop start bytes) skip between false
+    → arrived most (drop start bytes) ≡ request r used → IsRequestServed view moment r mid new between after → AreServed view moment most first bytes skipped before new (drop (start + there) bytes) (used - there) after (ends_behind r.command)
 served_one view moment most first bytes skipped before mid new r used skip start there between after within is were arrives served =
     let left = drop start bytes in
     let same : used - length left ≡ used - there = omega (arith, is, length-drop start bytes) in
@@ -43,7 +45,8 @@ arrived-from most now bytes start a is same =
     sym (is ∙ ap (λ (n : ℕ). arrived n (take (length bytes - start) (drop start bytes))) same ∙ ap (arrived most) (take_all (length bytes - start) (drop start bytes) (omega (arith, length-drop start bytes))))
 
 -- there was no memory for one more
-pub lacked : {T : Type 0} (view : T → Shelved) (moment most : ℕ) (first : Stock T) (bytes : List ℕ) (skipped : ℕ) (before : List ℕ) (last new : Stock T) (left : List ℕ) (skip : ℕ) (between after : List ℕ) (ends : Bool) → ends ≡ false → AreServed view moment most first bytes skipped before last left skip between ends → Spares last new → after ≡ between → HasLacked view moment most first bytes skipped before new after
+pub lacked : {T : Type 0} (view : T → Shelved) (moment most : ℕ) (first : Stock T) (bytes : List ℕ) (skipped : ℕ) (before : List ℕ) (last new : Stock T) (left : List ℕ) (skip : ℕ) (between after : List ℕ) (ends : Bool)
+    → ends ≡ false → AreServed view moment most first bytes skipped before last left skip between ends → Spares last new → after ≡ between → HasLacked view moment most first bytes skipped before new after
 lacked view moment most first bytes skipped before last new left skip between after ends still were spared same = record {
   last = last;
   left = left;

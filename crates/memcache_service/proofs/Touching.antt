@@ -1,9 +1,9 @@
 -- Items of keys that get a deadline, one key after the other.
-use Rattle.std.proofs.Common.{◌≡◌, ℕ, zero, suc, Bool, true, false, cond, ◌⊎◌, ⊎_elim, inl, inr, ◌∙◌, sym, ap, subst, refl, List, [], ◌∷◌, ◌++◌, take, drop, Option, Some, None}
+use Rattle.std.proofs.Common.{◌≡◌, ℕ, zero, suc, ◌⊎◌, ⊎_elim, ◌∙◌, sym, ap, subst, refl, List, [], ◌∷◌, ◌++◌, take, drop, Option, Some, None, arith}
+use Rattle.std.proofs.lemmas.List.{append-nil, take-append-drop}
 use Rattle.std.proofs.lemmas.Option.{none-some}
 use Rattle.std.proofs.lemmas.Slice.Eq.{bytes_eq-Decides}
 use Rattle.memcache_model.specs.Answers.{retimed, touched, touches_one}
-use Rattle.memcache_model.specs.Bytes.{same}
 use Rattle.memcache_model.specs.Items.{Item, Items, with_item}
 use Rattle.memcache_service.specs.Shelves.{MayComeAt, Shelved, live_on}
 use Rattle.memcache_service.specs.Stocks.{Did, Touches, stock_at}
@@ -20,10 +20,7 @@ one-more (suc count) [] x rest is = absurd (let no : ⊥ = cc in no)
 one-more (suc count) (y ∷ ys) x rest is = let more = one-more count ys x rest is in (ap (λ zs. y ∷ zs) more.0, more.1)
 
 whole : {X : Type 0} (count : ℕ) (xs : List X) → drop count xs ≡ [] → take count xs ≡ xs
-whole zero [] is = refl
-whole zero (x ∷ xs) is = absurd (let no : ⊥ = cc in no)
-whole (suc count) [] is = refl
-whole (suc count) (x ∷ xs) is = ap (λ ys. x ∷ ys) (whole count xs is)
+whole count xs is = sym (append-nil (take count xs)) ∙ ap (λ ys. take count xs ++ ys) (sym is) ∙ take-append-drop count xs
 
 module _ {T : Type 0} (view : T → Shelved) (moment : ℕ) (deadline : Option ℕ) (all : List (List ℕ)) (first : Stock T) where
   -- all but these keys were reached
@@ -41,22 +38,14 @@ module _ {T : Type 0} (view : T → Shelved) (moment : ℕ) (deadline : Option �
   -- one key is touched, over what was left of the items
   over : (key : List ℕ) (mid new : Stock T) (text : List ℕ) (before : Items) → ((q : List ℕ) → (live mid q ≡ before q) ⊎ (live mid q ≡ None)) → (o : Option Item) → live mid key ≡ o → Did view moment (touches_one key deadline o (stock_at view moment mid)) mid new text
       → (q : List ℕ) → (live new q ≡ with_item key (retimed deadline (before key)) before q) ⊎ (live new q ≡ None)
-  over key mid new text before were None none does q = go (same q key) refl
-    where
-      was : (live new q ≡ live mid q) ⊎ (live new q ≡ None)
-      was = does.leaves.items q
-
-      go : (b : Bool) → same q key ≡ b → (live new q ≡ cond b (retimed deadline (before key)) (before q)) ⊎ (live new q ≡ None)
-      go true e = ⊎_elim (λ k. inr (k ∙ ap (λ x. live mid x) ((bytes_eq-Decides q key).0 e) ∙ none)) (λ k. inr k) was
-      go false e = ⊎_elim (λ k. ⊎_elim (λ m. inl (k ∙ m)) (λ m. inr (k ∙ m)) (were q)) (λ k. inr k) was
-  over key mid new text before were (Some item) some does q = go (same q key) refl (does.leaves.items q)
-    where
-      is : before key ≡ Some item
-      is = ⊎_elim (λ k. sym k ∙ some) (λ k. absurd (none-some item (sym k ∙ some))) (were key)
-
-      go : (b : Bool) → same q key ≡ b → (live new q ≡ cond b (Some (record item { deadline = deadline })) (live mid q)) ⊎ (live new q ≡ None) → (live new q ≡ cond b (retimed deadline (before key)) (before q)) ⊎ (live new q ≡ None)
-      go true e was = ⊎_elim (λ k. inl (k ∙ ap (retimed deadline) (sym is))) (λ k. inr k) was
-      go false e was = ⊎_elim (λ k. ⊎_elim (λ m. inl (k ∙ m)) (λ m. inr (k ∙ m)) (were q)) (λ k. inr k) was
+  over key mid new text before were None none does q =
+      let was : (live new q ≡ live mid q) ⊎ (live new q ≡ None) = does.leaves.items q in
+      let is = (bytes_eq-Decides q key).0 in
+      grind (arith, was, is, none, were q)
+  over key mid new text before were (Some item) some does q =
+      let was : (live new q ≡ with_item key (Some (record item { deadline = deadline })) (live mid) q) ⊎ (live new q ≡ None) = does.leaves.items q in
+      let is : before key ≡ Some item = ⊎_elim (λ k. sym k ∙ some) (λ k. absurd (none-some item (sym k ∙ some))) (were key) in
+      grind (arith, was, is, were q)
 
   kept-uniques : (key : List ℕ) (o : Option Item) (mid new : Stock T) (text : List ℕ) → Did view moment (touches_one key deadline o (stock_at view moment mid)) mid new text → (new.uniques ≡ mid.uniques) × (new.flush ≡ mid.flush)
   kept-uniques key None mid new text does = (does.leaves.uniques, does.leaves.flush)

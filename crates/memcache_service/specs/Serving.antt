@@ -3,7 +3,7 @@ use Rattle.slab.specs.Slab.{Slab, Updates, get}
 use Rattle.std.specs.Prelude.{◌≡◌, ℕ, ◌-◌, ◌<◌, Bool, true, false, not, Some, List, ◌++◌, length, drop}
 use Rattle.memcache_model.specs.Commands.{Command, Request, malformed, quit}
 use Rattle.memcache_model.specs.Grammar.{arrived, part, request}
-use Rattle.memcache_model.specs.Items.{live_at}
+use Rattle.memcache_model.specs.Items.{live_stock}
 use Rattle.memcache_model.specs.declared.fault.ProtocolError.TheVariants.{TooLong}
 use Rattle.memcache_service.specs.Shelves.{Shelved}
 use Rattle.memcache_service.specs.Stocks.{WritesReply, Spares, kept_until}
@@ -21,7 +21,7 @@ module _ {T : Type 0} (view : T → Shelved) (moment : ℕ) where
   -- a request is served as the definitions say, behind a flush that was due
   abbrev pub IsRequestServed : Request → (old new : Stock T) → (before after : List ℕ) → Type 0
   IsRequestServed r old new before after =
-      WritesReply view moment (live_at moment (kept_until view moment old)) r old new before after
+      WritesReply view moment (live_stock moment (kept_until view moment old)) r old new before after
 
   -- Requests were served, each that at the front of what the one before it left of the bytes, and their replies stand behind what stood
   -- before them. What is left of the bytes, how many bytes to come belong to the last request, and whether the connection ends behind it

@@ -2,7 +2,7 @@
 use Rattle.std.specs.Prelude.{◌≡◌, ℕ, ◌+◌, ◌≤◌, ◌<◌, ◌^◌, ◌⊎◌, false, List, [], ◌∷◌, length, None}
 use Rattle.std.specs.List.{list_any}
 use Rattle.std.specs.Option.{option_map_or}
-use Rattle.memcache_model.specs.Bytes.{same}
+use Rattle.std.specs.Str.{bytes_eq}
 use Rattle.memcache_model.specs.Items.{Item, Items, unexpired}
 
 -- the items of keys by the moment, of which some may have expired, the moment of the last call, and what all items may weigh
@@ -43,7 +43,7 @@ OnlyLeave shelved = (first later : ℕ) → first ≤ later
 abbrev pub AreBeside : (others keys : List (List ℕ)) → Type 0
 AreBeside others [] = Unit {0}
 AreBeside others (key ∷ keys) =
-    (list_any (same key) others ≡ false) × AreBeside (key ∷ others) keys
+    (list_any (bytes_eq key) others ≡ false) × AreBeside (key ∷ others) keys
 
 -- what the items of keys weigh together
 abbrev pub weight_together : (List ℕ → Item → ℕ) → Items → List (List ℕ) → ℕ

@@ -3,8 +3,8 @@ use Rattle.std.specs.Prelude.{◌≡◌, ℕ, ◌⊎◌, Bool, true, false, List
 use Rattle.memcache_model.specs.Commands.{Command, Request, get, gat, stats, meta, meta_set}
 use Rattle.memcache_model.specs.Items as model
 use Rattle.memcache_model.specs.Answers.{Service, answer, touched}
-use Rattle.memcache_model.specs.Items.{Item, deadline_of}
-use Rattle.memcache_model.specs.Outcomes.{Outcome, new_item, says, stores}
+use Rattle.memcache_model.specs.Items.{Item, exptime_deadline}
+use Rattle.memcache_model.specs.Outcomes.{Outcome, new_item, says_text, stores_item}
 use Rattle.memcache_service.specs.Lines.{reply_text, said_from}
 use Rattle.memcache_service.specs.declared.replies.Reply.{Reply}
 use Rattle.memcache_service.specs.declared.replies.Reply.TheVariants.{NoMemory, NoRoom}
@@ -35,8 +35,8 @@ block_item block = new_item block.bytes.now block.flags block.deadline
 
 -- an item with more bytes is stored, if it may have them
 abbrev pub appends_to : List ℕ → Option Item → model.Stock → Outcome
-appends_to key None stock = says (codes "NOT_STORED\r\n") stock
-appends_to key (Some item) stock = stores (codes "STORED\r\n") key item stock
+appends_to key None stock = says_text (codes "NOT_STORED\r\n") stock
+appends_to key (Some item) stock = stores_item (codes "STORED\r\n") key item stock
 
 -- nothing was changed but the key that was named, and what was counted
 pub record Spares {T : Type 0} (old new : Stock T) : Type 0 where
@@ -65,8 +65,8 @@ module _ {T : Type 0} (view : T → Shelved) where
     pub capacity : (view new.shelf).capacity ≡ (view old.shelf).capacity
 
   -- it changes nothing else
-  abbrev pub Keeps : ℕ → (old new : Stock T) → Type 0
-  Keeps moment old new = LeavesAll moment (stock_at moment old) old new
+  abbrev pub LeavesStock : ℕ → (old new : Stock T) → Type 0
+  LeavesStock moment old new = LeavesAll moment (stock_at moment old) old new
 
   -- it gives the items of these keys a deadline
   abbrev pub Touches : ℕ → Option ℕ → List (List ℕ) → (old new : Stock T) → Type 0
@@ -92,7 +92,7 @@ module _ {T : Type 0} (view : T → Shelved) where
   abbrev pub LeavesRefused : ℕ → Command → (all : model.Stock) → (old new : Stock T) → Type 0
   LeavesRefused moment (gat uniques exptime keys) all old new =
       (count : ℕ) × LeavesAll moment (record all {
-        items = touched (deadline_of moment exptime) (take count keys) all.items;
+        items = touched (exptime_deadline moment exptime) (take count keys) all.items;
       }) old new
   LeavesRefused moment command all old new = stock_at moment new ≡ all
 

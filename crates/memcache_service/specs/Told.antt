@@ -2,7 +2,7 @@
 use Rattle.std.specs.Prelude.{ℕ, ◌-◌, ◌/◌, Bool, false, not, ◌&&◌, ◌||◌, nat_lt, List, ◌++◌, length, Option, Some, None, if◌then◌else◌, codes}
 use Rattle.std.specs.Option.{option_map_or}
 use Rattle.memcache_model.specs.Items.{Item}
-use Rattle.memcache_model.specs.Meta.{is_late, is_one_of, item_text, lease_text, number_of, retimed_by}
+use Rattle.memcache_model.specs.Meta.{is_late, is_one_of, item_text, lease_text, number_of_letter, retimed_by}
 use Rattle.memcache_service.specs.declared.stock.telling.Told.{Told}
 
 -- the item that it tells of, without its lease
@@ -20,7 +20,7 @@ told_item told = record {
 abbrev pub late_by : ℕ → List (List ℕ) → Option ℕ → Bool
 late_by moment words deadline = option_map_or (λ d.
     option_map_or (λ seconds. nat_lt ((d - moment) / 1000) seconds)
-    (number_of (codes "R") words) false) deadline false
+    (number_of_letter (codes "R") words) false) deadline false
 
 -- what a `mg` tells of a live item
 abbrev pub told_found : ℕ → (key : List ℕ) → List (List ℕ) → Item → List ℕ

@@ -1,6 +1,6 @@
 //! Items.
 ghost use Rattle.std.specs.Prelude.{◌≡◌, ◌+◌, ◌++◌, ◌<◌, ◌≤◌, ◌^◌, length, decimal, nat_lt, IfOk, Some, None, if◌then◌else◌, option_map};
-ghost use Rattle.memcache_model.specs.Items.{deadline_of, has_come};
+ghost use Rattle.memcache_model.specs.Items.{exptime_deadline, moment_has_come};
 ghost use Rattle.memcache_model.specs.Outcomes.{new_item};
 
 use itoa::Buffer;
@@ -67,7 +67,7 @@ impl StoredItem {
 
     /// Returns whether the item's deadline has come at `moment`, in milliseconds of Unix time.
     pub fn has_expired(&self, moment: u64) -> bool
-        ensures { result ≡ has_come moment self.now.deadline }
+        ensures { result ≡ moment_has_come moment self.now.deadline }
     {
         match self.deadline {
             Some(deadline) => deadline <= moment,
@@ -152,7 +152,7 @@ fn concat(alloc: Global, first: &[u8], second: &[u8]) -> Result<Vec<u8>, AllocEr
 /// expire.
 pub fn deadline_of(moment: u64, exptime: Exptime) -> Option<u64>
     requires { moment < 2 ^ 63 }
-    ensures { result ≡ deadline_of moment exptime }
+    ensures { result ≡ exptime_deadline moment exptime }
 {
     match exptime {
         Exptime::Never => None,
@@ -164,7 +164,7 @@ pub fn deadline_of(moment: u64, exptime: Exptime) -> Option<u64>
 /// The same for a number of seconds.
 fn deadline_in(moment: u64, seconds: u32) -> Option<u64>
     requires { moment < 2 ^ 63 }
-    ensures { result ≡ deadline_of moment (Exptime.Seconds seconds) }
+    ensures { result ≡ exptime_deadline moment (Exptime.Seconds seconds) }
 {
     let milliseconds = 1000 * u64::from(seconds);
     if seconds <= 2_592_000 {

@@ -49,7 +49,8 @@ pub trait Shelf: Drop {
     fn remove(&mut self, key: &Key, moment: u64) -> Result<(), AllocError>
         requires { MayComeAt (view self.old) moment }
         ensures removes { OnOk result
-            (Becomes moment (with_item key.now None ((view self.old).items moment)) (view self.new)) }
+            (Becomes moment (with_item key.now None ((view self.old).items moment))
+            (view self.new)) }
         ensures capacity { (view self.new).capacity ≡ (view self.old).capacity }
         ensures unchanged { OnErr result (self.new ≡ self.old) };
 

@@ -2,7 +2,7 @@
 ghost use Rattle.std.specs.Prelude.{◌≡◌, ◌≤◌, ◌+◌, ◌++◌, [], true, take, None, IfOk, OnOk, OnErr, vec_capacity, if◌then◌else◌};
 ghost use Rattle.memcache_lines.specs.Said.{asks};
 ghost use Rattle.memcache_model.specs.Answers.{answer};
-ghost use Rattle.memcache_model.specs.Items.{live_at, nothing};
+ghost use Rattle.memcache_model.specs.Items.{live_stock, nothing};
 ghost use Rattle.memcache_service.specs.Lines.{reply_text, said_from};
 ghost use Rattle.memcache_service.specs.Shelves.{MayComeAt};
 ghost use Rattle.memcache_service.specs.Stocks.{AnswersCommand, Did, LeavesAll, WritesReply, Spares, is_short, kept_until, service_of, stock_at};
@@ -92,7 +92,7 @@ impl<T: Shelf> Stock<T> {
     ) -> Result<(), AllocError>
         requires { MayComeAt (T.view self.old.shelf) moment }
         ensures served { OnOk result (WritesReply T.view moment
-            (live_at moment (kept_until T.view moment self.old))
+            (live_stock moment (kept_until T.view moment self.old))
             (record { command = asks request.now.command; quiet = request.now.quiet })
             self.old self.new output.old.items output.new.items) }
         ensures refused { OnErr result (Spares self.old self.new
@@ -113,7 +113,7 @@ impl<T: Shelf> Stock<T> {
     fn flush_if_due(&mut self, moment: u64) -> Result<(), AllocError>
         requires { MayComeAt (T.view self.old.shelf) moment }
         ensures ok { OnOk result (stock_at T.view moment self.new
-            ≡ live_at moment (kept_until T.view moment self.old)) }
+            ≡ live_stock moment (kept_until T.view moment self.old)) }
         ensures err { OnErr result (Spares self.old self.new) }
         ensures may_follow { MayComeAt (T.view self.new.shelf) moment }
         ensures most { self.new.most ≡ self.old.most }

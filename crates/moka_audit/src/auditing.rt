@@ -1,5 +1,5 @@
 //! The verdict on a transcript.
-ghost use Rattle.moka_audit.specs.Records.Verdicts.{IsJust};
+ghost use Rattle.moka_audit.specs.Records.Verdicts.{IsJustVerdict};
 
 use crate::records::{Verdict, find_break};
 use audit_laws::first_break_is_first;
@@ -20,7 +20,7 @@ use std::alloc::Global;
 /// }
 /// ```
 pub fn audit(alloc: Global, config: &Config, transcript: &Transcript) -> Verdict
-    ensures { IsJust config.now transcript.now result }
+    ensures { IsJustVerdict config.now transcript.now result }
 {
     first_break_is_first();
     match find_break(alloc, config, transcript) {

@@ -12,7 +12,7 @@ use Rattle.front_reference.specs.Fronts.{ComesAfter, Front, passed}
 use Rattle.front_reference.specs.declared.data.At.{At}
 use Rattle.front_reference.specs.declared.errors.CacheError.{CacheError}
 use Rattle.front_reference.specs.declared.errors.CacheError.TheVariants as errors
-use Rattle.front_state.specs.Sharding.{FirstHasRoom, with_first}
+use Rattle.front_state.specs.Sharding.{FirstHasRoom, with_first_part}
 use Rattle.sync_desk.specs.Drawing.{IsCauseToCoverAsDrawn}
 use Rattle.sync_desk.specs.Sharding.{CommitsAsDrawn, PreparesAsDrawn}
 use Rattle.sync_desk.specs.Slots.Refusals.{IsCoverRefusal}
@@ -203,7 +203,7 @@ module _ {K V P S R : Type 0} where
         at = at;
         now = (after, does.state.1.1);
         may = may;
-        covers = same_guarded (record d { state = passed at.now at.step (with_first (registered one) (prepared d).state) }) e does.state.2 does.writes
+        covers = same_guarded (record d { state = passed at.now at.step (with_first_part (registered one) (prepared d).state) }) e does.state.2 does.writes
             ∙ ap (λ ss. record d { state = passed at.now at.step (record d.state { parts = ss }) }) (registers_back one d.state.parts);
       }
 
@@ -250,7 +250,7 @@ module _ {K V P S R X : Type 0} (f : X → Guarded K V P S R) (xs : List X) (ds 
       let made : Commits p id (f o) (f y) = record { state = does; writes = writes } in
       (f y, subst (λ z. Commits p id z (f y)) (seen_at f xs ds i x o d same is alike at) made, seen_set f xs ds i y same)
 
-  pub at_released : (f y).state ≡ with_first without_room (f o).state → (f y).writes ≡ (f o).writes
+  pub at_released : (f y).state ≡ with_first_part without_room (f o).state → (f y).writes ≡ (f o).writes
       → (d : Guarded K V P S R) → slice_get ds i ≡ Some d → map f (slice_set xs i y) ≡ slice_set ds i (released d)
   at_released does writes = at_changed released (same_guarded (released (f o)) (f y) does writes)
 

@@ -5,7 +5,7 @@ use Rattle.front_reference.specs.Fronts.{CallsEach, Front, passed}
 use Rattle.front_reference.specs.declared.data.At.{At}
 use Rattle.front_reference.specs.declared.errors.CacheError.{CacheError}
 use Rattle.front_reference.specs.declared.errors.CacheError.TheVariants as errors
-use Rattle.front_state.specs.Sharding.{DrawsForFirst, FirstHasRoom, with_first}
+use Rattle.front_state.specs.Sharding.{DrawsForFirst, FirstHasRoom, with_first_part}
 use Rattle.rand_core.specs.Stream.{Stream}
 use Rattle.sync_desk.specs.Drawing.{IsCauseToCoverAsDrawn, IsDrawn}
 use Rattle.sync_desk.specs.Sharding.{CommitsAsDrawn}
@@ -22,11 +22,11 @@ each_of xs seen = map seen xs
 module _ {K V P S R : Type 0} where
   -- there is room for a predicate in a shard
   abbrev pub prepared : Guarded K V P S R → Guarded K V P S R
-  prepared d = record d { state = with_first with_room d.state }
+  prepared d = record d { state = with_first_part with_room d.state }
 
   -- that room is given up
   abbrev pub released : Guarded K V P S R → Guarded K V P S R
-  released d = record d { state = with_first without_room d.state }
+  released d = record d { state = with_first_part without_room d.state }
 
   -- a shard may draw this identifier, and has a step for a predicate
   pub record MayCover (id : ℕ) (d : Guarded K V P S R) : Type 0 where
@@ -67,7 +67,7 @@ module _ {K V P S R : Type 0} where
     pub now : IsDrawn old.state at
     pub may : MayCover id old
     pub covers : new ≡ record old {
-      state = passed at.now at.step (with_first
+      state = passed at.now at.step (with_first_part
           (with_predicate (record { id = id; predicate = predicate; step = at.step })) old.state);
     }
 

@@ -1,6 +1,6 @@
 //! A predicate in all shards or in none, under the locks of all.
 ghost use Rattle.std.specs.Prelude.{◌≡◌, ◌<◌, ◌≤◌, ℕ, [], Some, IfErr, IfOk, OnErr, OnOk, length, slice_get, slice_set, vec_capacity};
-ghost use Rattle.front_parts.specs.Wholes.Covering.{AreAll};
+ghost use Rattle.front_parts.specs.Wholes.Covering.{AreOnly};
 ghost use Rattle.front_parts.specs.Wholes.Firsts.{changed_first};
 ghost use Rattle.moka_sync.specs.Covering.{Commits, CommitsFirst, CoversShards, Guarded, IsCauseToCoverShards, IsPrepared, MayCover, MayCoverEach, prepared, released};
 ghost use Rattle.sync_desk.specs.Drawing.{IsCauseToCoverAsDrawn};
@@ -139,7 +139,7 @@ impl<
         requires predicates { length predicates.items ≡ length self.old }
         requires prepared { (place : ℕ) (d : Guarded K V R.Predicate S R)
             → slice_get self.old place ≡ Some d → IsPrepared d }
-        ensures { (p : R.Predicate) → AreAll p predicates.items
+        ensures { (p : R.Predicate) → AreOnly p predicates.items
             → CommitsFirst p ids.now (length self.old) self.old self.new }
     {
         let count = self.count();

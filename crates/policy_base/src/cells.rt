@@ -32,12 +32,12 @@ impl<A, B> Model for Cells<A, B> {
     ghost use Rattle.std.specs.Prelude.{map, vec_capacity, min, ◌-◌, ◌^◌};
     ghost use Rattle.slab.specs.Slab.{Slab as Slots};
     ghost use Rattle.slab.specs.Entry.{value_of};
-    ghost use Rattle.policy_base.specs.Cells.{entry_of, IsSoundly};
+    ghost use Rattle.policy_base.specs.Cells.{slab_entry_of, IsSoundly};
 
     ghost Value = { Slots (A × B) };
 
     ghost view = { λ s. record {
-      slots = map value_of (map entry_of s.cells.items);
+      slots = map value_of (map slab_entry_of s.cells.items);
       vacant_key = s.next;
       capacity = min (vec_capacity s.cells) (2 ^ 32 - 2);
     } };

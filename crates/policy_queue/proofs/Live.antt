@@ -1,7 +1,6 @@
 -- Lemmas on lists of named nodes.
-use Rattle.std.proofs.Common.{◌≡◌, true, false, Bool, List, [], ◌∷◌, ◌++◌, Some, None, refl, sym, ap, ◌∙◌}
+use Rattle.std.proofs.Common.{◌≡◌, true, false, List, [], ◌∷◌, ◌++◌, Some, None, refl, ap, ◌∙◌, arith}
 use Rattle.std.proofs.lemmas.Bool.{cond-true, cond-false}
-use Rattle.std.proofs.lemmas.Option.{none-some}
 use Rattle.policy_base.specs.declared.name.NodeId.{NodeId}
 use Rattle.policy_queue.specs.declared.places.Node.{Node}
 use Rattle.policy_base.specs.Region.{same_id}
@@ -32,8 +31,4 @@ module _ {T : Type 0} where
   -- a name that is not there has nothing behind it
   pub from_none : (id : NodeId) (ns : List (Node T)) → find id ns ≡ None → from_id id ns ≡ []
   from_none id [] e = refl
-  from_none id (n ∷ rest) e = go (same_id n.id id) refl (from_none id rest)
-    where
-      go : (b : Bool) → same_id n.id id ≡ b → (find id rest ≡ None → from_id id rest ≡ []) → from_id id (n ∷ rest) ≡ []
-      go true s more = absurd (none-some n (sym e ∙ cond-true (same_id n.id id) _ _ s))
-      go false s more = cond-false (same_id n.id id) _ _ s ∙ more (sym (cond-false (same_id n.id id) _ _ s) ∙ e)
+  from_none id (n ∷ rest) e = grind (arith, from_none id rest)

@@ -1,7 +1,6 @@
 -- Names of nodes, and walks.
-use Rattle.std.proofs.Common.{◌≡◌, ◌≢◌, ℕ, Bool, true, false, suc, ◌+◌, ◌<◌, List, [], ◌∷◌, ◌++◌, length, map, Some, None, refl, sym, ap, ◌∙◌, inl, inr, arith, subst}
+use Rattle.std.proofs.Common.{◌≡◌, ◌≢◌, ℕ, suc, ◌+◌, ◌<◌, List, [], ◌∷◌, ◌++◌, length, map, Some, None, refl, sym, ap, ◌∙◌, inl, inr, arith, subst}
 use Rattle.std.proofs.lemmas.Bool.{cases_Bool, and_parts, eqb-true, cond-true, cond-false}
-use Rattle.std.proofs.lemmas.Option.{none-some}
 use Rattle.std.proofs.lemmas.List.{append_assoc}
 use Rattle.policy_base.specs.declared.name.CacheRegion.{CacheRegion}
 use Rattle.policy_base.specs.declared.name.NodeId.{NodeId}
@@ -107,13 +106,12 @@ module _ {T : Type 0} where
   -- a name that left is gone
   pub find_gone : (r : CacheRegion) (x : ℕ) (id : NodeId) (ns : List (Node T)) → AreNamed r x ns → find id (without_node id ns) ≡ None
   find_gone r x id [] h = refl
-  find_gone r x id (n ∷ rest) h = go (same_id n.id id) refl (find_gone r x id rest h.3)
-    where
-      go : (b : Bool) → same_id n.id id ≡ b → find id (without_node id rest) ≡ None → find id (without_node id (n ∷ rest)) ≡ None
-      go true s more =
-          let serial : n.id.serial ≡ id.serial = eqb-true _ _ (and_parts _ _ s).0 in
-          ap (find id) (cond-true (same_id n.id id) _ _ s) ∙ find_none id rest (NoneIs-serial rest id (subst (λ (k : ℕ). LacksSerial k rest) serial h.2))
-      go false s more = ap (find id) (cond-false (same_id n.id id) _ _ s) ∙ cond-false (same_id n.id id) _ _ s ∙ more
+  find_gone r x id (n ∷ rest) h = elim (cases_Bool (same_id n.id id)) [
+    | inl s ↦
+        let serial : n.id.serial ≡ id.serial = eqb-true _ _ (and_parts _ _ s).0 in
+        ap (find id) (cond-true (same_id n.id id) _ _ s) ∙ find_none id rest (NoneIs-serial rest id (subst (λ (k : ℕ). LacksSerial k rest) serial h.2))
+    | inr s ↦ ap (find id) (cond-false (same_id n.id id) _ _ s) ∙ cond-false (same_id n.id id) _ _ s ∙ find_gone r x id rest h.3
+  ]
 
   -- a push under another serial does not bring it back
   pub find_pushed : (id : NodeId) (ns : List (Node T)) (new : Node T) → find id ns ≡ None → new.id.serial ≢ id.serial → find id (ns ++ new ∷ []) ≡ None
@@ -121,11 +119,7 @@ module _ {T : Type 0} where
     | inl t ↦ absurd (d (eqb-true _ _ (and_parts _ _ t).0))
     | inr f ↦ cond-false (same_id new.id id) _ _ f
   ]
-  find_pushed id (n ∷ rest) new e d = go (same_id n.id id) refl (λ h. find_pushed id rest new h d)
-    where
-      go : (b : Bool) → same_id n.id id ≡ b → (find id rest ≡ None → find id (rest ++ new ∷ []) ≡ None) → find id (n ∷ (rest ++ new ∷ [])) ≡ None
-      go true s more = absurd (none-some n (sym e ∙ cond-true (same_id n.id id) _ _ s))
-      go false s more = cond-false (same_id n.id id) _ _ s ∙ more (sym (cond-false (same_id n.id id) _ _ s) ∙ e)
+  find_pushed id (n ∷ rest) new e d = grind (arith, find_pushed id rest new)
 
   pub stays_stale : (r : CacheRegion) (id : NodeId) (x : ℕ) (ns : List (Node T)) → AreNamed r x ns → StaysStale id x ns
   stays_stale r id x ns h = record {

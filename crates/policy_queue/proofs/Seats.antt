@@ -2,7 +2,7 @@
 use Rattle.std.proofs.Common.{◌≡◌, ◌≢◌, ℕ, zero, suc, ◌+◌, ◌-◌, ◌^◌, ◌<◌, ◌≤◌, true, false, List, [], ◌∷◌, ◌++◌, length, get_or, set, take, drop, refl, sym, ap, ◌∙◌, inl, inr, arith, subst}
 use Rattle.std.proofs.lemmas.Bool.{cases_lt, cases_eq}
 use Rattle.std.proofs.lemmas.List.{get_or_past, get_or-set_same, get_or-set_other, get_or_append_left, get_or_at, get_or-take, length_push, length-set, length-take}
-use Rattle.policy_queue.specs.Indices.{vacant, order, Lacks, AreApart, AreSeated, IsSeatedAt, has_index}
+use Rattle.policy_queue.specs.Indices.{vacant, order, Lacks, IndicesDiffer, AreSeated, IsSeatedAt, has_index}
 use Rattle.policy_queue.proofs.Order.{within, order_empty, order_taken, order_at, Lacks-order, Lacks-at}
 use Rattle.policy_queue.proofs.Listed.{has_at, has_lacked}
 
@@ -14,13 +14,13 @@ seated_alike ps qs ss same h = record {
 }
 
 -- what stands in one place each differs
-pub apart_order : (ps : List ℕ) → ((j k : ℕ) → get_or ps j vacant ≢ vacant → get_or ps j vacant ≡ get_or ps k vacant → j ≡ k) → AreApart (order ps)
+pub apart_order : (ps : List ℕ) → ((j k : ℕ) → get_or ps j vacant ≢ vacant → get_or ps j vacant ≡ get_or ps k vacant → j ≡ k) → IndicesDiffer (order ps)
 apart_order [] h = tt
 apart_order (p ∷ ps) h =
     let rest = apart_order ps (λ j k d e. let s : suc j ≡ suc k = h (suc j) (suc k) d e in omega arith) in
     elim (cases_eq p vacant) [
-      | inl e ↦ subst AreApart (sym (order_empty p ps e)) rest
-      | inr d ↦ subst AreApart (sym (order_taken p ps d)) (Lacks-order ps p (λ j taken same. let s : suc j ≡ zero = h (suc j) zero taken same in absurd (omega arith)), rest)
+      | inl e ↦ subst IndicesDiffer (sym (order_empty p ps e)) rest
+      | inr d ↦ subst IndicesDiffer (sym (order_taken p ps d)) (Lacks-order ps p (λ j taken same. let s : suc j ≡ zero = h (suc j) zero taken same in absurd (omega arith)), rest)
     ]
 
 module _ (ps ss : List ℕ) (h : AreSeated ps ss) where

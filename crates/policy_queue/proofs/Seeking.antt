@@ -8,7 +8,7 @@ use Rattle.std.specs.List.{All}
 use Rattle.slab.specs.Slab.{get, ContainsKey}
 use Rattle.policy_base.specs.declared.name.CacheRegion.{CacheRegion}
 use Rattle.policy_queue.specs.declared.places.Node.{Node}
-use Rattle.policy_queue.specs.Indices.{AreApart, has_index, from_index}
+use Rattle.policy_queue.specs.Indices.{IndicesDiffer, has_index, from_index}
 use Rattle.policy_queue.specs.Places.{Nodes, node_of, nodes_of, AreTaken, slots_from}
 use Rattle.policy_queue.specs.Queue.{head, tail, IsFirstThat, NonePasses}
 use Rattle.policy_queue.proofs.Listed.{has_here, has_later}
@@ -61,7 +61,7 @@ module _ {T : Type 0} (Test : T → Bool → Type 0) (r : CacheRegion) (s : Node
       here : nodes_of r s xs ≡ h.before ++ node_of r x v.0 ∷ nodes_of r s (tail (from_index x xs))
       here = h.is ∙ ap (λ ns. h.before ++ ns) (ap (nodes_of r s) (head_tail (from_index x xs) x h.first) ∙ nodes_at r s x v.0 (tail (from_index x xs)) v.1)
 
-      pub seeks-one : (next : Option ℕ) → Test element false → AreApart xs → next ≡ head (tail (from_index x xs)) → Seeks next
+      pub seeks-one : (next : Option ℕ) → Test element false → IndicesDiffer xs → next ≡ head (tail (from_index x xs)) → Seeks next
       seeks-one next fails apart e =
           let rest : slots_from next xs ≡ tail (from_index x xs) = ap (λ o. slots_from o xs) e ∙ next_slots x xs apart in
           record {
@@ -71,7 +71,7 @@ module _ {T : Type 0} (Test : T → Bool → Type 0) (r : CacheRegion) (s : Node
             first = ap head rest ∙ sym e;
           }
 
-      pub seeks-less : (next : Option ℕ) → AreApart xs → next ≡ head (tail (from_index x xs)) → length (slots_from next xs) < length (from_index x xs)
+      pub seeks-less : (next : Option ℕ) → IndicesDiffer xs → next ≡ head (tail (from_index x xs)) → length (slots_from next xs) < length (from_index x xs)
       seeks-less next apart e = let rest = ap length (ap (λ o. slots_from o xs) e ∙ next_slots x xs apart) in omega (arith, seeks_less)
 
       pub seeks-found : Test element true → IsFirstThat Test (nodes_of r s xs) element

@@ -12,7 +12,7 @@ use Rattle.policy_base.proofs.Names.{same_id-refl, same_id-slot, same_id-equal}
 use Rattle.policy_queue.specs.declared.places.Node.{Node}
 use Rattle.policy_queue.specs.declared.places.Cursor.{Cursor}
 use Rattle.policy_queue.specs.declared.places.Cursor.TheVariants.{Unstarted, At, Done}
-use Rattle.policy_queue.specs.Indices.{Lacks, AreApart, has_index, without_index, from_index, index_moved_to_back}
+use Rattle.policy_queue.specs.Indices.{Lacks, IndicesDiffer, has_index, without_index, from_index, index_moved_to_back}
 use Rattle.policy_queue.specs.Places.{Nodes, node_of, with_node, nodes_of, AreTaken, slots_from, cursor_off}
 use Rattle.policy_queue.specs.Queue.{Queue, find, without_node, from_id, tail, head, final, cursor_moved, cursor_at, cursor_past, with_node_at_back, is_nonempty, LacksSerial, AreNamed}
 use Rattle.policy_queue.proofs.Live.{NoneIs, find_none, find_at, without_at as node_without_at, from_id_at}
@@ -53,7 +53,7 @@ from_first y [] e = absurd (none-some y e)
 from_first y (x ∷ xs) e = cond-true _ _ _ (eq-eqb x y (same_Some x y e))
 
 -- the walk goes on behind a slot
-pub next_from : (x y : ℕ) (xs : List ℕ) → AreApart xs → head (tail (from_index x xs)) ≡ Some y → from_index y xs ≡ tail (from_index x xs)
+pub next_from : (x y : ℕ) (xs : List ℕ) → IndicesDiffer xs → head (tail (from_index x xs)) ≡ Some y → from_index y xs ≡ tail (from_index x xs)
 next_from x y [] a e = absurd (none-some y e)
 next_from x y (i ∷ xs) a e = elim (cases_eq i x) [
   | inl same ↦
@@ -68,7 +68,7 @@ next_from x y (i ∷ xs) a e = elim (cases_eq i x) [
       cond-false _ _ _ (ne_eqb i y other) ∙ next_from x y xs a.1 second ∙ sym (ap tail later)
 ]
 
-pub next_slots : (x : ℕ) (xs : List ℕ) → AreApart xs → slots_from (head (tail (from_index x xs))) xs ≡ tail (from_index x xs)
+pub next_slots : (x : ℕ) (xs : List ℕ) → IndicesDiffer xs → slots_from (head (tail (from_index x xs))) xs ≡ tail (from_index x xs)
 next_slots x xs a = go (head (tail (from_index x xs))) refl
   where
     nothing : (ys : List ℕ) → head ys ≡ None → [] ≡ ys
@@ -265,7 +265,7 @@ module _ {T : Type 0} where
         let m = subst (LacksSerial v.0) (nodes_at s x w.0 xs w.1) l in
         ((λ f. m.0 (ap (λ (u : ℕ × T). u.0) (same_Some w.0 v (sym w.1 ∙ ap (get s) f ∙ e)))), lacks_serial s xs slot v h.1 e m.1)
 
-    pub slots_apart : (s : Nodes T) (next : ℕ) (xs : List ℕ) → AreTaken s xs → AreNamed r next (nodes_of r s xs) → AreApart xs
+    pub slots_apart : (s : Nodes T) (next : ℕ) (xs : List ℕ) → AreTaken s xs → AreNamed r next (nodes_of r s xs) → IndicesDiffer xs
     slots_apart s next [] h n = tt
     slots_apart s next (x ∷ xs) h n =
         let v = held s x h.0 in

@@ -19,9 +19,9 @@ Lacks index [] = Unit {0}
 Lacks index (i ∷ rest) = (i ≢ index) × Lacks index rest
 
 -- the indices differ from one another
-abbrev pub AreApart : List ℕ → Type 0
-AreApart [] = Unit {0}
-AreApart (i ∷ rest) = Lacks i rest × AreApart rest
+abbrev pub IndicesDiffer : List ℕ → Type 0
+IndicesDiffer [] = Unit {0}
+IndicesDiffer (i ∷ rest) = Lacks i rest × IndicesDiffer rest
 
 -- the list without this index
 abbrev pub without_index : ℕ → List ℕ → List ℕ

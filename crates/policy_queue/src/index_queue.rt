@@ -2,7 +2,7 @@
 //! empty places are compacted step by step, a few places with each push or move.
 ghost use Rattle.std.specs.Prelude.{◌≡◌, ◌≢◌, ℕ, ◌+◌, ◌-◌, ◌^◌, ◌<◌, ◌≤◌, false, [], ◌∷◌, ◌++◌, length, min, max, IsOk, OnOk, IsTrue, slice_index_or, vec_len, vec_capacity};
 ghost use Rattle.policy_queue.specs.Queue.{head, tail, final};
-ghost use Rattle.policy_queue.specs.Indices.{vacant, order, has_index, without_index, from_index, index_moved_to_back, OnlyGainsPlaces, Lacks, AreApart, Ends, EndsBut, AreSeated, AreEmpty, AreArranged, IsCutShort, Trims, Carries};
+ghost use Rattle.policy_queue.specs.Indices.{vacant, order, has_index, without_index, from_index, index_moved_to_back, OnlyGainsPlaces, Lacks, IndicesDiffer, Ends, EndsBut, AreSeated, AreEmpty, AreArranged, IsCutShort, Trims, Carries};
 
 use std::alloc::{AllocError, Global};
 use std::marker::Model;
@@ -208,7 +208,7 @@ impl IndexQueue {
 /// The indices of a queue are different from one another.
 #[tactic(auto, using(crate::proofs::Seats::apart_order, crate::proofs::Seats::one_place))]
 pub fn indices_are_apart(queue: &IndexQueue)
-    ensures { AreApart queue.now.indices }
+    ensures { IndicesDiffer queue.now.indices }
 {
     let _ = &queue.places;
 }

@@ -17,7 +17,7 @@ use Rattle.front_state.specs.Beginning.{BeginsBy, StartsBy}
 use Rattle.front_state.specs.Calls.{Ways, hash_in}
 use Rattle.front_state.proofs.Steady.{begun_else, begun_found}
 use Rattle.sync_desk.specs.Drawing.{BeginsAsDrawn, ComputesAsDrawn, EndsUnstarted, GivesUp, IsDrawn, LooksUpAsDrawn, StartsAsDrawn, state_start}
-use Rattle.sync_desk.specs.Slots.Waiting.{ChangesAt, IsPutAt, SlotsByNumber, changed, ended, opened, slot_at}
+use Rattle.sync_desk.specs.Slots.Waiting.{ChangesTurnAt, IsPutAt, SlotsByNumber, changed, ended_with, fresh_turn, turn_by_number}
 use Rattle.sync_desk.specs.declared.slots.slot.Ending.TheVariants.{GivenUp}
 use Rattle.sync_desk.specs.declared.turns.ComputeStart.{ComputeStart}
 use Rattle.sync_desk.specs.declared.turns.ComputeStart.TheVariants as computing
@@ -104,16 +104,16 @@ module _ {K V P S R : Type 0} (ways : Ways K V P S R) (key : K) (hash : ℕ) (at
   starts-waiting kinds.Try start n is starts = made-waiting kinds.Try start n is starts
 
 -- a turn that begins and is given up is no longer there
-module _ {V F : Type 0} (number hash : ℕ) (old mid new : SlotsByNumber V F) (begins : IsPutAt number (Some (opened kinds.Compute hash)) old mid) (ends : ChangesAt kinds.Compute number (ended GivenUp) mid new) where
-  there : slot_at number mid ≡ Some (opened kinds.Compute hash)
-  there = begins number ∙ ap (λ b. if b then Some (opened kinds.Compute hash) else slot_at number old) (eq-eqb number number refl)
+module _ {V F : Type 0} (number hash : ℕ) (old mid new : SlotsByNumber V F) (begins : IsPutAt number (Some (fresh_turn kinds.Compute hash)) old mid) (ends : ChangesTurnAt kinds.Compute number (ended_with GivenUp) mid new) where
+  there : turn_by_number number mid ≡ Some (fresh_turn kinds.Compute hash)
+  there = begins number ∙ ap (λ b. if b then Some (fresh_turn kinds.Compute hash) else turn_by_number number old) (eq-eqb number number refl)
 
   pub unopened : IsPutAt number None old new
   unopened n = go (number == n) refl
     where
-      go : (b : Bool) → (number == n) ≡ b → slot_at n new ≡ (if b then None else slot_at n old)
-      go true e = ends n ∙ ap (λ b. if b then changed kinds.Compute (ended GivenUp) (slot_at number mid) else slot_at n mid) e ∙ ap (λ turn. changed kinds.Compute (ended GivenUp) turn) there
-      go false e = ends n ∙ ap (λ b. if b then changed kinds.Compute (ended GivenUp) (slot_at number mid) else slot_at n mid) e ∙ begins n ∙ ap (λ b. if b then Some (opened kinds.Compute hash) else slot_at n old) e
+      go : (b : Bool) → (number == n) ≡ b → turn_by_number n new ≡ (if b then None else turn_by_number n old)
+      go true e = ends n ∙ ap (λ b. if b then changed kinds.Compute (ended_with GivenUp) (turn_by_number number mid) else turn_by_number n mid) e ∙ ap (λ turn. changed kinds.Compute (ended_with GivenUp) turn) there
+      go false e = ends n ∙ ap (λ b. if b then changed kinds.Compute (ended_with GivenUp) (turn_by_number number mid) else turn_by_number n mid) e ∙ begins n ∙ ap (λ b. if b then Some (fresh_turn kinds.Compute hash) else turn_by_number n old) e
 
 -- a compute call that leads, and is then shown a value or refused
 module _ {K V P S R : Type 0} (ways : Ways K V P S R) (key : K) (number : ℕ) (old mid new : Front K V P S R) (starts : StartsAsDrawn ways key old mid (state.Lead number)) where
@@ -121,7 +121,7 @@ module _ {K V P S R : Type 0} (ways : Ways K V P S R) (key : K) (number : ℕ) (
   led (Ok start) shown = subst (λ s. ComputesAsDrawn ways key old new s) (sym shown.1) (mid, starts, shown.2)
   led (Err e) shown = tt
 
-  pub unled : {F : Type 0} (hash : ℕ) (slots opens left : SlotsByNumber V F) (r : Result (ComputeStart V) CacheError) → IsPutAt number (Some (opened kinds.Compute hash)) slots opens → OnErr r (GivesUp number mid new)
-      → OnErr r (ChangesAt kinds.Compute number (ended GivenUp) opens left) → OnErr r (EndsUnstarted ways key slots left old new)
+  pub unled : {F : Type 0} (hash : ℕ) (slots opens left : SlotsByNumber V F) (r : Result (ComputeStart V) CacheError) → IsPutAt number (Some (fresh_turn kinds.Compute hash)) slots opens → OnErr r (GivesUp number mid new)
+      → OnErr r (ChangesTurnAt kinds.Compute number (ended_with GivenUp) opens left) → OnErr r (EndsUnstarted ways key slots left old new)
   unled hash slots opens left (Ok start) begins gives told = tt
   unled hash slots opens left (Err e) begins gives told = inr (number, mid, starts, gives, unopened number hash slots opens left begins told)

@@ -19,7 +19,7 @@ use Rattle.front_state.specs.Beginning.{BeginsBy}
 use Rattle.front_state.specs.Covering.{CoversAll}
 use Rattle.front_state.specs.Turning.{FinishesBy}
 use Rattle.rand_core.specs.Stream.{Stream}
-use Rattle.sync_desk.specs.Slots.Waiting.{ChangesAt, IsPutAt, SlotsByNumber, SlotsStay, joined, opened, waiting_at}
+use Rattle.sync_desk.specs.Slots.Waiting.{ChangesTurnAt, IsPutAt, SlotsByNumber, SlotsStay, joined_by_one, fresh_turn, waiters_at}
 use Rattle.sync_desk.specs.declared.slots.slot.Ending.{Ending}
 use Rattle.sync_desk.specs.declared.slots.slot.Ending.TheVariants.{Done, GivenUp}
 use Rattle.sync_desk.specs.declared.turns.ComputeStart.{ComputeStart}
@@ -40,7 +40,7 @@ module _ {K V P S R : Type 0} where
   abbrev pub LacksNumbers : {F : Type 0} → Front K V P S R → SlotsByNumber V F → Type 0
   LacksNumbers f slots =
       LacksSteps 1 f ⊎ IsTurnCause f.next_turn errors.UsedUp
-      ⊎ ((number : ℕ) × (2 ^ 64 ≤ waiting_at number slots + 1))
+      ⊎ ((number : ℕ) × (2 ^ 64 ≤ waiters_at number slots + 1))
 
   -- the turn with this number ended with nothing; or nothing changed, because the steps are used up or it is not under way
   abbrev pub GivesUp : (number : ℕ) → Front K V P S R → Front K V P S R → Type 0
@@ -162,11 +162,11 @@ module _ {V F : Type 0} where
   abbrev pub HasStarted : TurnKind → (hash : ℕ) → (old new : SlotsByNumber V F) → TurnStart V
       → Type 0
   HasStarted kind hash old new (state.Found value) = SlotsStay old new
-  HasStarted kind hash old new (state.Wait number) = ChangesAt kind number joined old new
+  HasStarted kind hash old new (state.Wait number) = ChangesTurnAt kind number joined_by_one old new
   HasStarted kind hash old new (state.Lead number) =
-      IsPutAt number (Some (opened kind hash)) old new
+      IsPutAt number (Some (fresh_turn kind hash)) old new
 
   -- what those that wait are told: what was made, if the turn ended with it
-  abbrev pub told_by : {E : Type 0} → Made V F → Result (Unit {0}) E → Ending V F
-  told_by made (Ok done) = Done made
-  told_by made (Err e) = GivenUp
+  abbrev pub told_at_end : {E : Type 0} → Made V F → Result (Unit {0}) E → Ending V F
+  told_at_end made (Ok done) = Done made
+  told_at_end made (Err e) = GivenUp

@@ -3,14 +3,14 @@ use Rattle.std.specs.Prelude.{◌≡◌, ◌+◌, ◌<◌, ◌^◌, ℕ}
 use Rattle.engine_reference.specs.Calls.{registered, with_room}
 use Rattle.front_reference.specs.Fronts.{Front, passed}
 use Rattle.front_reference.specs.declared.data.At.{At}
-use Rattle.front_state.specs.Sharding.{DrawsForFirst, with_first}
+use Rattle.front_state.specs.Sharding.{DrawsForFirst, with_first_part}
 use Rattle.rand_core.specs.Stream.{Stream}
 use Rattle.sync_desk.specs.Drawing.{IsDrawn}
 
 module _ {K V P S R : Type 0} where
   -- there is room for a predicate, an identifier that is not registered, and a step for it
   pub record PreparesAsDrawn (id : ℕ) (old new : Front K V P S R) : Type 0 where
-    pub room : new ≡ with_first with_room old
+    pub room : new ≡ with_first_part with_room old
     pub drawn : Stream
     pub left : Stream
     pub draws : DrawsForFirst drawn left id old
@@ -20,5 +20,5 @@ module _ {K V P S R : Type 0} where
   abbrev pub CommitsAsDrawn : (id : ℕ) → P → Front K V P S R → Front K V P S R → Type 0
   CommitsAsDrawn id predicate old new =
       (at : At) × IsDrawn old at
-      × (new ≡ passed at.now at.step (with_first
+      × (new ≡ passed at.now at.step (with_first_part
       (registered (record { id = id; predicate = predicate; step = at.step })) old))

@@ -3,7 +3,7 @@ ghost use Rattle.std.specs.Prelude.{◌≡◌, ◌+◌, ◌<◌, ◌^◌, true, 
 ghost use Rattle.std.specs.Result.{IsErrOf};
 ghost use Rattle.engine_reference.specs.Calls.{without_room};
 ghost use Rattle.front_reference.specs.declared.errors.CacheError.TheVariants as errors;
-ghost use Rattle.front_state.specs.Sharding.{FirstHasRoom, with_first};
+ghost use Rattle.front_state.specs.Sharding.{FirstHasRoom, with_first_part};
 ghost use Rattle.sync_desk.specs.Drawing.{IsCauseToCoverAsDrawn};
 ghost use Rattle.sync_desk.specs.Sharding.{CommitsAsDrawn, PreparesAsDrawn};
 
@@ -66,7 +66,7 @@ impl<
     /// Gives up the room that `prepare_cover` made.
     pub fn release_cover(&mut self)
         requires { FirstHasRoom self.old.state }
-        ensures state { self.new.state ≡ with_first without_room self.old.state }
+        ensures state { self.new.state ≡ with_first_part without_room self.old.state }
         ensures slots { self.new.slots ≡ self.old.slots }
         ensures writes { self.new.writes ≡ self.old.writes }
     {

@@ -11,10 +11,10 @@ ghost use Rattle.front_reference.specs.declared.data.TurnKind.TheVariants as kin
 ghost use Rattle.front_state.specs.Beginning.{StartsBy};
 ghost use Rattle.front_state.specs.Calls.{IsCauseIn, hash_in};
 ghost use Rattle.sync_desk.specs.Coalescing.{IsMadeOrFound};
-ghost use Rattle.sync_desk.specs.Drawing.{BeginsAsDrawn, CoalescesAsDrawn, ComputesAsDrawn, EndsUnstarted, FinishesAsDrawn, GivesUp, HasStarted, LacksNumbers, LacksSteps, LooksUpAsDrawn, TakesOutAsDrawn, compute_start, state_start, told_by};
+ghost use Rattle.sync_desk.specs.Drawing.{BeginsAsDrawn, CoalescesAsDrawn, ComputesAsDrawn, EndsUnstarted, FinishesAsDrawn, GivesUp, HasStarted, LacksNumbers, LacksSteps, LooksUpAsDrawn, TakesOutAsDrawn, compute_start, state_start, told_at_end};
 ghost use Rattle.sync_desk.specs.Slots.Endings.{IsExact, fits, suits};
 ghost use Rattle.sync_desk.specs.Slots.Refusals.{IsEndRefusal, IsShortOf, IsShortage};
-ghost use Rattle.sync_desk.specs.Slots.Waiting.{ChangesAt, SlotsStay, changed, ended, hash_of, if_of, seen_with, slot_at, told_of};
+ghost use Rattle.sync_desk.specs.Slots.Waiting.{ChangesTurnAt, SlotsStay, changed, ended_with, turn_hash, if_of, seen_with, turn_by_number, told_of};
 ghost use Rattle.sync_desk.specs.Writing.{noted_if};
 ghost use Rattle.sync_desk.specs.declared.slots.slot.Ending.TheVariants.{Done, GivenUp};
 
@@ -237,7 +237,7 @@ impl<
             self.old.state self.new.state seen) }
         ensures slots { OnOk result (self.new.slots ≡ self.old.slots) }
         ensures gives_up { OnErr result (GivesUp number self.old.state self.new.state) }
-        ensures told { OnErr result (ChangesAt kinds.Compute number (ended GivenUp)
+        ensures told { OnErr result (ChangesTurnAt kinds.Compute number (ended_with GivenUp)
             self.old.slots.slots self.new.slots.slots) }
         ensures writes { self.new.writes ≡ self.old.writes }
         ensures cause { IfErr result IsShortage }
@@ -261,8 +261,8 @@ impl<
     ) -> Result<Ending<V, Shared<R::Fault>>, CacheError>
         ensures fits { IfOk result (λ ending. fits kind ending ≡ true) }
         ensures told { IsExact V.is_clone → IfOk result
-            (λ ending. ending ≡ told_of (if_of kind (slot_at number self.old.slots.slots))) }
-        ensures leaves { ChangesAt kind number (λ turn. seen_with turn.ending turn)
+            (λ ending. ending ≡ told_of (if_of kind (turn_by_number number self.old.slots.slots))) }
+        ensures leaves { ChangesTurnAt kind number (λ turn. seen_with turn.ending turn)
             self.old.slots.slots self.new.slots.slots }
         ensures cause { IfErr result (λ e. e ≡ errors.OutOfMemory) }
         ensures state { self.new.state ≡ self.old.state }
@@ -284,13 +284,14 @@ impl<
         made: Made<V, Shared<R::Fault>>,
     ) -> Result<(), CacheError>
         requires suits { suits kind made ≡ true }
-        ensures told { IsExact V.is_clone → ChangesAt kind number (ended (told_by made result))
+        ensures told { IsExact V.is_clone
+            → ChangesTurnAt kind number (ended_with (told_at_end made result))
             self.old.slots.slots self.new.slots.slots }
         ensures ends { OnOk result ((is_some (turn_at self.old.state.turns number) ≡ true)
             × FinishesAsDrawn ⟦<R as HasWays<K, V, S>>⟧.ways number made
             self.old.state self.new.state) }
         ensures writes { self.new.writes.steps ≡ noted_if (if is_ok result
-            then hash_of kind (slot_at number self.old.slots.slots) else None)
+            then turn_hash kind (turn_by_number number self.old.slots.slots) else None)
             self.new.state.step self.old.writes.steps }
         ensures err { OnErr result (GivesUp number self.old.state self.new.state) }
         ensures cause { IfErr result IsEndRefusal }
@@ -317,9 +318,10 @@ impl<
     ) -> Result<Ending<V, Shared<R::Fault>>, AllocError>
         requires { suits kind made.now ≡ true }
         ensures fits { IfOk result (λ ending. fits kind ending ≡ true) }
-        ensures copy { IsExact V.is_clone → IfOk result (λ ending. changed kind (ended ending)
-            (slot_at number self.now.slots.slots)
-            ≡ changed kind (ended (Done made.now)) (slot_at number self.now.slots.slots)) }
+        ensures copy { IsExact V.is_clone → IfOk result (λ ending. changed kind (ended_with ending)
+            (turn_by_number number self.now.slots.slots)
+            ≡ changed kind (ended_with (Done made.now))
+            (turn_by_number number self.now.slots.slots)) }
     {
         if self.slots.is_waited_for(kind, number) {
             Ok(Ending::Done(copy_made(made)?))
@@ -337,13 +339,14 @@ impl<
         ending: Ending<V, Shared<R::Fault>>,
     ) -> Result<(), CacheError>
         requires { fits kind ending ≡ true }
-        ensures told { ChangesAt kind number (ended (if is_ok result then ending else GivenUp))
+        ensures told { ChangesTurnAt kind number
+            (ended_with (if is_ok result then ending else GivenUp))
             self.old.slots.slots self.new.slots.slots }
         ensures ends { OnOk result ((is_some (turn_at self.old.state.turns number) ≡ true)
             × FinishesAsDrawn ⟦<R as HasWays<K, V, S>>⟧.ways number made
             self.old.state self.new.state) }
         ensures writes { self.new.writes.steps ≡ noted_if (if is_ok result
-            then hash_of kind (slot_at number self.old.slots.slots) else None)
+            then turn_hash kind (turn_by_number number self.old.slots.slots) else None)
             self.new.state.step self.old.writes.steps }
         ensures err { OnErr result (GivesUp number self.old.state self.new.state) }
         ensures cause { IfErr result IsEndRefusal }
@@ -367,11 +370,11 @@ impl<
     /// Shows those that wait how the turn ended, and notes that its key may have been written.
     fn end_slot(&mut self, kind: TurnKind, number: u64, ending: Ending<V, Shared<R::Fault>>)
         requires { fits kind ending ≡ true }
-        ensures told { ChangesAt kind number (ended ending) self.old.slots.slots
+        ensures told { ChangesTurnAt kind number (ended_with ending) self.old.slots.slots
             self.new.slots.slots }
         ensures state { self.new.state ≡ self.old.state }
         ensures writes { self.new.writes.steps
-            ≡ noted_if (hash_of kind (slot_at number self.old.slots.slots))
+            ≡ noted_if (turn_hash kind (turn_by_number number self.old.slots.slots))
             self.old.state.step self.old.writes.steps }
     {
         if let Some(hash) = self.slots.end(kind, number, ending) {
@@ -406,7 +409,7 @@ impl<
     /// Gives up the turn that the caller leads: those that wait begin again. The call is never refused.
     pub fn abandon(&mut self, kind: TurnKind, number: u64)
         ensures gives_up { GivesUp number self.old.state self.new.state }
-        ensures told { ChangesAt kind number (ended GivenUp) self.old.slots.slots
+        ensures told { ChangesTurnAt kind number (ended_with GivenUp) self.old.slots.slots
             self.new.slots.slots }
         ensures writes { self.new.writes ≡ self.old.writes }
     {
@@ -421,10 +424,10 @@ impl<
         ensures ends { OnOk result ((is_some (turn_at self.old.state.turns number) ≡ true)
             × FinishesAsDrawn ⟦<R as HasWays<K, V, S>>⟧.ways {F = R.Fault} number
             (makes.Value value) self.old.state self.new.state) }
-        ensures told { ChangesAt kinds.Compute number (ended GivenUp) self.old.slots.slots
+        ensures told { ChangesTurnAt kinds.Compute number (ended_with GivenUp) self.old.slots.slots
             self.new.slots.slots }
         ensures writes { self.new.writes.steps ≡ noted_if (if is_ok result
-            then hash_of kinds.Compute (slot_at number self.old.slots.slots) else None)
+            then turn_hash kinds.Compute (turn_by_number number self.old.slots.slots) else None)
             self.new.state.step self.old.writes.steps }
         ensures err { OnErr result (GivesUp number self.old.state self.new.state) }
         ensures cause { IfErr result IsEndRefusal }
@@ -446,7 +449,7 @@ impl<
     /// the turn is given up.
     pub fn take_out(&mut self, number: u64, key: &K) -> Result<Option<V>, CacheError>
         requires exact { (x y : V) → V.is_clone x y → y ≡ x }
-        ensures told { ChangesAt kinds.Compute number (ended GivenUp) self.old.slots.slots
+        ensures told { ChangesTurnAt kinds.Compute number (ended_with GivenUp) self.old.slots.slots
             self.new.slots.slots }
         ensures takes_out { IfOk result (TakesOutAsDrawn ⟦<R as HasWays<K, V, S>>⟧.ways number
             key.now self.old.state self.new.state) }

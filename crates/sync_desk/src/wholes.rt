@@ -5,7 +5,7 @@ ghost use Rattle.std.specs.String.{string_bytes};
 ghost use Rattle.front_parts.specs.Wholes.Covering.{id_text};
 ghost use Rattle.front_reference.specs.declared.errors.CacheError.TheVariants as errors;
 ghost use Rattle.front_reference.specs.Wholes.{next_told, without_told};
-ghost use Rattle.front_state.specs.Covering.{keys_in};
+ghost use Rattle.front_state.specs.Covering.{keys_of_part};
 ghost use Rattle.sync_desk.specs.Drawing.{CoversAsDrawn, IsCauseToCoverAsDrawn, IsDrawn, SeesAsDrawn};
 
 use crate::desk::Desk;
@@ -137,7 +137,7 @@ impl<
         requires exact { (x y : V) → V.is_clone x y → y ≡ x }
         ensures keys { IfOk result
             (λ keys. MatchOption keys (length self.now.state.parts ≤ segment)
-            (λ found. found.items ≡ keys_in self.now.state segment)) }
+            (λ found. found.items ≡ keys_of_part self.now.state segment)) }
         ensures cause { IfErr result (λ e. e ≡ errors.OutOfMemory) }
     {
         match self.state.keys(segment) {

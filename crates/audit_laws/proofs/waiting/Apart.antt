@@ -9,7 +9,7 @@ use Rattle.audit_model.specs.Follows.{Follows, after_event, after_steps, placed_
 use Rattle.audit_model.specs.History.{Effect}
 use Rattle.audit_model.specs.Loads.{key_loaded}
 use Rattle.audit_model.specs.Places.{due, first_due, left_after, steps_of, tasks_to_feed, tasks_to_give_up}
-use Rattle.audit_model.specs.Situation.{Situation, Connection, connection_in, is_holding_in, is_overlong, key_in, may_run_in, waiting_in, with_connection}
+use Rattle.audit_model.specs.Situation.{Situation, Connection, connection_in, is_holding_in, is_overlong, pending_key, may_run_in, waiting_in, with_connection}
 use Rattle.audit_model.specs.Steps.{Task, Store, Deliver, RunAgain, RunHeld, RunLines, is_right}
 use Rattle.audit_model.specs.Stream.{is_waiting}
 use Rattle.audit_model.specs.declared.config.Config.{Config}
@@ -96,7 +96,7 @@ by-event config s t entry conn other (event.Feed c piece moment) ne turn alone e
 by-event config s t entry conn other (event.Answer load outcome moment) ne turn alone e =
     let waiting = found-alone conn load s.pending alone in
     let conns = waiting_in load s in
-    stored config conn other (without_load load moment.nanos s) t (key_in load s) outcome (map (λ c. Deliver c outcome) conns ++ map RunLines conns)
+    stored config conn other (without_load load moment.nanos s) t (pending_key load s) outcome (map (λ c. Deliver c outcome) conns ++ map RunLines conns)
     (record { conn = 0; line = []; held = false; reply = None; load = None; accepted = entry.own; notices = entry.notices }) entry.steps ne
     (delivers-of conn outcome conns (map RunLines conns) waiting (lines-of conn conns waiting)) e
 by-event config s t entry conn other (event.GiveUp load moment) ne turn alone e =

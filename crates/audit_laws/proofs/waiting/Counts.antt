@@ -1,8 +1,8 @@
 -- How often connections stand among those that wait.
-use Rattle.std.proofs.Common.{inr, inl, ◌≡◌, ℕ, ◌+◌, ◌≤◌, Bool, true, false, not, ◌==◌, List, [], ◌∷◌, ◌++◌, map, None, if◌then◌else◌, refl, sym, ap, ◌∙◌, subst, arith}
+use Rattle.std.proofs.Common.{inr, inl, ◌≡◌, ℕ, ◌+◌, ◌≤◌, Bool, false, not, ◌==◌, List, [], ◌∷◌, ◌++◌, map, None, if◌then◌else◌, refl, ap, ◌∙◌, subst, arith}
 use Rattle.std.specs.List.{filter, find}
 use Rattle.std.specs.Option.{option_map_or}
-use Rattle.std.proofs.lemmas.Bool.{cases_Bool, eq-eqb, eqb-true}
+use Rattle.std.proofs.lemmas.Bool.{cases_Bool, eq-eqb}
 use Rattle.std.proofs.lemmas.Slice.Eq.{bytes_eq-Decides}
 use Rattle.audit_model.specs.Bytewise.{same}
 use Rattle.audit_model.specs.Situation.{PendingLoad, with_waiting, without_waiting}
@@ -12,13 +12,6 @@ use Rattle.std.proofs.lemmas.Bool.Decides.{nat_tests}
 -- 1 or 0
 abbrev pub one_if : Bool → ℕ
 one_if b = if b then 1 else 0
-
-pub apart-turned : (a b : ℕ) → (a == b) ≡ false → (b == a) ≡ false
-apart-turned a b e = go (b == a) refl
-  where
-    go : (t : Bool) → (b == a) ≡ t → t ≡ false
-    go true is = let same_number = eqb-true b a is in let no : true ≡ false = sym (eq-eqb a b (sym same_number)) ∙ e in cc
-    go false is = refl
 
 pub times-append : (c : ℕ) (xs ys : List ℕ) → times_in c (xs ++ ys) ≡ times_in c xs + times_in c ys
 times-append c [] ys = omega arith

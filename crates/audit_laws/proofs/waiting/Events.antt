@@ -5,7 +5,7 @@ use Rattle.std.specs.Option.{option_map_or}
 use Rattle.audit_model.specs.Changes.{after_step}
 use Rattle.audit_model.specs.Follows.{Follows, after_event, after_steps, placed_step_in, tasks_in, without_load}
 use Rattle.audit_model.specs.Places.{steps_of, tasks_to_feed, tasks_to_give_up}
-use Rattle.audit_model.specs.Situation.{Situation, Connection, PendingLoad, connection_in, is_holding_in, key_in, waiting_in, with_connection}
+use Rattle.audit_model.specs.Situation.{Situation, Connection, PendingLoad, connection_in, is_holding_in, pending_key, waiting_in, with_connection}
 use Rattle.audit_model.specs.Steps.{Task, Store, Deliver, RunLines}
 use Rattle.audit_model.specs.declared.config.Config.{Config}
 use Rattle.audit_model.specs.declared.event.Event.{Event}
@@ -62,7 +62,7 @@ by-event config s t entry conn (event.Feed c piece moment) is turn alone e =
 by-event config s t entry conn (event.Answer load outcome moment) is turn alone e =
     let waiting = found-alone conn load s.pending alone in
     let conns = waiting_in load s in
-    stored config conn (without_load load moment.nanos s) t (key_in load s) outcome (map (λ c. Deliver c outcome) conns ++ map RunLines conns)
+    stored config conn (without_load load moment.nanos s) t (pending_key load s) outcome (map (λ c. Deliver c outcome) conns ++ map RunLines conns)
     (record { conn = 0; line = []; held = false; reply = None; load = None; accepted = entry.own; notices = entry.notices }) entry.steps
     (delivers-of conn outcome conns (map RunLines conns) waiting (lines-of conn conns waiting)) (alone-filter conn (λ l. not (l.number == load)) s.pending alone) e
 by-event config s t entry conn (event.GiveUp load moment) is turn alone e =

@@ -1,10 +1,10 @@
 -- The keys of loads under way.
-use Rattle.std.proofs.Common.{◌≡◌, ℕ, suc, Bool, true, false, not, ◌||◌, ◌==◌, List, [], ◌∷◌, ◌++◌, map, Option, Some, None, if◌then◌else◌, is_some, refl, subst, arith}
+use Rattle.std.proofs.Common.{inr, inl, ◌≡◌, ℕ, suc, Bool, true, false, not, ◌||◌, ◌==◌, List, [], ◌∷◌, ◌++◌, map, Option, Some, None, is_some, refl, subst, arith}
 use Rattle.std.specs.Prelude.{is_none, nat_eq}
 use Rattle.std.specs.List.{filter, find}
-use Rattle.std.specs.Option.{option_eq, option_map, option_map_or, option_or}
-use Rattle.std.proofs.lemmas.Bool.{cond_both, and_parts}
-use Rattle.audit_model.specs.Belongs.{refusal_of, refusal_where}
+use Rattle.std.specs.Option.{option_eq, option_map, option_map_or}
+use Rattle.std.proofs.lemmas.Bool.{cases_Bool, cond_both, and_parts}
+use Rattle.audit_model.specs.Belongs.{refusal_of}
 use Rattle.audit_model.specs.Bytewise.{same}
 use Rattle.audit_model.specs.Changes.{after_step, connection_after, join_by, join_load}
 use Rattle.audit_model.specs.Commands.{quits}
@@ -13,7 +13,7 @@ use Rattle.audit_model.specs.History.{Action, Effect, Running}
 use Rattle.audit_model.specs.Loads.{key_loaded}
 use Rattle.audit_model.specs.Places.{due, first_due, left_after, steps_of}
 use Rattle.audit_model.specs.Replies.{load_sent_by}
-use Rattle.audit_model.specs.Situation.{Situation, Connection, PendingLoad, connection_in, is_overlong, key_in, may_run_in, view_in, with_connection, with_waiting, without_waiting}
+use Rattle.audit_model.specs.Situation.{Situation, Connection, PendingLoad, connection_in, is_overlong, pending_key, may_run_in, view_in, with_connection, with_waiting, without_waiting}
 use Rattle.audit_model.specs.Steps.{Task, Store, is_right}
 use Rattle.audit_model.specs.Stream.{is_waiting}
 use Rattle.audit_model.specs.View.{View}
@@ -23,8 +23,6 @@ use Rattle.audit_model.specs.declared.event.Event.{Event}
 use Rattle.audit_model.specs.declared.event.Event.TheVariants as event
 use Rattle.audit_model.specs.declared.event.Instant.{Instant}
 use Rattle.audit_model.specs.declared.event.Outcome.{Outcome}
-use Rattle.audit_model.specs.declared.input.ServiceError.{ServiceError}
-use Rattle.audit_model.specs.declared.input.ServiceError.TheVariants as error
 use Rattle.audit_model.specs.declared.transcript.Record.{Record}
 use Rattle.audit_model.specs.declared.transcript.Step.{Step}
 use Rattle.audit_laws.specs.Waiting.Keys.{HasKey, IsKnown}
@@ -43,11 +41,7 @@ keys-without n key conn (load ∷ loads) has = (has.0, keys-without n key conn l
 
 keys-joined : (n : ℕ) (key : List ℕ) (conn : ℕ) (of : List ℕ) (loads : List PendingLoad) → HasKey n key loads → HasKey n key (map (with_waiting conn of) loads)
 keys-joined n key conn of [] has = tt
-keys-joined n key conn of (load ∷ loads) has = (go (same load.key of), keys-joined n key conn of loads has.1)
-  where
-    go : (b : Bool) → (if b then record load { waiting = load.waiting ++ conn ∷ [] } else load).number ≡ n → (if b then record load { waiting = load.waiting ++ conn ∷ [] } else load).key ≡ key
-    go true is = has.0 is
-    go false is = has.0 is
+keys-joined n key conn of (load ∷ loads) has = ((elim (cases_Bool (same load.key of)) [ inl e ↦ rw e has.0 | inr e ↦ rw e has.0 ]), keys-joined n key conn of loads has.1)
 
 -- ---- a step
 
@@ -116,19 +110,17 @@ keeps config s t entry n key e known = known-steps config n key (after_event ent
 unrefused : (config : Config) (s t : Situation) (entry : Record) → Follows config s entry t → is_none (refusal_of config (known_in s) entry.event) ≡ true
 unrefused config s t entry e = grind (arith, nat_tests, e)
 
-under-way : (b : Bool) (rest : Option ServiceError) → is_none (option_or (refusal_where (not b) error.NoLoad) rest) ≡ true → b ≡ true
-under-way true rest e = refl
-under-way false rest e = let no : false ≡ true = e in cc
-
 own-key : (n : ℕ) (key : List ℕ) (loads : List PendingLoad) → HasKey n key loads → is_some (option_map (λ (load : PendingLoad). load.key) (find (λ load. load.number == n) loads)) ≡ true
     → option_map (λ (load : PendingLoad). load.key) (find (λ load. load.number == n) loads) ≡ Some key
 own-key n key [] has e = let no : false ≡ true = e in cc
 own-key n key (load ∷ loads) has e = let next = own-key n key loads has.1 in grind (arith, nat_tests, next, e)
 
-pub answered-key : (config : Config) (s t : Situation) (entry : Record) (load : ℕ) (outcome : Outcome) (moment : Instant) (key : List ℕ) → Follows config s entry t → entry.event ≡ event.Answer load outcome moment → HasKey load key s.pending → key_in load s ≡ Some key
+pub answered-key : (config : Config) (s t : Situation) (entry : Record) (load : ℕ) (outcome : Outcome) (moment : Instant) (key : List ℕ) → Follows config s entry t → entry.event ≡ event.Answer load outcome moment → HasKey load key s.pending → pending_key load s ≡ Some key
 answered-key config s t entry load outcome moment key e is has =
-    own-key load key s.pending has (under-way (is_some (key_in load s)) _ (subst (λ h. is_none (refusal_of config (known_in s) h) ≡ true) is (unrefused config s t entry e)))
+    let free = subst (λ h. is_none (refusal_of config (known_in s) h) ≡ true) is (unrefused config s t entry e) in
+    own-key load key s.pending has (grind (arith, free))
 
-pub given-up-key : (config : Config) (s t : Situation) (entry : Record) (load : ℕ) (moment : Instant) (key : List ℕ) → Follows config s entry t → entry.event ≡ event.GiveUp load moment → HasKey load key s.pending → key_in load s ≡ Some key
+pub given-up-key : (config : Config) (s t : Situation) (entry : Record) (load : ℕ) (moment : Instant) (key : List ℕ) → Follows config s entry t → entry.event ≡ event.GiveUp load moment → HasKey load key s.pending → pending_key load s ≡ Some key
 given-up-key config s t entry load moment key e is has =
-    own-key load key s.pending has (under-way (is_some (key_in load s)) _ (subst (λ h. is_none (refusal_of config (known_in s) h) ≡ true) is (unrefused config s t entry e)))
+    let free = subst (λ h. is_none (refusal_of config (known_in s) h) ≡ true) is (unrefused config s t entry e) in
+    own-key load key s.pending has (grind (arith, free))

@@ -1,14 +1,15 @@
 -- Records that follow, and who waits after them.
-use Rattle.std.proofs.Common.{◌≡◌, ℕ, ◌+◌, ◌≤◌, max, Bool, true, false, not, ◌&&◌, ◌==◌, List, [], ◌∷◌, ◌++◌, map, Option, Some, None, if◌then◌else◌, refl, sym, ap, ◌∙◌, subst, arith}
+use Rattle.std.proofs.Common.{inr, inl, ◌≡◌, ℕ, ◌+◌, ◌≤◌, max, Bool, true, false, not, ◌&&◌, ◌==◌, List, [], ◌∷◌, ◌++◌, map, Option, Some, None, if◌then◌else◌, refl, sym, ap, ◌∙◌, subst, arith}
 use Rattle.std.specs.Prelude.{length, nat_lt, ◌||◌}
 use Rattle.std.specs.List.{find, flat_map}
 use Rattle.std.specs.Option.{option_map_or}
-use Rattle.std.proofs.lemmas.Bool.{eqb-true}
-use Rattle.audit_model.specs.Bytewise.{cut_at, is_empty}
+use Rattle.std.proofs.lemmas.Bool.{cases_Bool, eqb-true}
+use Rattle.std.proofs.lemmas.List.{append-nil}
+use Rattle.audit_model.specs.Bytewise.{cut_at}
 use Rattle.audit_model.specs.Changes.{after_step}
 use Rattle.audit_model.specs.Follows.{Follows, after_event, after_steps, placed_step_in, tasks_in, without_load}
 use Rattle.audit_model.specs.Places.{due, first_due, left_after, steps_of, tasks_to_answer, tasks_to_feed, tasks_to_give_up}
-use Rattle.audit_model.specs.Situation.{Situation, Connection, Standing, Ready, Held, Waiting, is_ready, connection_in, is_holding, is_holding_in, is_waiting_now, key_in, may_run_in, waiting_in, with_connection, without_connection, without_number, without_waiting}
+use Rattle.audit_model.specs.Situation.{Situation, Connection, Standing, Ready, Held, Waiting, is_ready, connection_in, is_holding, is_holding_in, is_waiting_now, pending_key, may_run_in, waiting_in, with_connection, without_connection, without_number, without_waiting}
 use Rattle.audit_model.specs.Steps.{Task, Store, Deliver, RunAgain, RunHeld, RunLines, is_right}
 use Rattle.audit_model.specs.declared.config.Config.{Config}
 use Rattle.audit_model.specs.declared.event.Event.{Event}
@@ -59,14 +60,6 @@ may-due may (Deliver c outcome ∷ tasks) conn rest e = let no : Deliver c outco
 may-due may (RunAgain c ∷ tasks) conn rest e = let no : RunAgain c ∷ tasks ≡ RunLines conn ∷ rest = e in cc
 may-due may (RunHeld c ∷ tasks) conn rest e = let no : RunHeld c ∷ tasks ≡ RunLines conn ∷ rest = e in cc
 may-due may (RunLines c ∷ tasks) conn rest e = let next = may-due may tasks conn rest in grind (arith, nat_tests, next, e)
-  where
-    number_of : List Task → ℕ
-    number_of (RunLines k ∷ ts) = k
-    number_of ts = 0
-
-empty-told : (tasks : List Task) → is_empty tasks ≡ true → told_in tasks ≡ []
-empty-told [] e = refl
-empty-told (task ∷ tasks) e = let no : false ≡ true = e in cc
 
 pub told-left : (task : Task) (rest : List Task) → told_in (left_after (task ∷ rest)) ≡ told_in rest
 told-left (Store key outcome) rest = refl
@@ -145,10 +138,6 @@ no-held-again : (conns : List ℕ) → has_no_held (tasks_to_give_up conns) ≡ 
 no-held-again [] = refl
 no-held-again (c ∷ cs) = no-held-again cs
 
-append-none : (xs : List ℕ) → xs ++ [] ≡ xs
-append-none [] = refl
-append-none (x ∷ xs) = ap (λ ys. x ∷ ys) (append-none xs)
-
 pub settled-tidy : (number moment : ℕ) (s : Situation) → Tidy [] s → Tidy (waiting_in number s) (without_load number moment s)
 settled-tidy number moment s t = record {
   once = λ k. let a = settled-out number k s.pending in let b = t.once k in omega arith;
@@ -162,14 +151,16 @@ found-opened d k (x ∷ xs) e = let next = found-opened d k xs e in grind (arith
 
 closed-tidy : (conn : ℕ) (s : Situation) → Tidy [] s → Tidy [] (without_connection conn s)
 closed-tidy conn s t = record {
-  once = λ d. at d (conn == d) refl;
+  once = λ d. elim (cases_Bool (conn == d)) [ inl e ↦ own d e | inr e ↦ apart d e ];
   keys = λ key. let a = loaded-out key conn s.pending in let b = t.keys key in omega arith;
 }
   where
-    at : (d : ℕ) → (b : Bool) → (conn == d) ≡ b → 0 + times_waiting d (map (without_waiting conn) s.pending) ≤ wait_of (find (λ x. x.number == d) (without_number conn s.connections))
-    at d true e =
+    own : (d : ℕ) → (conn == d) ≡ true → 0 + times_waiting d (map (without_waiting conn) s.pending) ≤ wait_of (find (λ x. x.number == d) (without_number conn s.connections))
+    own d e =
         let gone : times_waiting d (map (without_waiting conn) s.pending) ≡ 0 = ap (λ m. times_waiting d (map (without_waiting m) s.pending)) (eqb-true conn d e) ∙ waiting-out d s.pending in omega arith
-    at d false e =
+
+    apart : (d : ℕ) → (conn == d) ≡ false → 0 + times_waiting d (map (without_waiting conn) s.pending) ≤ wait_of (find (λ x. x.number == d) (without_number conn s.connections))
+    apart d e =
         let stays : wait_of (find (λ x. x.number == d) (without_number conn s.connections)) ≡ waits_now d s = ap wait_of (found-left d conn s.connections e) in
         let left = waiting-others d conn s.pending e in
         let before = t.once d in omega arith
@@ -217,8 +208,8 @@ by-event config s t (event.Feed conn piece moment) more tidy e =
     (fed-tidy conn piece s (record s { latest = max moment.nanos s.latest }) refl refl tidy (connection_in conn s) refl) e
 by-event config s t (event.Answer load outcome moment) more tidy e =
     let conns = waiting_in load s in
-    steps-tidy config (without_load load moment.nanos s) t (tasks_to_answer (key_in load s) outcome conns) more (no-held-delivers outcome conns (map RunLines conns) (no-held-lines conns))
-    (subst (λ told. Tidy told (without_load load moment.nanos s)) (sym (told-delivers outcome conns (map RunLines conns) ∙ ap (λ ds. conns ++ ds) (told-lines conns) ∙ append-none conns)) (settled-tidy load moment.nanos s tidy)) e
+    steps-tidy config (without_load load moment.nanos s) t (tasks_to_answer (pending_key load s) outcome conns) more (no-held-delivers outcome conns (map RunLines conns) (no-held-lines conns))
+    (subst (λ told. Tidy told (without_load load moment.nanos s)) (sym (told-delivers outcome conns (map RunLines conns) ∙ ap (λ ds. conns ++ ds) (told-lines conns) ∙ append-nil conns)) (settled-tidy load moment.nanos s tidy)) e
 by-event config s t (event.GiveUp load moment) more tidy e =
     let conns = waiting_in load s in
     steps-tidy config (without_load load moment.nanos s) t (tasks_to_give_up conns) more (no-held-again conns)

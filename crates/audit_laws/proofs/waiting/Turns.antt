@@ -146,10 +146,10 @@ own-step task step effect told rest s t same_connections same_pending tidy less 
 
 -- ---- who is not to be told
 
-unready : (standing : Standing) (b : Bool) → (is_ready standing && b) ≡ true → is_waiting_now standing ≡ false
-unready Ready b e = refl
-unready (Held line) b e = let no : false ≡ true = e in cc
-unready (Waiting line) b e = let no : false ≡ true = e in cc
+unready : (standing : Standing) → is_ready standing ≡ true → is_waiting_now standing ≡ false
+unready Ready e = refl
+unready (Held line) e = let no : false ≡ true = e in cc
+unready (Waiting line) e = let no : false ≡ true = e in cc
 
 unheld : (standing : Standing) → is_holding standing ≡ true → is_waiting_now standing ≡ false
 unheld Ready e = let no : false ≡ true = e in cc
@@ -201,5 +201,5 @@ steps config s (RunLines m) step rest fit right tidy =
     let turn = eqb-true m step.conn (and_parts _ _ (and_parts _ _ own.0).0).0 in
     let may = subst (λ k. may_run_in s k ≡ true) turn fit in
     own-step (RunLines m) step (placed_step_in config s (Some (RunLines m)) step).effect rest rest s _ refl refl tidy (λ d. omega arith)
-    (λ c at. not-told step.conn rest s tidy (ap wait_of at ∙ ap one_if (unready c.standing (is_some (first_line c.unread)) (sym (ap (λ o. option_map_or (λ (k : Connection). is_ready k.standing && is_some (first_line k.unread)) o false) at) ∙ may))))
+    (λ c at. not-told step.conn rest s tidy (ap wait_of at ∙ ap one_if (unready c.standing (and_parts (is_ready c.standing) (is_some (first_line c.unread)) (sym (ap (λ o. option_map_or (λ (k : Connection). is_ready k.standing && is_some (first_line k.unread)) o false) at) ∙ may)).0)))
     (λ number e. sent-fact config s (placed_step_in config s (Some (RunLines m)) step).held (placed_step_in config s (Some (RunLines m)) step).effect number own.1 parts.1 e) (connection_in step.conn s) refl

@@ -1,5 +1,5 @@
 -- What a change of the values held does to their representation.
-use Rattle.std.proofs.Common.{inr, inl, ◌≡◌, refl, ap, ◌∙◌, sym, subst, ℕ, zero, suc, ◌+◌, ◌-◌, ◌<◌, ◌≤◌, ◌==◌, Bool, true, false, cond, not, ◌&&◌, ◌||◌, nat_lt, nat_le, nat_eq, List, [], ◌∷◌, ◌++◌, map, length, get_or, set, replicate, Option, option_map, Some, None, Result, Ok, Err, OnOk, OnErr, if◌then◌else◌, arith}
+use Rattle.std.proofs.Common.{inr, inl, ◌≡◌, refl, ap, ◌∙◌, sym, subst, ℕ, zero, suc, ◌+◌, ◌-◌, ◌<◌, ◌≤◌, ◌==◌, Bool, true, false, cond, not, ◌&&◌, ◌||◌, nat_lt, nat_le, nat_eq, List, [], ◌∷◌, ◌++◌, map, length, get_or, set, replicate, Option, option_map, Some, None, Result, Ok, Err, OnOk, OnErr, if◌then◌else◌, arith, true≢false}
 use Rattle.std.specs.List.{find, list_all, starts_with, sum_by}
 use Rattle.std.proofs.lemmas.Bool.{cond_both, cases_Bool, and_parts, and_from, eqb-true, eq-eqb}
 use Rattle.std.proofs.lemmas.Bool.Decides.{nat_tests}
@@ -12,10 +12,11 @@ use Rattle.audit_model.specs.Bytewise.{same}
 use Rattle.audit_model.specs.History.{Value}
 use Rattle.audit_model.specs.Situation.{HeldValue}
 use Rattle.audit_model.specs.Values.{without_key}
-use Rattle.audit_situation.specs.Held.Slots.{HeldSlot, slot_at, slots_without}
+use Rattle.audit_situation.specs.Held.Slots.{HeldSlot, slot_of_key, slots_without}
 use Rattle.audit_situation.specs.Held.Slots.{slot_used_at as used_slot}
 use Rattle.audit_situation.specs.Held.Weights.{weight_of_part, values_of}
 use Rattle.audit_situation.specs.Held.Holds.{Open, is_open_key, held_by, are_sound, are_past_marks, values_in, value_used_at, value_covered_by, marked_in, RepresentsHeld}
+use Rattle.audit_situation.proofs.held.Pushing.{without-none}
 use Rattle.audit_situation.proofs.held.Weighing.{weight-push, weight-without, sum-without}
 
 -- ---- lists
@@ -85,7 +86,7 @@ values-by opens marks slots = map-through (held_by opens marks) (λ h. h.value) 
 value-without : (key : List ℕ) (slots : List HeldSlot) → values_in (slots_without key slots) ≡ without_key (λ v. v.key) key (values_in slots)
 value-without key slots = sym (without-map (λ s. s.value) (λ (v : Value). v.key) key slots)
 
-value-found : (key : List ℕ) (slots : List HeldSlot) (s : HeldSlot) → slot_at key slots ≡ Some s → find (λ (v : Value). same key v.key) (values_in slots) ≡ Some s.value
+value-found : (key : List ℕ) (slots : List HeldSlot) (s : HeldSlot) → slot_of_key key slots ≡ Some s → find (λ (v : Value). same key v.key) (values_in slots) ≡ Some s.value
 value-found key slots s e = find-map (λ (s : HeldSlot). s.value) (λ (v : Value). same key v.key) slots ∙ ap (option_map (λ (s : HeldSlot). s.value)) e
 
 -- ---- what holds of all values
@@ -125,28 +126,16 @@ keeps-none marks weights m w = record {
 
 used-sound : (next : ℕ) (key : List ℕ) (now : ℕ) (slots : List HeldSlot) → are_sound next (map (used_slot key now) slots) ≡ are_sound next slots
 used-sound next key now [] = refl
-used-sound next key now (s ∷ slots) = ap (λ b. b && are_sound next (map (used_slot key now) slots)) (go (same key s.value.key)) ∙ ap (λ b. (nat_lt s.stamp next && nat_lt s.value.part 256) && b) (used-sound next key now slots)
-  where
-    go : (b : Bool) → (nat_lt (if b then record s { last_use = now } else s).stamp next && nat_lt (if b then record s { last_use = now } else s).value.part 256) ≡ (nat_lt s.stamp next && nat_lt s.value.part 256)
-    go true = refl
-    go false = refl
+used-sound next key now (s ∷ slots) = let ih = used-sound next key now slots in grind (arith, ih)
 
 used-values : (key : List ℕ) (now : ℕ) (slots : List HeldSlot) → values_in (map (used_slot key now) slots) ≡ values_in slots
 used-values key now [] = refl
-used-values key now (s ∷ slots) = ap (λ v. v ∷ values_in (map (used_slot key now) slots)) (go (same key s.value.key)) ∙ ap (λ vs. s.value ∷ vs) (used-values key now slots)
-  where
-    go : (b : Bool) → (if b then record s { last_use = now } else s).value ≡ s.value
-    go true = refl
-    go false = refl
+used-values key now (s ∷ slots) = let ih = used-values key now slots in grind (arith, ih)
 
 pub view-used : (opens : Open) (marks : List ℕ) (key : List ℕ) (now : ℕ) (slots : List HeldSlot)
     → map (held_by opens marks) (map (used_slot key now) slots) ≡ map (value_used_at key now) (map (held_by opens marks) slots)
 view-used opens marks key now [] = refl
-view-used opens marks key now (s ∷ slots) = ap (λ h. h ∷ map (held_by opens marks) (map (used_slot key now) slots)) (go (same key s.value.key)) ∙ ap (λ hs. value_used_at key now (held_by opens marks s) ∷ hs) (view-used opens marks key now slots)
-  where
-    go : (b : Bool) → held_by opens marks (if b then record s { last_use = now } else s) ≡ (if b then record (held_by opens marks s) { last_use = now } else held_by opens marks s)
-    go true = refl
-    go false = refl
+view-used opens marks key now (s ∷ slots) = let ih = view-used opens marks key now slots in grind (arith, ih)
 
 module _ (next : ℕ) (opens : Open) (marks weights : List ℕ) (total : ℕ) (slots : List HeldSlot) (k : RepresentsHeld next marks weights total slots) where
   pub keeps-used : (key : List ℕ) (now : ℕ) → RepresentsHeld next marks weights total (map (used_slot key now) slots)
@@ -161,63 +150,56 @@ module _ (next : ℕ) (opens : Open) (marks weights : List ℕ) (total : ℕ) (s
 
   -- ---- a value taken
 
-  pub part-small : (key : List ℕ) (s : HeldSlot) → slot_at key slots ≡ Some s → s.value.part < 256
+  pub part-small : (key : List ℕ) (s : HeldSlot) → slot_of_key key slots ≡ Some s → s.value.part < 256
   part-small key s e =
       let sound = found-all (λ (s : HeldSlot). nat_lt s.stamp next && nat_lt s.value.part 256) (λ s. same key s.value.key) slots s k.sound e in
       lt-lt _ _ (and_parts (nat_lt s.stamp next) (nat_lt s.value.part 256) sound).1
 
-  weights-split : (key : List ℕ) (s : HeldSlot) (part : ℕ) → slot_at key slots ≡ Some s → cond (s.value.part == part) s.value.weight 0 + weight_of_part part (values_in (slots_without key slots)) ≡ get_or weights part 0
+  weights-split : (key : List ℕ) (s : HeldSlot) (part : ℕ) → slot_of_key key slots ≡ Some s → cond (s.value.part == part) s.value.weight 0 + weight_of_part part (values_in (slots_without key slots)) ≡ get_or weights part 0
   weights-split key s part e =
       ap (λ vs. cond (s.value.part == part) s.value.weight 0 + weight_of_part part vs) (value-without key slots)
       ∙ weight-without key part (values_in slots) s.value (value-found key slots s e) ∙ sym (k.weighed part)
 
-  own-weight : (key : List ℕ) (s : HeldSlot) → slot_at key slots ≡ Some s → s.value.weight + weight_of_part s.value.part (values_in (slots_without key slots)) ≡ get_or weights s.value.part 0
+  own-weight : (key : List ℕ) (s : HeldSlot) → slot_of_key key slots ≡ Some s → s.value.weight + weight_of_part s.value.part (values_in (slots_without key slots)) ≡ get_or weights s.value.part 0
   own-weight key s e = ap (λ b. cond b s.value.weight 0 + weight_of_part s.value.part (values_in (slots_without key slots))) (sym (eq-eqb s.value.part s.value.part refl)) ∙ weights-split key s s.value.part e
 
-  all-weight : (key : List ℕ) (s : HeldSlot) → slot_at key slots ≡ Some s → s.value.weight + sum_by (λ v. v.weight) (values_in (slots_without key slots)) ≡ total
+  all-weight : (key : List ℕ) (s : HeldSlot) → slot_of_key key slots ≡ Some s → s.value.weight + sum_by (λ v. v.weight) (values_in (slots_without key slots)) ≡ total
   all-weight key s e =
       ap (λ vs. s.value.weight + sum_by (λ v. v.weight) vs) (value-without key slots) ∙ sum-without key (values_in slots) s.value (value-found key slots s e) ∙ sym k.sum
 
-  pub enough-weight : (key : List ℕ) (s : HeldSlot) → slot_at key slots ≡ Some s → s.value.weight ≤ get_or weights s.value.part 0
+  pub enough-weight : (key : List ℕ) (s : HeldSlot) → slot_of_key key slots ≡ Some s → s.value.weight ≤ get_or weights s.value.part 0
   enough-weight key s e = let o = own-weight key s e in omega arith
 
-  pub enough-total : (key : List ℕ) (s : HeldSlot) → slot_at key slots ≡ Some s → s.value.weight ≤ total
+  pub enough-total : (key : List ℕ) (s : HeldSlot) → slot_of_key key slots ≡ Some s → s.value.weight ≤ total
   enough-total key s e = let o = all-weight key s e in omega arith
 
-  pub keeps-taken : (key : List ℕ) (s : HeldSlot) → slot_at key slots ≡ Some s
+  pub keeps-taken : (key : List ℕ) (s : HeldSlot) → slot_of_key key slots ≡ Some s
       → RepresentsHeld next marks (set weights s.value.part (get_or weights s.value.part 0 - s.value.weight)) (total - s.value.weight) (slots_without key slots)
   keeps-taken key s e = record {
     sound = all-without (λ (s : HeldSlot). nat_lt s.stamp next && nat_lt s.value.part 256) (λ s. s.value.key) key slots k.sound;
     marked = k.marked;
     marks_of_all = k.marks_of_all;
     weights_of_all = length-set weights s.value.part _ ∙ k.weights_of_all;
-    weighed = λ part. go part (s.value.part == part) refl;
+    weighed = λ part. elim (cases_Bool (s.value.part == part)) [ inl h ↦ own-part part h | inr h ↦ other-part part h ];
     sum = let a = all-weight key s e in omega arith;
   }
     where
-      go : (part : ℕ) (b : Bool) → (s.value.part == part) ≡ b → get_or (set weights s.value.part (get_or weights s.value.part 0 - s.value.weight)) part 0 ≡ weight_of_part part (values_in (slots_without key slots))
-      go part true h =
+      Weighs : ℕ → Type 0
+      Weighs part = get_or (set weights s.value.part (get_or weights s.value.part 0 - s.value.weight)) part 0 ≡ weight_of_part part (values_in (slots_without key slots))
+
+      own-part : (part : ℕ) → (s.value.part == part) ≡ true → Weighs part
+      own-part part h =
           let is = eqb-true s.value.part part h in
           let own = own-weight key s e in
-          subst (λ n. get_or (set weights s.value.part (get_or weights s.value.part 0 - s.value.weight)) n 0 ≡ weight_of_part n (values_in (slots_without key slots))) is
-          (get_or-set_same weights s.value.part _ 0 (let l = k.weights_of_all in let p = part-small key s e in omega arith) ∙ omega arith)
-      go part false h =
-          get_or-set_other weights s.value.part part _ 0 (λ same_part. differ (sym h ∙ eq-eqb s.value.part part (sym same_part)))
-          ∙ sym (weights-split key s part e) ∙ ap (λ b. cond b s.value.weight 0 + weight_of_part part (values_in (slots_without key slots))) h ∙ omega arith
-        where
-          differ : false ≡ true → ⊥
-          differ x = let y : false ≡ true = x in cc
+          subst Weighs is (get_or-set_same weights s.value.part _ 0 (let l = k.weights_of_all in let p = part-small key s e in omega arith) ∙ omega arith)
 
-  pub keeps-missed : (key : List ℕ) → slot_at key slots ≡ None → slots_without key slots ≡ slots
-  keeps-missed key e = go slots e
-    where
-      go : (xs : List HeldSlot) → slot_at key xs ≡ None → slots_without key xs ≡ xs
-      go [] e = refl
-      go (x ∷ xs) e = step (same key x.value.key) e (λ f. go xs f)
-        where
-          step : (b : Bool) → cond b (Some x) (slot_at key xs) ≡ None → (slot_at key xs ≡ None → slots_without key xs ≡ xs) → cond b xs (x ∷ slots_without key xs) ≡ x ∷ xs
-          step true e ih = absurd (none-some x (sym e))
-          step false e ih = ap (λ ys. x ∷ ys) (ih e)
+      other-part : (part : ℕ) → (s.value.part == part) ≡ false → Weighs part
+      other-part part h =
+          get_or-set_other weights s.value.part part _ 0 (λ same_part. true≢false (sym (eq-eqb s.value.part part (sym same_part)) ∙ h))
+          ∙ sym (weights-split key s part e) ∙ ap (λ b. cond b s.value.weight 0 + weight_of_part part (values_in (slots_without key slots))) h ∙ omega arith
+
+  pub keeps-missed : (key : List ℕ) → slot_of_key key slots ≡ None → slots_without key slots ≡ slots
+  keeps-missed key e = without-none (λ s. s.value.key) key slots e
 
   -- ---- a value added
 
@@ -246,7 +228,7 @@ module _ (next : ℕ) (opens : Open) (marks weights : List ℕ) (total : ℕ) (s
     marked = all-more (λ m. nat_le m next) (λ m. nat_le m (next + 1)) marks (λ m h. le-suc next m h) k.marked;
     marks_of_all = k.marks_of_all;
     weights_of_all = length-set weights s.value.part _ ∙ k.weights_of_all;
-    weighed = λ part. go part (s.value.part == part) refl;
+    weighed = λ part. elim (cases_Bool (s.value.part == part)) [ inl h ↦ own-part part h | inr h ↦ other-part part h ];
     sum = ap (λ n. n + s.value.weight) k.sum ∙ sym (sum_by_push (λ v. v.weight) (values_in slots) s.value) ∙ ap (sum_by (λ v. v.weight)) values_more;
   }
     where
@@ -259,19 +241,21 @@ module _ (next : ℕ) (opens : Open) (marks weights : List ℕ) (total : ℕ) (s
       pushed : (part : ℕ) → get_or weights part 0 + cond (s.value.part == part) s.value.weight 0 ≡ weight_of_part part (values_in (slots ++ s ∷ []))
       pushed part = ap (λ n. n + cond (s.value.part == part) s.value.weight 0) (k.weighed part) ∙ sym (weight-push part (values_in slots) s.value) ∙ ap (weight_of_part part) values_more
 
-      go : (part : ℕ) (b : Bool) → (s.value.part == part) ≡ b → get_or (set weights s.value.part (get_or weights s.value.part 0 + s.value.weight)) part 0 ≡ weight_of_part part (values_in (slots ++ s ∷ []))
-      go part true h =
+      Weighs : ℕ → Type 0
+      Weighs part = get_or (set weights s.value.part (get_or weights s.value.part 0 + s.value.weight)) part 0 ≡ weight_of_part part (values_in (slots ++ s ∷ []))
+
+      own-part : (part : ℕ) → (s.value.part == part) ≡ true → Weighs part
+      own-part part h =
           let is = eqb-true s.value.part part h in
-          subst (λ n. get_or (set weights s.value.part (get_or weights s.value.part 0 + s.value.weight)) n 0 ≡ weight_of_part n (values_in (slots ++ s ∷ []))) is
+          subst Weighs is
           (get_or-set_same weights s.value.part _ 0 (let l = k.weights_of_all in omega arith)
           ∙ ap (λ b. get_or weights s.value.part 0 + cond b s.value.weight 0) (sym (eq-eqb s.value.part s.value.part refl)) ∙ pushed s.value.part)
-      go part false h =
-          get_or-set_other weights s.value.part part _ 0 (λ same_part. differ (sym h ∙ eq-eqb s.value.part part (sym same_part)))
+
+      other-part : (part : ℕ) → (s.value.part == part) ≡ false → Weighs part
+      other-part part h =
+          get_or-set_other weights s.value.part part _ 0 (λ same_part. true≢false (sym (eq-eqb s.value.part part (sym same_part)) ∙ h))
           ∙ plus_none (get_or weights part 0) ∙ ap (λ b. get_or weights part 0 + cond b s.value.weight 0) (sym h) ∙ pushed part
         where
-          differ : false ≡ true → ⊥
-          differ x = let y : false ≡ true = x in cc
-
           plus_none : (n : ℕ) → n ≡ n + 0
           plus_none n = omega arith
 
@@ -287,12 +271,7 @@ module _ (next : ℕ) (opens : Open) (marks weights : List ℕ) (total : ℕ) (s
     mark_then = if over then next else (if anew then 0 else get_or marks part 0)
 
     mark-past : mark_then ≤ next
-    mark-past = go over anew
-      where
-        go : (o a : Bool) → (if o then next else (if a then 0 else get_or marks part 0)) ≤ next
-        go true a = omega arith
-        go false true = omega arith
-        go false false = get-past marks part k.marked
+    mark-past = let past = get-past marks part k.marked in grind (arith, past)
 
     pub keeps-marked : RepresentsHeld next (set marks part mark_then) weights total slots
     keeps-marked = record {
@@ -307,33 +286,30 @@ module _ (next : ℕ) (opens : Open) (marks weights : List ℕ) (total : ℕ) (s
     pub view-marked : map (held_by opens (set marks part mark_then)) slots ≡ map (marked_in part over anew) (map (held_by opens marks) slots)
     view-marked =
         map-all (λ (s : HeldSlot). nat_lt s.stamp next && nat_lt s.value.part 256) (held_by opens (set marks part mark_then)) (λ s. marked_in part over anew (held_by opens marks s)) slots k.sound
-        (λ s h. one s (and_parts (nat_lt s.stamp next) (nat_lt s.value.part 256) h).0 (s.value.part == part) refl)
+        (λ s h. elim (cases_Bool (s.value.part == part)) [ inl is ↦ here s (and_parts (nat_lt s.stamp next) (nat_lt s.value.part 256) h).0 is | inr is ↦ there s is ])
         ∙ sym (map-through (held_by opens marks) (marked_in part over anew) slots)
       where
         by_cases : (stamp old : ℕ) (o a : Bool) → nat_lt stamp next ≡ true → nat_lt stamp (if o then next else (if a then 0 else old)) ≡ (o || (not a && nat_lt stamp old))
-        by_cases stamp old true a h = h
-        by_cases stamp old false true h = not-lt stamp 0 (omega arith)
-        by_cases stamp old false false h = refl
+        by_cases stamp old o a h = grind (arith, nat_tests, h)
 
-        one : (s : HeldSlot) → nat_lt s.stamp next ≡ true → (b : Bool) → (s.value.part == part) ≡ b → held_by opens (set marks part mark_then) s ≡ marked_in part over anew (held_by opens marks s)
-        one s h true is =
+        here : (s : HeldSlot) → nat_lt s.stamp next ≡ true → (s.value.part == part) ≡ true → held_by opens (set marks part mark_then) s ≡ marked_in part over anew (held_by opens marks s)
+        here s h is =
             let e = eqb-true s.value.part part is in
             ap (λ m. record (held_by opens marks s) { evictable = nat_lt s.stamp m })
             (ap (λ p. get_or (set marks part mark_then) p 0) e ∙ get_or-set_same marks part mark_then 0 (let l = k.marks_of_all in omega arith))
             ∙ ap (λ b. record (held_by opens marks s) { evictable = b })
             (by_cases s.stamp (get_or marks part 0) over anew h ∙ ap (λ p. over || (not anew && nat_lt s.stamp (get_or marks p 0))) (sym e))
             ∙ sym (ap (λ b. if b then record (held_by opens marks s) { evictable = over || (not anew && nat_lt s.stamp (get_or marks s.value.part 0)) } else held_by opens marks s) is)
-        one s h false is =
+
+        there : (s : HeldSlot) → (s.value.part == part) ≡ false → held_by opens (set marks part mark_then) s ≡ marked_in part over anew (held_by opens marks s)
+        there s is =
             ap (λ m. record (held_by opens marks s) { evictable = nat_lt s.stamp m })
-            (get_or-set_other marks part s.value.part mark_then 0 (λ same_part. differ (sym is ∙ eq-eqb s.value.part part same_part)))
+            (get_or-set_other marks part s.value.part mark_then 0 (λ same_part. true≢false (sym (eq-eqb s.value.part part same_part) ∙ is)))
             ∙ sym (ap (λ b. if b then record (held_by opens marks s) { evictable = over || (not anew && nat_lt s.stamp (get_or marks s.value.part 0)) } else held_by opens marks s) is)
-          where
-            differ : false ≡ true → ⊥
-            differ x = let y : false ≡ true = x in cc
 
 -- ---- values by key
 
-pub find-held : (opens : Open) (marks : List ℕ) (key : List ℕ) (slots : List HeldSlot) → find (λ h. same key h.value.key) (map (held_by opens marks) slots) ≡ option_map (held_by opens marks) (slot_at key slots)
+pub find-held : (opens : Open) (marks : List ℕ) (key : List ℕ) (slots : List HeldSlot) → find (λ h. same key h.value.key) (map (held_by opens marks) slots) ≡ option_map (held_by opens marks) (slot_of_key key slots)
 find-held opens marks key slots = find-map (held_by opens marks) (λ (h : HeldValue). same key h.value.key) slots
 
 pub without-held : (opens : Open) (marks : List ℕ) (key : List ℕ) (slots : List HeldSlot) → without_key (λ h. h.value.key) key (map (held_by opens marks) slots) ≡ map (held_by opens marks) (slots_without key slots)
@@ -344,8 +320,8 @@ none-of f None e = refl
 none-of f (Some x) e = absurd (none-some (f x) (sym e))
 
 -- no slot has the key where no value does
-pub absent-slot : (opens : Open) (marks : List ℕ) (key : List ℕ) (slots : List HeldSlot) → find (λ h. same key h.value.key) (map (held_by opens marks) slots) ≡ None → slot_at key slots ≡ None
-absent-slot opens marks key slots e = none-of (held_by opens marks) (slot_at key slots) (sym (find-held opens marks key slots) ∙ e)
+pub absent-slot : (opens : Open) (marks : List ℕ) (key : List ℕ) (slots : List HeldSlot) → find (λ h. same key h.value.key) (map (held_by opens marks) slots) ≡ None → slot_of_key key slots ≡ None
+absent-slot opens marks key slots e = none-of (held_by opens marks) (slot_of_key key slots) (sym (find-held opens marks key slots) ∙ e)
 
 pub on-ok : {T E : Type 0} (r : Result T E) {A B : Type 0} → (A → B) → OnOk r A → OnOk r B
 on-ok (Ok x) f a = f a
@@ -369,7 +345,7 @@ keeps-more next opens marks weights total slots k s held after more sums sum is 
     (keeps-added next opens marks weights total slots k t refl small))))
 
 -- what stands beside a key is seen as before where no other key was opened or closed
-pub view-beside : (after before : Open) (marks : List ℕ) (key : List ℕ) (slots : List HeldSlot) → ((q : List ℕ) → same key q ≡ false → is_open_key q after ≡ is_open_key q before) → slot_at key slots ≡ None
+pub view-beside : (after before : Open) (marks : List ℕ) (key : List ℕ) (slots : List HeldSlot) → ((q : List ℕ) → same key q ≡ false → is_open_key q after ≡ is_open_key q before) → slot_of_key key slots ≡ None
     → map (held_by after marks) slots ≡ map (held_by before marks) slots
 view-beside after before marks key [] others e = refl
 view-beside after before marks key (s ∷ slots) others e = let next = view-beside after before marks key slots others in grind (arith, e, next)
@@ -379,17 +355,12 @@ pub view-covered : (after before : Open) (marks : List ℕ) (prefix : List ℕ) 
     → map (held_by after marks) slots ≡ map (value_covered_by prefix) (map (held_by before marks) slots)
 view-covered after before marks prefix [] closed = refl
 view-covered after before marks prefix (s ∷ slots) closed =
-    ap (λ b. record (held_by before marks s) { covered = b } ∷ map (held_by after marks) slots) (ap not (closed s.value.key) ∙ go (starts_with nat_eq s.value.key prefix) (is_open_key s.value.key before))
-    ∙ ap (λ hs. value_covered_by prefix (held_by before marks s) ∷ hs) (view-covered after before marks prefix slots closed)
-  where
-    go : (b o : Bool) → not (not b && o) ≡ (not o || b)
-    go true true = refl
-    go true false = refl
-    go false true = refl
-    go false false = refl
+    let ih = view-covered after before marks prefix slots closed in
+    let own = closed s.value.key in
+    grind (arith, ih, own)
 
 pub view-more : (next : ℕ) (after before : Open) (marks weights : List ℕ) (total : ℕ) (slots : List HeldSlot) → RepresentsHeld next marks weights total slots
-    → (s : HeldSlot) (held : HeldValue) → s ≡ record { value = held.value; last_use = held.last_use; stamp = next } → slot_at held.value.key slots ≡ None
+    → (s : HeldSlot) (held : HeldValue) → s ≡ record { value = held.value; last_use = held.last_use; stamp = next } → slot_of_key held.value.key slots ≡ None
     → ((q : List ℕ) → is_open_key q after ≡ cond (same held.value.key q) true (is_open_key q before)) → held.covered ≡ false → held.evictable ≡ false
     → map (held_by after marks) (slots ++ s ∷ []) ≡ map (held_by before marks) slots ++ held ∷ []
 view-more next after before marks weights total slots k s held is absent opened c m =
@@ -400,9 +371,9 @@ view-more next after before marks weights total slots k s held is absent opened 
     (ap (λ (x : HeldSlot). is_open_key x.value.key after) is ∙ opened held.value.key ∙ ap (λ b. cond b true (is_open_key held.value.key before)) ((bytes_eq-Decides held.value.key held.value.key).1 refl)) c m)
 
 -- the slot that is found is the key's own
-pub found-key : (key : List ℕ) (slots : List HeldSlot) (s : HeldSlot) → slot_at key slots ≡ Some s → key ≡ s.value.key
+pub found-key : (key : List ℕ) (slots : List HeldSlot) (s : HeldSlot) → slot_of_key key slots ≡ Some s → key ≡ s.value.key
 found-key key slots s e = (bytes_eq-Decides key s.value.key).0 (go slots e)
   where
-    go : (xs : List HeldSlot) → slot_at key xs ≡ Some s → same key s.value.key ≡ true
+    go : (xs : List HeldSlot) → slot_of_key key xs ≡ Some s → same key s.value.key ≡ true
     go [] e = absurd (none-some s e)
     go (x ∷ xs) e = let next = go xs in grind (arith, e, next)

@@ -1,13 +1,11 @@
 -- Entries as keys with parts.
-use Rattle.std.proofs.Common.{arith, ◌≡◌, ℕ, Bool, true, false, cond, List, [], ◌∷◌, ◌++◌, option_map, Some, None, refl, sym, ap, if◌then◌else◌}
-use Rattle.std.specs.List.{find}
+use Rattle.std.proofs.Common.{arith, ◌≡◌, ℕ, Bool, List, [], ◌∷◌, ◌++◌, None, refl}
 use Rattle.std.specs.Map.{lookup}
 use Rattle.std.specs.declared.vec.Vec.{Vec}
 use Rattle.std.specs.declared.alloc.Global.{Global}
-use Rattle.std.proofs.lemmas.Option.{none-some}
 use Rattle.audit_model.specs.Bytewise.{same}
 use Rattle.indexmap.specs.IndexMap.{insert_entry}
-use Rattle.audit_situation.specs.Held.Known.{KeyPart, parts_of, part_of_key}
+use Rattle.audit_situation.specs.Held.Known.{parts_of, part_of_key}
 use Rattle.std.proofs.lemmas.Bool.Decides.{nat_tests}
 
 abbrev pub Entry : Type 0

@@ -1,9 +1,8 @@
 -- The values of a table as they are lent, in the order of their numbers.
-use Rattle.std.proofs.Common.{◌≡◌, refl, sym, ap, ◌∙◌, subst, ℕ, ◌==◌, Bool, true, false, cond, not, nat_lt, List, [], ◌∷◌, ◌++◌, map, if◌then◌else◌, true≢false}
+use Rattle.std.proofs.Common.{arith, ◌≡◌, refl, sym, ap, ◌∙◌, subst, ℕ, ◌==◌, true, not, nat_lt, List, [], ◌∷◌, ◌++◌, map}
 use Rattle.std.specs.BTreeMap.{insert_entry}
 use Rattle.std.specs.List.{list_all}
-use Rattle.std.specs.Ordering.{nat_cmp, match_ordering}
-use Rattle.std.specs.declared.cmp.Ordering.TheVariants.{Less, Equal, Greater}
+use Rattle.std.specs.Ordering.{nat_cmp}
 use Rattle.std.proofs.lemmas.Bool.{and_parts, not-true}
 use Rattle.std.proofs.lemmas.List.{map-append, append-nil, append_assoc}
 use Rattle.audit_model.specs.Situation.{HeldValue}
@@ -26,14 +25,9 @@ insert_is : (es : List (ℕ × Seen)) (n : ℕ) (s : Seen) → list_all (λ p. n
 insert_is [] n s h = refl
 insert_is (e ∷ es) n s h =
     let p = and_parts (not (n == e.0)) (list_all (λ p. not (n == p.0)) (shown es)) h in
-    go (nat_lt n e.0) (n == e.0) (not-true _ p.0) (insert_is es n s p.1)
-  where
-    go : (l q : Bool) → q ≡ false → shown (insert_entry nat_cmp es n s) ≡ put_ranked nat_lt by_number (n, held_of s) (shown es)
-        → shown (match_ordering (cond l Less (cond q Equal Greater)) ((n, s) ∷ e ∷ es) ((e.0, s) ∷ es) (e ∷ insert_entry nat_cmp es n s))
-        ≡ (if l then (n, held_of s) ∷ shown (e ∷ es) else (e.0, held_of e.1) ∷ put_ranked nat_lt by_number (n, held_of s) (shown es))
-    go true q f ih = refl
-    go false true f ih = absurd (true≢false f)
-    go false false f ih = ap (λ l. (e.0, held_of e.1) ∷ l) ih
+    let own = not-true _ p.0 in
+    let ih = insert_is es n s p.1 in
+    grind (arith, own, ih)
 
 module _ (keys : Open) (marks : List ℕ) (table : List HeldSlot) where
   abbrev numbered : Entry → ℕ × HeldValue

@@ -1,18 +1,18 @@
 -- A table's entries as slots.
-use Rattle.std.proofs.Common.{inr, inl, ◌≡◌, ℕ, suc, ◌==◌, Bool, cond, true, false, not, nat_lt, List, [], ◌∷◌, ◌++◌, map, length, Option, option_map, Some, None, Result, Ok, Err, OnOk, OnErr, Bor, refl, sym, ap, ◌∙◌, arith, if◌then◌else◌}
+use Rattle.std.proofs.Common.{inr, inl, ◌≡◌, ℕ, suc, ◌==◌, Bool, cond, true, not, nat_lt, List, [], ◌∷◌, ◌++◌, map, length, Option, option_map, Some, None, Result, Ok, Err, OnOk, OnErr, Bor, refl, sym, ap, ◌∙◌, arith, if◌then◌else◌}
 use Rattle.std.specs.Option.{option_copied}
 use Rattle.std.specs.Map.{keys_of, lookup, lookup_key, set_value}
 use Rattle.std.specs.List.{find, list_all}
 use Rattle.std.specs.declared.vec.Vec.{Vec}
 use Rattle.std.specs.declared.alloc.Global.{Global}
 use Rattle.std.proofs.lemmas.Option.{none-some}
-use Rattle.std.proofs.lemmas.Bool.{cases_Bool, not-true, and_parts, and_from, false_from_ne_true, both_ways, ltb-true, le-ltb, ne_eqb}
+use Rattle.std.proofs.lemmas.Bool.{cases_Bool, not-true, and_parts, and_from, ltb-true, le-ltb, ne_eqb}
 use Rattle.std.proofs.lemmas.List.{map-append}
 use Rattle.std.proofs.lemmas.Slice.Eq.{bytes_eq-Decides}
 use Rattle.indexmap.specs.IndexMap.{insert_entry, swap_remove_entry}
 use Rattle.audit_model.specs.Bytewise.{same}
 use Rattle.audit_situation.specs.Listings.{are_apart, put_ranked}
-use Rattle.audit_situation.specs.Held.Slots.{HeldSlot, Entry, slot_of, slots_of, oldest_first, slot_at, slots_without, slot_used_at, have_keys_apart, have_stamps_apart}
+use Rattle.audit_situation.specs.Held.Slots.{HeldSlot, Entry, slot_of, slots_of, oldest_first, slot_of_key, slots_without, slot_used_at, have_keys_apart, have_stamps_apart}
 use Rattle.audit_situation.specs.declared.held.kept.StoredValue.{StoredValue}
 use Rattle.audit_situation.proofs.Ranked.{flip, swap_out, swapped_is, swap_out-map, none-found, found-none, none-out, apart-snoc, apart-out, apart-map, gone-out, rising, ranked-find, ranked-all, all-ranked, ranked-length, ranked-map, ranked-newest_last, swapped-out, found-passes}
 use Rattle.audit_situation.proofs.held.Pushing.{without-none}
@@ -34,11 +34,7 @@ equal : (a b : List ℕ) → same a b ≡ true → a ≡ b
 equal a b e = (bytes_eq-Decides a b).0 e
 
 turned : (a b : List ℕ) → same a b ≡ same b a
-turned a b = go (same a b) refl
-  where
-    go : (x : Bool) → same a b ≡ x → x ≡ same b a
-    go true e = sym ((bytes_eq-Decides b a).1 (sym ((bytes_eq-Decides a b).0 e)))
-    go false e = sym (false_from_ne_true (same b a) (λ f. both_ways (same a b) e ((bytes_eq-Decides a b).1 (sym ((bytes_eq-Decides b a).0 f)))))
+turned a b = let one = bytes_eq-Decides a b in let other = bytes_eq-Decides b a in grind (arith, one, other)
 
 passes : (key : List ℕ) (s t : HeldSlot) → of_key key s ≡ true → of_key key t ≡ true → same_keys s t ≡ true
 passes key s t h k = (bytes_eq-Decides s.value.key t.value.key).1 (sym (equal key s.value.key h) ∙ equal key t.value.key k)
@@ -55,15 +51,15 @@ stamps-apart es a = apart-map item_of (λ s t. s.stamp == t.stamp) es ∙ a
 
 -- ---- look-ups
 
-lookup_is : (key : List ℕ) (es : List Entry) → option_map (slot_of key) (lookup (is_at key) es) ≡ slot_at key (slots_of es)
+lookup_is : (key : List ℕ) (es : List Entry) → option_map (slot_of key) (lookup (is_at key) es) ≡ slot_of_key key (slots_of es)
 lookup_is key [] = refl
 lookup_is key (e ∷ es) = elim (cases_Bool (same key e.0.items)) [ inl is ↦ rw is (ap (λ k. Some (slot_of k e.1)) (equal key e.0.items is)) | inr is ↦ rw is (lookup_is key es) ]
 
-pub found_is : (key : List ℕ) (es : List Entry) → have_keys_apart es ≡ true → option_map (slot_of key) (lookup (is_at key) es) ≡ slot_at key (oldest_first (slots_of es))
+pub found_is : (key : List ℕ) (es : List Entry) → have_keys_apart es ≡ true → option_map (slot_of key) (lookup (is_at key) es) ≡ slot_of_key key (oldest_first (slots_of es))
 found_is key es a = lookup_is key es ∙ sym (ranked-find nat_lt (λ s. s.stamp) same_keys (of_key key) (passes key) (slots_of es) (slots-apart es a))
 
 -- what a look-up lends
-pub lent_is : (key : List ℕ) (es : List Entry) (r : Option (Bor StoredValue)) → have_keys_apart es ≡ true → option_copied r ≡ lookup (is_at key) es → option_map (λ k. slot_of key k.now) r ≡ slot_at key (oldest_first (slots_of es))
+pub lent_is : (key : List ℕ) (es : List Entry) (r : Option (Bor StoredValue)) → have_keys_apart es ≡ true → option_copied r ≡ lookup (is_at key) es → option_map (λ k. slot_of key k.now) r ≡ slot_of_key key (oldest_first (slots_of es))
 lent_is key es None a e = ap (option_map (slot_of key)) e ∙ found_is key es a
 lent_is key es (Some k) a e = ap (option_map (slot_of key)) e ∙ found_is key es a
 
@@ -72,15 +68,15 @@ key-found key [] k e = absurd (none-some k e)
 key-found key (d ∷ es) k e = let next = key-found key es k in grind (arith, nat_tests, e, next)
 
 -- what a removal gives
-pub taken_is : (key : List ℕ) (es : List Entry) (r : Option Entry) → have_keys_apart es ≡ true → option_map (λ e. e.0) r ≡ lookup_key (is_at key) es → option_map (λ e. e.1) r ≡ lookup (is_at key) es → option_map item_of r ≡ slot_at key (oldest_first (slots_of es))
+pub taken_is : (key : List ℕ) (es : List Entry) (r : Option Entry) → have_keys_apart es ≡ true → option_map (λ e. e.0) r ≡ lookup_key (is_at key) es → option_map (λ e. e.1) r ≡ lookup (is_at key) es → option_map item_of r ≡ slot_of_key key (oldest_first (slots_of es))
 taken_is key es None a k v = ap (option_map (slot_of key)) v ∙ found_is key es a
 taken_is key es (Some e) a k v = ap (λ n. Some (slot_of n e.1)) (sym (equal key e.0.items (key-found key es e.0 (sym k)))) ∙ ap (option_map (slot_of key)) v ∙ found_is key es a
 
-none-lookup : (key : List ℕ) (es : List Entry) → slot_at key (slots_of es) ≡ None → lookup (is_at key) es ≡ None
+none-lookup : (key : List ℕ) (es : List Entry) → slot_of_key key (slots_of es) ≡ None → lookup (is_at key) es ≡ None
 none-lookup key [] n = refl
 none-lookup key (e ∷ es) n = let next = none-lookup key es in grind (arith, nat_tests, n, next)
 
-pub none-there : (key : List ℕ) (es : List Entry) → slot_at key (oldest_first (slots_of es)) ≡ None → lookup (is_at key) es ≡ None
+pub none-there : (key : List ℕ) (es : List Entry) → slot_of_key key (oldest_first (slots_of es)) ≡ None → lookup (is_at key) es ≡ None
 none-there key es n = none-lookup key es (none-found (of_key key) (slots_of es) (all-ranked nat_lt (λ s. s.stamp) (λ s. not (of_key key s)) (slots_of es) (found-none (of_key key) (oldest_first (slots_of es)) n)))
 
 -- ---- an entry removed, whose place the last one takes
@@ -118,9 +114,9 @@ left key slots a b = go (find (of_key key) slots) refl
 pub left_is : (key : List ℕ) (es : List Entry) → have_keys_apart es ≡ true → have_stamps_apart es ≡ true → oldest_first (slots_of (swap_remove_entry (is_at key) es)) ≡ slots_without key (oldest_first (slots_of es))
 left_is key es a b = ap oldest_first (slots-out key es) ∙ left key (slots_of es) (slots-apart es a) (stamps-apart es b)
 
-pub gone : (key : List ℕ) (es : List Entry) → have_keys_apart es ≡ true → have_stamps_apart es ≡ true → slot_at key (slots_without key (oldest_first (slots_of es))) ≡ None
+pub gone : (key : List ℕ) (es : List Entry) → have_keys_apart es ≡ true → have_stamps_apart es ≡ true → slot_of_key key (slots_without key (oldest_first (slots_of es))) ≡ None
 gone key es a b =
-    ap (slot_at key) (sym (left key (slots_of es) (slots-apart es a) (stamps-apart es b)))
+    ap (slot_of_key key) (sym (left key (slots_of es) (slots-apart es a) (stamps-apart es b)))
     ∙ none-found (of_key key) (oldest_first (swap_out (of_key key) (slots_of es)))
     (ranked-all nat_lt (λ s. s.stamp) (λ s. not (of_key key s)) (swap_out (of_key key) (slots_of es)) (gone-out same_keys (of_key key) (passes key) (slots_of es) (slots-apart es a)))
 
@@ -179,23 +175,18 @@ module _ (es : List Entry) (key : Vec ℕ Global) (kept : StoredValue) where
   abbrev more : List Entry
   more = es ++ (key, kept) ∷ []
 
-  pub inserted : slot_at key.items (oldest_first (slots_of es)) ≡ None → insert_entry (λ (x y : Vec ℕ Global). same x.items y.items) es key kept ≡ more
+  pub inserted : slot_of_key key.items (oldest_first (slots_of es)) ≡ None → insert_entry (λ (x y : Vec ℕ Global). same x.items y.items) es key kept ≡ more
   inserted n = go es (none-there key.items es n)
     where
-      at : (d : Entry) (ds : List Entry) (b : Bool) → cond b (Some d.1) (lookup (is_at key.items) ds) ≡ None → (lookup (is_at key.items) ds ≡ None → insert_entry (λ (x y : Vec ℕ Global). same x.items y.items) ds key kept ≡ ds ++ (key, kept) ∷ [])
-          → (if b then (d.0, kept) ∷ ds else d ∷ insert_entry (λ (x y : Vec ℕ Global). same x.items y.items) ds key kept) ≡ d ∷ (ds ++ (key, kept) ∷ [])
-      at d ds true e ih = absurd (none-some d.1 (sym e))
-      at d ds false e ih = ap (λ l. d ∷ l) (ih e)
-
       go : (ds : List Entry) → lookup (is_at key.items) ds ≡ None → insert_entry (λ (x y : Vec ℕ Global). same x.items y.items) ds key kept ≡ ds ++ (key, kept) ∷ []
       go [] e = refl
-      go (d ∷ ds) e = at d ds (same key.items d.0.items) e (go ds)
+      go (d ∷ ds) e = let ih = go ds in grind (arith, e, ih)
 
   entries-other : (ds : List Entry) → list_all (λ s. not (of_key key.items s)) (slots_of ds) ≡ true → list_all (λ e. not (same key.items e.0.items)) ds ≡ true
   entries-other [] h = refl
   entries-other (d ∷ ds) h = let s = and_parts (not (same key.items d.0.items)) (list_all (λ s. not (of_key key.items s)) (slots_of ds)) h in and_from _ _ s.0 (entries-other ds s.1)
 
-  pub keys-more : have_keys_apart es ≡ true → slot_at key.items (oldest_first (slots_of es)) ≡ None → have_keys_apart more ≡ true
+  pub keys-more : have_keys_apart es ≡ true → slot_of_key key.items (oldest_first (slots_of es)) ≡ None → have_keys_apart more ≡ true
   keys-more a n = apart-snoc (λ d e. same d.0.items e.0.items) (λ d e. turned d.0.items e.0.items) es (key, kept) a (entries-other es (missing key.items es (none-there key.items es n)))
 
   below : list_all (λ s. nat_lt s.stamp kept.stamp) (oldest_first (slots_of es)) ≡ true → list_all (λ s. nat_lt s.stamp kept.stamp) (slots_of es) ≡ true
@@ -225,7 +216,7 @@ module _ (es : List Entry) (key : Vec ℕ Global) (kept : StoredValue) where
       ap oldest_first (map-append item_of es ((key, kept) ∷ [])) ∙ ranked-newest_last nat_lt rising (λ s. s.stamp) (slots_of es) (slot_of key.items kept) o.0 o.1
 
   -- an insertion, which may be refused
-  pub after-insert : {A E : Type 0} (fs : List Entry) (r : Result A E) → have_keys_apart es ≡ true → have_stamps_apart es ≡ true → slot_at key.items (oldest_first (slots_of es)) ≡ None
+  pub after-insert : {A E : Type 0} (fs : List Entry) (r : Result A E) → have_keys_apart es ≡ true → have_stamps_apart es ≡ true → slot_of_key key.items (oldest_first (slots_of es)) ≡ None
       → list_all (λ s. nat_lt s.stamp kept.stamp) (oldest_first (slots_of es)) ≡ true
       → OnOk r (fs ≡ insert_entry (λ (x y : Vec ℕ Global). same x.items y.items) es key kept) → OnErr r (fs ≡ es) → (have_keys_apart fs ≡ true) × (have_stamps_apart fs ≡ true)
   after-insert fs (Ok x) a b n h ok err = let is = ok ∙ inserted n in (ap have_keys_apart is ∙ keys-more a n, ap have_stamps_apart is ∙ stamps-more b h)

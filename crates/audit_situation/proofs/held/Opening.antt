@@ -11,7 +11,7 @@ use Rattle.std.specs.Cmp.Lexicographic.{slice_cmp}
 use Rattle.std.specs.Ordering.{nat_cmp, is_gt, is_eq, ordering_then, match_ordering}
 use Rattle.std.specs.declared.cmp.Ordering.{Ordering}
 use Rattle.std.specs.declared.cmp.Ordering.TheVariants.{Less, Equal, Greater}
-use Rattle.std.proofs.lemmas.Bool.{cond_both, cases_Bool, and_parts, and_from, eqb-true, eq-eqb}
+use Rattle.std.proofs.lemmas.Bool.{cond_both, cases_Bool, and_parts, and_from, eq-eqb}
 use Rattle.std.proofs.lemmas.Bool.Decides.{nat_tests}
 use Rattle.std.proofs.lemmas.Map.Text.{is_eq-slice_cmp}
 use Rattle.std.proofs.lemmas.Slice.Eq.{bytes_eq-Decides}
@@ -19,9 +19,6 @@ use Rattle.audit_model.specs.Bytewise.{same}
 use Rattle.audit_situation.specs.Held.Holds.{Open, is_open_key}
 
 -- ---- bytes in order
-
-lt-lt : (a b : ℕ) → nat_lt a b ≡ true → a < b
-lt-lt a b h = grind (arith, nat_tests)
 
 not-lt : (a b : ℕ) → b ≤ a → nat_lt a b ≡ false
 not-lt a b h = grind (arith, nat_tests)
@@ -37,12 +34,7 @@ cmp-same a = ap (λ b. cond b Less (cond (a == a) Equal Greater)) (not-lt a a (o
 
 -- a text that is not above another has no greater first byte
 first-le : (a b : ℕ) (o : Ordering) → is_gt (ordering_then (nat_cmp a b) o) ≡ false → a ≤ b
-first-le a b o h = go (nat_lt a b) (a == b) refl refl h
-  where
-    go : (l e : Bool) → nat_lt a b ≡ l → (a == b) ≡ e → is_gt (ordering_then (cond l Less (cond e Equal Greater)) o) ≡ false → a ≤ b
-    go true e l m h = let lt = lt-lt a b l in omega arith
-    go false true l m h = let is = eqb-true a b m in omega arith
-    go false false l m h = let no : true ≡ false = h in cc
+first-le a b o h = grind (arith, nat_tests, h)
 
 rest-le : (a b : ℕ) (o : Ordering) → a ≡ b → is_gt (ordering_then (nat_cmp a b) o) ≡ false → is_gt o ≡ false
 rest-le a b o is h = subst (λ c. is_gt (ordering_then c o) ≡ false) (ap (nat_cmp a) (sym is) ∙ cmp-same a) h

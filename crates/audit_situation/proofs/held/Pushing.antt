@@ -1,5 +1,5 @@
 -- Finding, leaving out and changing, one more at the end.
-use Rattle.std.proofs.Common.{arith, ◌≡◌, refl, ap, sym, Bool, cond, true, false, List, [], ◌∷◌, ◌++◌, Some, None, ℕ}
+use Rattle.std.proofs.Common.{arith, ◌≡◌, refl, ap, Bool, cond, true, false, List, [], ◌∷◌, ◌++◌, Some, None, ℕ}
 use Rattle.std.specs.List.{find}
 use Rattle.std.proofs.lemmas.Option.{none-some}
 use Rattle.audit_model.specs.Bytewise.{same}
@@ -25,12 +25,7 @@ module _ {X : Type 0} (key_of : X → List ℕ) (key : List ℕ) where
 
   pub without-behind : (xs : List X) (x : X) → find hits xs ≡ None → hits x ≡ true → without_key key_of key (xs ++ x ∷ []) ≡ xs
   without-behind [] x e h = ap (λ b. cond b [] (x ∷ [])) h
-  without-behind (y ∷ xs) x e h = go (hits y) e (λ f. without-behind xs x f h)
-    where
-      go : (b : Bool) → cond b (Some y) (find hits xs) ≡ None → (find hits xs ≡ None → without_key key_of key (xs ++ x ∷ []) ≡ xs)
-          → cond b (xs ++ x ∷ []) (y ∷ without_key key_of key (xs ++ x ∷ [])) ≡ y ∷ xs
-      go true e ih = absurd (none-some y (sym e))
-      go false e ih = ap (λ zs. y ∷ zs) (ih e)
+  without-behind (y ∷ xs) x e h = let next = without-behind xs x in grind (arith, nat_tests, e, h, next)
 
   pub without-past : (xs : List X) (x : X) → hits x ≡ false → without_key key_of key (xs ++ x ∷ []) ≡ without_key key_of key xs ++ x ∷ []
   without-past [] x h = ap (λ b. cond b [] (x ∷ [])) h

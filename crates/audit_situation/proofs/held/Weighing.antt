@@ -1,5 +1,5 @@
 -- What the values of a part weigh, one after another.
-use Rattle.std.proofs.Common.{inr, inl, ◌≡◌, ap, ◌∙◌, sym, ℕ, ◌+◌, Bool, true, false, cond, List, [], ◌∷◌, ◌++◌, Some, arith, zero-add}
+use Rattle.std.proofs.Common.{inr, inl, ◌≡◌, ap, ◌∙◌, sym, ℕ, ◌+◌, cond, List, [], ◌∷◌, ◌++◌, Some, arith, zero-add}
 use Rattle.std.specs.Prelude.{◌==◌}
 use Rattle.std.specs.List.{filter, find, sum_by}
 use Rattle.std.proofs.lemmas.List.Sums.{sum_by-cons, sum_by_push}

@@ -1,35 +1,27 @@
 -- Notes judged one after another.
 use Rattle.std.proofs.Common.{arith, ◌≡◌, refl, ap, ◌∙◌, sym, ℕ, Bool, true, false, cond, List, [], ◌∷◌, ◌++◌, map, is_none, not, ◌&&◌, ◌||◌, true≢false, Option, Some, None, option_map, if◌then◌else◌}
-use Rattle.std.specs.Prelude.{IfSome, is_some}
+use Rattle.std.specs.Prelude.{IfSome}
 use Rattle.std.specs.List.{find, list_all}
 use Rattle.std.proofs.lemmas.List.Folds.{list_all-append}
 use Rattle.std.proofs.lemmas.Option.{none-some}
 use Rattle.std.proofs.lemmas.Slice.Eq.{bytes_eq-Decides}
 use Rattle.audit_model.specs.Bytewise.{same}
 use Rattle.audit_model.specs.Commands.{Deed, is_this}
-use Rattle.audit_model.specs.Notes.{first_of, is_true_note, are_true_notes, is_succeeded, is_told_first, same_cause, first_cause, is_true_cause}
+use Rattle.audit_model.specs.Notes.{first_with_key, is_true_note, is_succeeded, is_told_first, same_cause, first_cause, is_true_cause}
 use Rattle.audit_model.specs.Situation.{HeldValue, candidate_at}
 use Rattle.audit_model.specs.Values.{without_key, is_value_of}
 use Rattle.audit_model.specs.View.{Candidate}
 use Rattle.audit_model.specs.declared.config.Config.{Config}
 use Rattle.audit_model.specs.declared.transcript.Note.{Note}
 use Rattle.audit_situation.proofs.held.Keeping.{find-map, without-map}
-use Rattle.audit_situation.specs.Notes.Scenes.{new_candidate_at, newcomer_in, rest_of, may_be_told, candidates_in, TakesFirstValue}
+use Rattle.audit_situation.specs.Notes.Scenes.{new_candidate_at, newcomer_in, newcomer_left, may_be_told, candidates_in, TakesFirstValue}
 use Rattle.audit_situation.specs.declared.notes.notes.Scene.{Scene}
 use Rattle.std.proofs.lemmas.Bool.Decides.{nat_tests}
 
 -- ---- the same bytes
 
 pub same-either : (a b : List ℕ) → same a b ≡ same b a
-same-either a b = go (same a b) (same b a) refl refl
-  where
-    turned : (x y : List ℕ) → same x y ≡ true → same y x ≡ true
-    turned x y e = (bytes_eq-Decides y x).1 (sym ((bytes_eq-Decides x y).0 e))
-
-    go : (p q : Bool) → same a b ≡ p → same b a ≡ q → same a b ≡ same b a
-    go true q e f = e ∙ sym (turned a b e)
-    go false true e f = turned b a f ∙ sym f
-    go false false e f = e ∙ sym f
+same-either a b = let one = bytes_eq-Decides a b in let other = bytes_eq-Decides b a in grind (arith, one, other)
 
 -- ---- the first of a key in two lists
 
@@ -62,10 +54,10 @@ module _ (config : Config) (now : ℕ) (key : List ℕ) (held rest : List HeldVa
   in-view : find (λ c. same key c.value.key) (map (candidate_at config now) held) ≡ option_map (candidate_at config now) first_held
   in-view = find-map (candidate_at config now) (λ c. same key c.value.key) held
 
-  pub told-old : (h : HeldValue) → first_held ≡ Some h → first_of key (may_be_told config now held rest) ≡ Some (candidate_at config now h)
+  pub told-old : (h : HeldValue) → first_held ≡ Some h → first_with_key key (may_be_told config now held rest) ≡ Some (candidate_at config now h)
   told-old h e = first-here (λ c. c.value.key) key (map (candidate_at config now) held) (map (new_candidate_at config now) rest) (candidate_at config now h) (in-view ∙ ap (option_map (candidate_at config now)) e)
 
-  pub told-new : first_held ≡ None → first_of key (may_be_told config now held rest) ≡ find (λ c. same key c.value.key) (map (new_candidate_at config now) rest)
+  pub told-new : first_held ≡ None → first_with_key key (may_be_told config now held rest) ≡ find (λ c. same key c.value.key) (map (new_candidate_at config now) rest)
   told-new e = first-there (λ c. c.value.key) key (map (candidate_at config now) held) (map (new_candidate_at config now) rest) (in-view ∙ ap (option_map (candidate_at config now)) e)
 
   pub left-old : (h : HeldValue) → first_held ≡ Some h
@@ -84,20 +76,20 @@ module _ (config : Config) (now : ℕ) (key : List ℕ) (held rest : List HeldVa
 pub taken-old : (scene : Scene) (key : List ℕ) (held : List HeldValue) (left : Bool) (h : HeldValue) (others : List HeldValue)
     → find (λ h. same key h.value.key) held ≡ Some h → others ≡ without_key (λ h. h.value.key) key held → TakesFirstValue scene key held left others left
 taken-old scene key held left h others e o = record {
-  told = ap (λ hs. candidates_in scene hs left) o ∙ left-old scene.config.now scene.moment key held (rest_of left (newcomer_in scene)) h e;
-  all = ap (λ hs. hs ++ rest_of left (newcomer_in scene)) o ∙ sym (without-here (λ h. h.value.key) key held (rest_of left (newcomer_in scene)) h e);
+  told = ap (λ hs. candidates_in scene hs left) o ∙ left-old scene.config.now scene.moment key held (newcomer_left left (newcomer_in scene)) h e;
+  all = ap (λ hs. hs ++ newcomer_left left (newcomer_in scene)) o ∙ sym (without-here (λ h. h.value.key) key held (newcomer_left left (newcomer_in scene)) h e);
 }
 
 pub taken-new : (scene : Scene) (key : List ℕ) (held : List HeldValue) (left leaves : Bool) (others : List HeldValue)
-    → find (λ h. same key h.value.key) held ≡ None → others ≡ held → without_key (λ h. h.value.key) key (rest_of left (newcomer_in scene)) ≡ [] → leaves ≡ false
+    → find (λ h. same key h.value.key) held ≡ None → others ≡ held → without_key (λ h. h.value.key) key (newcomer_left left (newcomer_in scene)) ≡ [] → leaves ≡ false
     → TakesFirstValue scene key held left others leaves
 taken-new scene key held left leaves others e o w l = record {
   told =
       ap (λ hs. candidates_in scene hs leaves) o ∙ ap (λ b. candidates_in scene held b) l
-      ∙ left-new scene.config.now scene.moment key held (rest_of left (newcomer_in scene)) e w;
+      ∙ left-new scene.config.now scene.moment key held (newcomer_left left (newcomer_in scene)) e w;
   all =
-      ap (λ hs. hs ++ rest_of leaves (newcomer_in scene)) o ∙ ap (λ b. held ++ rest_of b (newcomer_in scene)) l
-      ∙ ap (λ hs. held ++ hs) (sym w) ∙ sym (without-there (λ h. h.value.key) key held (rest_of left (newcomer_in scene)) e);
+      ap (λ hs. hs ++ newcomer_left leaves (newcomer_in scene)) o ∙ ap (λ b. held ++ newcomer_left b (newcomer_in scene)) l
+      ∙ ap (λ hs. held ++ hs) (sym w) ∙ sym (without-there (λ h. h.value.key) key held (newcomer_left left (newcomer_in scene)) e);
 }
 
 pub without-none : (key : List ℕ) (held : List HeldValue) → find (λ h. same key h.value.key) held ≡ None → without_key (λ h. h.value.key) key held ≡ held
@@ -106,52 +98,24 @@ without-none key (h ∷ held) e = let next = without-none key held in grind (ari
 
 -- ---- one note after another
 
-module _ (config : Config) (held : List Candidate) (deed : Deed) where
-  abbrev rightly : List Candidate → List Note → Bool
-  rightly cs notes = are_true_notes config held deed cs notes
-
-  -- a note that is true
-  pub note-right : (cs rest : List Candidate) (note : Note) (notes : List Note)
-      → is_true_note config held deed note (first_of note.key cs) ≡ true → rest ≡ without_key (λ x. x.value.key) note.key cs
-      → rightly cs (note ∷ notes) ≡ rightly rest notes
-  note-right cs rest note notes t r =
-      ap (λ b. b && rightly (without_key (λ x. x.value.key) note.key cs) notes) t ∙ ap (λ xs. rightly xs notes) (sym r)
-
-  -- one that is not
-  pub note-wrong : (cs : List Candidate) (note : Note) (notes : List Note)
-      → is_true_note config held deed note (first_of note.key cs) ≡ false → rightly cs (note ∷ notes) ≡ false
-  note-wrong cs note notes t = ap (λ b. b && rightly (without_key (λ x. x.value.key) note.key cs) notes) t
-
 -- one that tells an older value with its first cause
-pub first-true : (config : Config) (held : List Candidate) (deed : Deed) (note : Note) (c : Candidate) (b : Bool)
-    → same note.value c.value.bytes ≡ true → is_told_first deed c ≡ true → b ≡ same_cause note.cause (first_cause config held deed c)
-    → b ≡ is_true_note config held deed note (Some c)
-first-true config held deed note c b s t e =
-    e
-    ∙ sym (ap (λ x. x && (if is_told_first deed c then same_cause note.cause (first_cause config held deed c) else is_true_cause config held deed c note.cause)) s
+pub first-true : (config : Config) (held : List Candidate) (deed : Deed) (note : Note) (c : Candidate)
+    → same note.value c.value.bytes ≡ true → is_told_first deed c ≡ true → same_cause note.cause (first_cause config held deed c) ≡ is_true_note config held deed note (Some c)
+first-true config held deed note c s t =
+    sym (ap (λ x. x && (if is_told_first deed c then same_cause note.cause (first_cause config held deed c) else is_true_cause config held deed c note.cause)) s
     ∙ ap (λ x. if x then same_cause note.cause (first_cause config held deed c) else is_true_cause config held deed c note.cause) t)
 
 -- the newcomer is found where it is left
 pub new-found : (config : Config) (now : ℕ) (key : List ℕ) (left : Bool) (o : Option HeldValue) (h : HeldValue) → o ≡ Some h → left ≡ true → same key h.value.key ≡ true
-    → Some (new_candidate_at config now h) ≡ find (λ c. same key c.value.key) (map (new_candidate_at config now) (rest_of left o))
+    → Some (new_candidate_at config now h) ≡ find (λ c. same key c.value.key) (map (new_candidate_at config now) (newcomer_left left o))
 new-found config now key left o h is l s =
-    sym (ap (λ b. find (λ c. same key c.value.key) (map (new_candidate_at config now) (rest_of b o))) l
-    ∙ ap (λ o. find (λ c. same key c.value.key) (map (new_candidate_at config now) (rest_of true o))) is
+    sym (ap (λ b. find (λ c. same key c.value.key) (map (new_candidate_at config now) (newcomer_left b o))) l
+    ∙ ap (λ o. find (λ c. same key c.value.key) (map (new_candidate_at config now) (newcomer_left true o))) is
     ∙ ap (λ b. cond b (Some (new_candidate_at config now h)) None) s)
 
 pub none-map : {X Y : Type 0} (f : X → Y) (o : Option X) → is_none o ≡ is_none (option_map f o)
 none-map f None = refl
 none-map f (Some x) = refl
-
-pub none-by : {X : Type 0} (o : Option X) (b : Bool) → is_some o ≡ not b → b ≡ is_none o
-none-by None true e = refl
-none-by None false e = absurd (true≢false (sym e))
-none-by (Some x) true e = absurd (true≢false e)
-none-by (Some x) false e = refl
-
-pub not-not : (b : Bool) → not b ≡ false → b ≡ true
-not-not true e = refl
-not-not false e = absurd (true≢false e)
 
 -- ---- behind the last note
 
@@ -186,8 +150,7 @@ module _ (config : Config) (now : ℕ) (deed : Deed) (newcomer : Option HeldValu
   old-spared h = ap (λ o. not (is_value_of h.value.key o || is_this h.value.key deed.deletes)) is ∙ by_newcomer newcomer
     where
       split : (a b : Bool) → not (a || b) ≡ (not a && not b)
-      split true b = refl
-      split false b = refl
+      split a b = grind arith
 
       by_newcomer : (n : Option HeldValue) → not (is_value_of h.value.key (option_map (λ h. h.value) n) || is_this h.value.key deed.deletes) ≡ (not (is_this h.value.key (key_in n)) && not (is_this h.value.key deed.deletes))
       by_newcomer None = refl
@@ -202,10 +165,7 @@ module _ (config : Config) (now : ℕ) (deed : Deed) (newcomer : Option HeldValu
       ∙ shuffle (not (is_this h.value.key (key_in newcomer))) (not (is_this h.value.key deed.deletes)) (spared (key_in newcomer) held) (spared deed.deletes held)
     where
       shuffle : (a b c d : Bool) → ((a && b) && (c && d)) ≡ ((a && c) && (b && d))
-      shuffle true true c d = refl
-      shuffle true false true d = refl
-      shuffle true false false d = refl
-      shuffle false b c d = refl
+      shuffle a b c d = grind arith
 
   all-new : (rest : List HeldValue) → list_all (λ c. not (is_succeeded deed c)) (map (new_candidate_at config now) rest) ≡ spared deed.deletes rest
   all-new [] = refl

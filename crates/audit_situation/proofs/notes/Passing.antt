@@ -1,10 +1,10 @@
 -- What a step does to the values that stay.
 use Rattle.std.proofs.Common.{inr, inl, ◌≡◌, refl, ap, ◌∙◌, sym, ℕ, ◌+◌, Bool, true, false, cond, not, ◌&&◌, ◌||◌, List, [], ◌∷◌, ◌++◌, map, is_some, Option, Some, None, option_map, nat_lt, if◌then◌else◌, true≢false, arith}
-use Rattle.std.specs.Prelude.{◌==◌, IfSome}
+use Rattle.std.specs.Prelude.{IfSome}
 use Rattle.std.specs.List.{find, list_all}
 use Rattle.std.specs.Option.{option_to_list, option_copied}
 use Rattle.std.proofs.Math.Path.{fun_ext}
-use Rattle.std.proofs.lemmas.Bool.{cases_Bool, and_parts, eqb-true}
+use Rattle.std.proofs.lemmas.Bool.{cases_Bool, and_parts}
 use Rattle.std.proofs.lemmas.Bool.Decides.{nat_tests}
 use Rattle.std.proofs.lemmas.Option.{none-some}
 use Rattle.std.proofs.lemmas.Simd.{map-map}
@@ -99,33 +99,7 @@ module _ (config : Config) (syncs : Bool) (sized : List ℕ) (values : List Valu
   marked_below n h = if nat_lt h.value.part n then marked h else h
 
   next : (n : ℕ) (over anew : Bool) (h : HeldValue) → over ≡ is_over config n values → anew ≡ (syncs || is_among sized n) → marked_in n over anew (marked_below n h) ≡ marked_below (n + 1) h
-  next n over anew h o a = go (nat_lt h.value.part n) (h.value.part == n) (nat_lt h.value.part (n + 1)) refl refl refl
-    where
-      below : nat_lt h.value.part n ≡ true → (h.value.part == n) ≡ false
-      below e = grind (arith, nat_tests)
-
-      below_more : nat_lt h.value.part n ≡ true → nat_lt h.value.part (n + 1) ≡ true
-      below_more e = grind (arith, nat_tests)
-
-      here : (h.value.part == n) ≡ true → nat_lt h.value.part (n + 1) ≡ true
-      here e = grind (arith, nat_tests)
-
-      above : nat_lt h.value.part n ≡ false → (h.value.part == n) ≡ false → nat_lt h.value.part (n + 1) ≡ false
-      above e f = grind (arith, nat_tests)
-
-      go : (b p m : Bool) → nat_lt h.value.part n ≡ b → (h.value.part == n) ≡ p → nat_lt h.value.part (n + 1) ≡ m → marked_in n over anew (marked_below n h) ≡ marked_below (n + 1) h
-      go true p m e f g =
-          ap (λ x. marked_in n over anew (if x then marked h else h)) e ∙ ap (λ x. if x then record (marked h) { evictable = over || (not anew && (marked h).evictable) } else marked h) (below e)
-          ∙ sym (ap (λ x. if x then marked h else h) (below_more e))
-      go false true m e f g =
-          let is : h.value.part ≡ n = eqb-true h.value.part n f in
-          ap (λ x. marked_in n over anew (if x then marked h else h)) e ∙ ap (λ x. if x then record h { evictable = over || (not anew && h.evictable) } else h) f
-          ∙ ap (λ x. record h { evictable = x || (not anew && h.evictable) }) (o ∙ ap (λ p. is_over config p values) (sym is))
-          ∙ ap (λ x. record h { evictable = is_over config h.value.part values || (not x && h.evictable) }) (a ∙ ap (λ p. syncs || is_among sized p) (sym is))
-          ∙ sym (ap (λ x. if x then marked h else h) (here f))
-      go false false m e f g =
-          ap (λ x. marked_in n over anew (if x then marked h else h)) e ∙ ap (λ x. if x then record h { evictable = over || (not anew && h.evictable) } else h) f
-          ∙ sym (ap (λ x. if x then marked h else h) (above e f))
+  next n over anew h o a = grind (arith, nat_tests, o, a)
 
   pub mark-next : (n : ℕ) (over anew : Bool) (held hs : List HeldValue) → over ≡ is_over config n values → anew ≡ (syncs || is_among sized n)
       → held ≡ map (marked_below n) hs → map (marked_in n over anew) held ≡ map (marked_below (n + 1)) hs

@@ -1,12 +1,12 @@
 -- What a part weighs where a newcomer has taken its key's place.
-use Rattle.std.proofs.Common.{inr, inl, ◌≡◌, refl, ap, ◌∙◌, sym, ℕ, ◌+◌, ◌-◌, ◌≤◌, ◌&&◌, Bool, true, false, cond, List, [], ◌∷◌, map, Option, Some, None, nat_lt, arith, Result, Ok, Err}
+use Rattle.std.proofs.Common.{inr, inl, ◌≡◌, refl, ap, ◌∙◌, sym, ℕ, ◌+◌, ◌-◌, ◌≤◌, ◌&&◌, List, [], ◌∷◌, map, Some, arith, Result, Ok, Err}
 use Rattle.std.specs.Prelude.{is_some, IfOk}
 use Rattle.std.specs.List.{find}
 use Rattle.std.specs.Option.{option_map_or}
 use Rattle.std.proofs.lemmas.Simd.{map-map}
 use Rattle.audit_model.specs.Bytewise.{same}
 use Rattle.audit_model.specs.Commands.{Deed}
-use Rattle.audit_model.specs.History.{Value, share}
+use Rattle.audit_model.specs.History.{Value}
 use Rattle.audit_model.specs.Notes.{is_over, just_accepted, overfills}
 use Rattle.audit_model.specs.Situation.{HeldValue, candidate_at}
 use Rattle.audit_model.specs.Values.{without_key}
@@ -37,26 +37,12 @@ accepted-weighs newcomer part older own all weight hs e f g is =
     let p = weight-push part (without_key (λ v. v.key) newcomer.value.key (values_of hs)) newcomer.value in
     omega arith
 
--- whether a part is over its share, by its share
-pub over-where : (config : Config) (part limit capacity : ℕ) (values : List Value) → config.capacity ≡ Some capacity → limit ≡ share config capacity
-    → nat_lt limit (weight_of_part part values) ≡ is_over config part values
-over-where config part limit capacity values e l = ap (λ n. nat_lt n (weight_of_part part values)) l ∙ sym (by_capacity config.capacity refl e)
-  where
-    by_capacity : (o : Option ℕ) → config.capacity ≡ o → o ≡ Some capacity → is_over config part values ≡ nat_lt (share config capacity) (weight_of_part part values)
-    by_capacity o f g = ap (λ x. is_over (record config { capacity = x }) part values) (f ∙ g)
-
-pub never-over : (config : Config) (part : ℕ) (values : List Value) → config.capacity ≡ None → is_over config part values ≡ false
-never-over config part values e = ap (λ x. is_over (record config { capacity = x }) part values) e
-
 -- which parts are over their share, where a step accepts a newcomer
 pub overfilled-some : (config : Config) (now : ℕ) (hs : List HeldValue) (deed : Deed) (value : Value) (part : ℕ) → deed.value ≡ Some value
     → is_over config part (just_accepted (values_of hs) (Some value)) ≡ overfills config (map (candidate_at config now) hs) deed part
 overfilled-some config now hs deed value part e =
     ap (λ vs. is_over config part (just_accepted vs (Some value))) (sym (map-map (λ c. c.value) (candidate_at config now) hs))
     ∙ sym (ap (λ o. is_some o && is_over config part (just_accepted (map (λ c. c.value) (map (candidate_at config now) hs)) o)) e)
-
-pub overfilled-none : (config : Config) (now : ℕ) (hs : List HeldValue) (deed : Deed) (part : ℕ) → deed.value ≡ None → false ≡ overfills config (map (candidate_at config now) hs) deed part
-overfilled-none config now hs deed part e = sym (ap (λ o. is_some o && is_over config part (just_accepted (map (λ c. c.value) (map (candidate_at config now) hs)) o)) e)
 
 -- what holds of a result that is there
 pub if-ok : {T E : Type 0} {P Q : T → Type 0} (r : Result T E) → ((x : T) → P x → Q x) → IfOk r P → IfOk r Q

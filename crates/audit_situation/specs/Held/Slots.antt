@@ -36,8 +36,8 @@ abbrev pub oldest_first : List HeldSlot → List HeldSlot
 oldest_first slots = ranked nat_lt (λ s. s.stamp) slots
 
 -- the key's slot
-abbrev pub slot_at : List ℕ → List HeldSlot → Option HeldSlot
-slot_at key slots = find (λ s. same key s.value.key) slots
+abbrev pub slot_of_key : List ℕ → List HeldSlot → Option HeldSlot
+slot_of_key key slots = find (λ s. same key s.value.key) slots
 
 -- the slots except the key's
 abbrev pub slots_without : List ℕ → List HeldSlot → List HeldSlot

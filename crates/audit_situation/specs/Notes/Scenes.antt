@@ -34,8 +34,8 @@ abbrev pub candidate_in : Scene → Told → Candidate
 candidate_in scene c = told_candidate scene.config.now scene.moment c
 
 -- the value that the step accepts, as long as no note has reported it
-abbrev pub rest_of : Bool → Option HeldValue → List HeldValue
-rest_of left newcomer = if left then option_to_list newcomer else []
+abbrev pub newcomer_left : Bool → Option HeldValue → List HeldValue
+newcomer_left left newcomer = if left then option_to_list newcomer else []
 
 -- the values that may still be reported
 abbrev pub may_be_told : Config → ℕ → List HeldValue → List HeldValue → List Candidate
@@ -45,7 +45,7 @@ may_be_told config now held rest =
 -- the same in a scene
 abbrev pub candidates_in : Scene → List HeldValue → Bool → List Candidate
 candidates_in scene held left =
-    may_be_told scene.config.now scene.moment held (rest_of left (newcomer_in scene))
+    may_be_told scene.config.now scene.moment held (newcomer_left left (newcomer_in scene))
 
 -- these were the values held before the step
 abbrev pub IsBefore : Scene → List Candidate → Type 0
@@ -54,7 +54,7 @@ IsBefore scene before = AreOverfilled scene.config.now before (deed_in scene) sc
 -- the value that the step accepts, as long as no note has reported it, as one that may be reported
 abbrev pub new_candidates_in : Scene → Bool → List Candidate
 new_candidates_in scene left =
-    map (new_candidate_at scene.config.now scene.moment) (rest_of left (newcomer_in scene))
+    map (new_candidate_at scene.config.now scene.moment) (newcomer_left left (newcomer_in scene))
 
 -- whether the note is true, if this is the value that it names, is the result
 abbrev pub IsTrueNoteOf : Scene → Note → Option Candidate → Bool → Type 0
@@ -74,12 +74,12 @@ are_told_rightly config now held done newcomer notes =
 abbrev pub LeavesUntold : List Note → Option HeldValue → List HeldValue → List HeldValue → Bool
     → Type 0
 LeavesUntold notes newcomer old new left =
-    new ++ rest_of left newcomer ≡ untold (λ h. h.value.key) notes (old ++ option_to_list newcomer)
+    new ++ newcomer_left left newcomer ≡ untold (λ h. h.value.key) notes (old ++ option_to_list newcomer)
 
 -- the key's first value was taken
 pub record TakesFirstValue (scene : Scene) (key : List ℕ) (held : List HeldValue) (left : Bool)
     (others : List HeldValue) (leaves : Bool) : Type 0 where
   pub told : candidates_in scene others leaves
       ≡ without_key (λ c. c.value.key) key (candidates_in scene held left)
-  pub all : others ++ rest_of leaves (newcomer_in scene)
-      ≡ without_key (λ h. h.value.key) key (held ++ rest_of left (newcomer_in scene))
+  pub all : others ++ newcomer_left leaves (newcomer_in scene)
+      ≡ without_key (λ h. h.value.key) key (held ++ newcomer_left left (newcomer_in scene))

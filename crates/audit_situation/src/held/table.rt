@@ -5,7 +5,7 @@ ghost use Rattle.std.specs.Option.{option_map};
 ghost use Rattle.std.specs.Map.Iter.{ShowsInOrder, deref_pair};
 ghost use Rattle.std.specs.declared.vec.Vec.{Vec as Word};
 ghost use Rattle.std.specs.declared.alloc.Global.{Global as Heap};
-ghost use Rattle.audit_situation.specs.Held.Slots.{slot_of, slots_of, oldest_first, slot_at, slots_without, slot_used_at, have_keys_apart, have_stamps_apart};
+ghost use Rattle.audit_situation.specs.Held.Slots.{slot_of, slots_of, oldest_first, slot_of_key, slots_without, slot_used_at, have_keys_apart, have_stamps_apart};
 ghost use Rattle.audit_situation.specs.declared.held.kept.StoredValue.{StoredValue as Stored};
 
 use crate::held::kept::StoredValue;
@@ -44,7 +44,7 @@ impl Table {
     /// Returns the number of values.
     pub fn len(&self) -> usize
         ensures number { result ≡ length self.now }
-        ensures apart { (key : List ℕ) → slot_at key (slots_without key self.now) ≡ None }
+        ensures apart { (key : List ℕ) → slot_of_key key (slots_without key self.now) ≡ None }
     {
         self.values.len()
     }
@@ -60,7 +60,8 @@ impl Table {
 
     /// Returns what is kept of a key's value, or `None` if there is none.
     pub fn get(&self, key: &[u8]) -> Option<&StoredValue>
-        ensures { option_map (λ kept. slot_of key.now kept.now) result ≡ slot_at key.now self.now }
+        ensures { option_map (λ kept. slot_of key.now kept.now) result
+            ≡ slot_of_key key.now self.now }
     {
         self.values.get(key)
     }
@@ -76,7 +77,7 @@ impl Table {
 
     /// Adds a value of a key that has none, as the newest. Returns an error if there is not enough memory; then nothing has changed.
     pub fn add(&mut self, key: Vec<u8>, kept: StoredValue) -> Result<(), AllocError>
-        requires absent { slot_at key.items self.old ≡ None }
+        requires absent { slot_of_key key.items self.old ≡ None }
         requires newest { list_all (λ s. nat_lt s.stamp kept.stamp) self.old ≡ true }
         ensures added { OnOk result (self.new ≡ self.old ++ slot_of key.items kept ∷ []) }
         ensures unchanged { OnErr result (self.new ≡ self.old) }
@@ -87,7 +88,8 @@ impl Table {
 
     /// Removes the value of a key, and returns it with its key, or `None` if there is none.
     pub fn take(&mut self, key: &[u8]) -> Option<(Vec<u8>, StoredValue)>
-        ensures found { option_map (λ e. slot_of e.0.items e.1) result ≡ slot_at key.now self.old }
+        ensures found { option_map (λ e. slot_of e.0.items e.1) result
+            ≡ slot_of_key key.now self.old }
         ensures rest { self.new ≡ slots_without key.now self.old }
     {
         self.values.swap_remove_entry(key)

@@ -10,7 +10,7 @@ ghost use Rattle.audit_situation.specs.Held.Seeing.{held_of};
 ghost use Rattle.audit_situation.specs.Held.Weights.{values_of};
 ghost use Rattle.audit_situation.specs.Notes.After.{has_true_notes, sized_part, values_to_tell, is_among, used_in, covered_in, marked_by, passed_on_by, AreSized, IsJustAccepted};
 ghost use Rattle.audit_situation.specs.Notes.Deeds.{covering_by, deed_with};
-ghost use Rattle.audit_situation.specs.Notes.Scenes.{rest_of, are_told_rightly, LeavesUntold};
+ghost use Rattle.audit_situation.specs.Notes.Scenes.{newcomer_left, are_told_rightly, LeavesUntold};
 
 use crate::held::{Held, Holding, Seen};
 use crate::notes::deed::{Covering, Deed};
@@ -114,7 +114,7 @@ fn add(held: &mut Holding, newcomer: Option<Held>, left: bool) -> Result<(), All
     requires new { IfSome newcomer (λ h. h ≡ newly_held h.value) }
     requires absent { IfSome newcomer
         (λ n. find (λ h. same n.value.key h.value.key) held.old ≡ None) }
-    ensures { OnOk result (held.new ≡ held.old ++ rest_of left newcomer) }
+    ensures { OnOk result (held.new ≡ held.old ++ newcomer_left left newcomer) }
 {
     match newcomer {
         Some(newcomer) => add_left(held, newcomer, left),
@@ -127,7 +127,7 @@ fn add_left(held: &mut Holding, newcomer: Held, left: bool) -> Result<(), AllocE
     requires small { newcomer.value.part < 256 }
     requires new { newcomer ≡ newly_held newcomer.value }
     requires absent { find (λ h. same newcomer.value.key h.value.key) held.old ≡ None }
-    ensures { OnOk result (held.new ≡ held.old ++ rest_of left (Some newcomer)) }
+    ensures { OnOk result (held.new ≡ held.old ++ newcomer_left left (Some newcomer)) }
 {
     if left { held.add(newcomer) } else { Ok(()) }
 }

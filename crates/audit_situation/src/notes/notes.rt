@@ -3,11 +3,11 @@ ghost use Rattle.std.specs.Prelude.{◌≡◌, ◌&&◌, ◌<◌, ◌++◌, List
 ghost use Rattle.std.specs.List.{list_all, find};
 ghost use Rattle.audit_model.specs.Bytewise.{same};
 ghost use Rattle.audit_model.specs.Commands.{is_this};
-ghost use Rattle.audit_model.specs.Notes.{same_cause, overfills, is_rewritten, is_succeeded, is_true_cause, first_cause, is_true_note, first_of, are_true_notes};
+ghost use Rattle.audit_model.specs.Notes.{same_cause, overfills, is_rewritten, is_succeeded, is_true_cause, first_cause, is_true_note, first_with_key, are_true_notes};
 ghost use Rattle.audit_model.specs.Situation.{candidate_at};
 ghost use Rattle.audit_model.specs.Values.{untold, without_key};
 ghost use Rattle.audit_model.specs.View.{Candidate as Eligible};
-ghost use Rattle.audit_situation.specs.Notes.Scenes.{candidate_in, newcomer_in, deed_in, rest_of, candidates_in, new_candidates_in, IsBefore, IsTrueNoteOf, TakesFirstValue};
+ghost use Rattle.audit_situation.specs.Notes.Scenes.{candidate_in, newcomer_in, deed_in, newcomer_left, candidates_in, new_candidates_in, IsBefore, IsTrueNoteOf, TakesFirstValue};
 
 use crate::held::{Held, Holding, Seen};
 use crate::notes::deed::{Deed, is_this};
@@ -135,7 +135,7 @@ fn is_true_of_new(scene: &Scene<'_>, left: &mut bool, note: &Note) -> bool
     ensures right { IsTrueNoteOf scene.now note.now
         (find (λ c. same note.now.key c.value.key) (new_candidates_in scene.now left.old)) result }
     ensures taken { result ≡ true → without_key (λ h. h.value.key) note.now.key
-        (rest_of left.old (newcomer_in scene.now)) ≡ [] }
+        (newcomer_left left.old (newcomer_in scene.now)) ≡ [] }
     ensures left { result ≡ true → left.new ≡ false }
 {
     match scene.newcomer {
@@ -158,7 +158,7 @@ fn is_true_of_new(scene: &Scene<'_>, left: &mut bool, note: &Note) -> bool
 fn is_true_of_first(scene: &Scene<'_>, held: &mut Holding, left: &mut bool, note: &Note) -> bool
     requires { IfSome (newcomer_in scene.now) (λ h. h.value.part < 256) }
     ensures right { IsTrueNoteOf scene.now note.now
-        (first_of note.now.key (candidates_in scene.now held.old left.old)) result }
+        (first_with_key note.now.key (candidates_in scene.now held.old left.old)) result }
     ensures taken { result ≡ true
         → TakesFirstValue scene.now note.now.key held.old left.old held.new left.new }
 {
@@ -189,7 +189,7 @@ fn is_absent(held: &Holding, key: Option<&[u8]>) -> bool
 fn spares_new(scene: &Scene<'_>, left: bool) -> bool
     ensures { result
         ≡ list_all (λ h. not (is_this h.value.key (option_map (λ k. k.now) scene.now.deed.deletes)))
-        (rest_of left (newcomer_in scene.now)) }
+        (newcomer_left left (newcomer_in scene.now)) }
 {
     match scene.newcomer {
         Some(newcomer) => !left || !is_this(newcomer.key(), scene.deed.deletes),
@@ -242,8 +242,9 @@ pub fn are_true_notes(
     ensures right { result ≡ are_true_notes scene.now.config.now
         (map (candidate_at scene.now.config.now scene.now.moment) held.old) (deed_in scene.now)
         (candidates_in scene.now held.old left.old) notes.now }
-    ensures all { result ≡ true → held.new ++ rest_of left.new (newcomer_in scene.now) ≡ untold
-        (λ h. h.value.key) notes.now (held.old ++ rest_of left.old (newcomer_in scene.now)) }
+    ensures all { result ≡ true → held.new ++ newcomer_left left.new (newcomer_in scene.now)
+        ≡ untold (λ h. h.value.key) notes.now
+        (held.old ++ newcomer_left left.old (newcomer_in scene.now)) }
     ensures absent { result ≡ true → IfSome (newcomer_in scene.now)
         (λ n. find (λ h. same n.value.key h.value.key) held.new ≡ None) }
 {

@@ -1,7 +1,7 @@
 -- What the text of a replay's inputs says.
 use Rattle.std.proofs.Common.{◌≡◌, ◌≢◌, ℕ, ◌<◌, Bool, true, false, cond, eqb, List, [], ◌∷◌, ◌++◌, length, Option, Some, None, refl, sym, ap, ◌∙◌, arith}
 use Rattle.std.specs.Prelude.{nat_eq, codes, decimal, Result, Ok, Err}
-use Rattle.std.specs.List.{flat_map}
+use Rattle.std.specs.List.{flat_map, AllByRecursion}
 use Rattle.std.specs.Str.{bytes_eq}
 use Rattle.std.proofs.lemmas.Bool.{ne_eqb, cond-true}
 use Rattle.std.proofs.lemmas.List.{append_assoc, append-nil}
@@ -17,7 +17,7 @@ use Rattle.audit_text.specs.Text.{config_words, made_words, outcome_words}
 use Rattle.audit_text.specs.Words.{line}
 use Rattle.audit_text.specs.Reader.Entries.{entry_line, entry_words_in, entry_of, entry_in, input_in, asked_of, none_begun, begin_config, begin_made, begin_input, add_entry, begin_lines, replay_of, replay_reading, IsReplay}
 use Rattle.audit_text.specs.Reader.Fields.{◌>>=◌}
-use Rattle.audit_text.specs.Reader.Fits.{Each, FitsNumber, FitsConfig, FitsOutcome}
+use Rattle.audit_text.specs.Reader.Fits.{FitsNumber, FitsConfig, FitsOutcome}
 use Rattle.audit_text.specs.Reader.Gathering.{IsReadText}
 use Rattle.audit_text.specs.Reader.Inputs.{input_words, replay_text, FitsInput, FitsReplay}
 use Rattle.audit_text.specs.Reader.Items.{event_of, feed_in_words, answer_in_words, give_up_in_words, outcome_of, value_in_words}
@@ -66,7 +66,7 @@ entry_words_in-entry (entry.Config config) fits = rw (config_of-words config fit
 entry_words_in-entry (entry.Made made) fits = rw (number_in-decimal made.nanos fits)
 entry_words_in-entry (entry.Input input) fits = entry_words_in-input input fits
 
-words-asked : (i : Input) → FitsInput i → Each IsWord (input_words i)
+words-asked : (i : Input) → FitsInput i → AllByRecursion IsWord (input_words i)
 words-asked (input.Open namespace) fits = (word-tested (codes "input") refl, (word-decimal namespace fits, (word-tested (codes "open") refl, tt)))
 words-asked (input.Close conn) fits = (word-tested (codes "input") refl, (word-decimal conn.namespace fits.0, (word-tested (codes "close") refl, (word-decimal conn.number fits.1, tt))))
 words-asked (input.Feed conn piece moment) fits =
@@ -76,7 +76,7 @@ words-asked (input.Answer load outcome moment) fits =
 words-asked (input.GiveUp load moment) fits =
     (word-tested (codes "input") refl, (word-decimal load.namespace fits.0, (word-tested (codes "giveup") refl, (word-decimal load.number fits.1, (word-decimal moment.nanos fits.2, tt)))))
 
-words-entry : (e : InputLine) → FitsEntry e → Each IsWord (entry_words e)
+words-entry : (e : InputLine) → FitsEntry e → AllByRecursion IsWord (entry_words e)
 words-entry (entry.Config config) fits = words-config config fits
 words-entry (entry.Made made) fits = (word-tested (codes "made") refl, (word-decimal made.nanos fits, tt))
 words-entry (entry.Input input) fits = words-asked input fits
@@ -116,11 +116,11 @@ input_entries (i ∷ is) = entry.Input i ∷ input_entries is
 abbrev entries : Replay → List InputLine
 entries replay = configs_then replay.configs (entry.Made replay.made ∷ input_entries replay.inputs)
 
-fits-configs : (cs : List Config) (es : List InputLine) → Each FitsConfig cs → Each FitsEntry es → Each FitsEntry (configs_then cs es)
+fits-configs : (cs : List Config) (es : List InputLine) → AllByRecursion FitsConfig cs → AllByRecursion FitsEntry es → AllByRecursion FitsEntry (configs_then cs es)
 fits-configs [] es all more = more
 fits-configs (c ∷ cs) es all more = (all.0, fits-configs cs es all.1 more)
 
-fits-inputs : (is : List Input) → Each FitsInput is → Each FitsEntry (input_entries is)
+fits-inputs : (is : List Input) → AllByRecursion FitsInput is → AllByRecursion FitsEntry (input_entries is)
 fits-inputs [] all = tt
 fits-inputs (i ∷ is) all = (all.0, fits-inputs is all.1)
 
@@ -149,7 +149,7 @@ abbrev add_entries : Begun → List InputLine → Option Begun
 add_entries b [] = Some b
 add_entries b (e ∷ es) = add_entry b e >>= (λ more. add_entries more es)
 
-lines-entries : (b : Begun) (es : List InputLine) → Each FitsEntry es → begin_lines b (said_lines (text_of es)) ≡ add_entries b es
+lines-entries : (b : Begun) (es : List InputLine) → AllByRecursion FitsEntry es → begin_lines b (said_lines (text_of es)) ≡ add_entries b es
 lines-entries b [] all = refl
 lines-entries b (e ∷ es) all = first ∙ by_sum (add_entry b e) (λ more. lines-entries more es all.1)
   where

@@ -39,18 +39,6 @@ finished-bare g m e = of_some (closed_step g) m e
 pub bare-text : (m : Gathered) → m.last ≡ None → m.step ≡ None → gathered_text (bare m) ≡ gathered_text m
 bare-text m r s = ap (λ o. gathered_text (record m { last = o; step = None })) (sym r) ∙ ap (λ o. gathered_text (record m { step = o })) (sym s)
 
-none_of : (o : Option Gathered) → option_map closed_record o ≡ None → (o >>= ended) ≡ None
-none_of None e = refl
-none_of (Some k) e = let no : Some (closed_record k) ≡ None = e in cc
-
-no-finished : (g : Gathered) → option_map closed_record (closed_step g) ≡ None → finished g ≡ None
-unfolding finished
-no-finished g e = none_of (closed_step g) e
-
-pub fault-bare : (g : Gathered) (f : LineFault) → IsFault (option_map closed_record (closed_step g)) f → IsFault (finished g) f
-fault-bare g fault.Form h = no-finished g h
-fault-bare g fault.OutOfMemory h = tt
-
 pub fault-step : (g : Gathered) (f : LineFault) → IsFault (closed_step g) f → IsFault (option_map closed_record (closed_step g)) f
 fault-step g fault.Form h = ap (option_map closed_record) h
 fault-step g fault.OutOfMemory h = tt

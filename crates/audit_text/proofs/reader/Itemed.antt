@@ -1,7 +1,7 @@
 -- What a line of the form says.
 use Rattle.std.proofs.Common.{◌≡◌, ◌≢◌, ℕ, ◌^◌, ◌<◌, Bool, true, false, cond, List, [], ◌∷◌, ◌++◌, Option, Some, None, refl, sym, ap, ◌∙◌, arith}
 use Rattle.std.specs.Prelude.{nat_lt, codes, decimal, option_map}
-use Rattle.std.specs.List.{flat_map}
+use Rattle.std.specs.List.{flat_map, AllByRecursion}
 use Rattle.std.specs.Str.{bytes_eq}
 use Rattle.std.proofs.lemmas.Bool.{lt-ltb, cond-true, cond-false}
 use Rattle.std.proofs.lemmas.List.{append-nil}
@@ -17,14 +17,14 @@ use Rattle.audit_model.specs.declared.transcript.Step.{Step}
 use Rattle.audit_text.specs.Text.{config_words, deadline_words, made_words, event_words, outcome_words, own_text, part_word, note_line, step_words, step_text}
 use Rattle.audit_text.specs.Words.{bytes_word, option_word, flag_word, held_word, policy_word, weight_word, line}
 use Rattle.audit_model.specs.Notes.{cause_word}
-use Rattle.audit_text.specs.Reader.Fields.{◌>>=◌, field, whole}
-use Rattle.audit_text.specs.Reader.Fits.{Each, IfAny, FitsNumber, FitsBytes, FitsPart, FitsConfig, FitsOutcome, FitsEvent, FitsNote, FitsStep}
+use Rattle.audit_text.specs.Reader.Fields.{◌>>=◌, field, if_no_word_left}
+use Rattle.audit_text.specs.Reader.Fits.{IfAny, FitsNumber, FitsBytes, FitsPart, FitsConfig, FitsOutcome, FitsEvent, FitsNote, FitsStep}
 use Rattle.audit_text.specs.Reader.Gathered.{item_line}
 use Rattle.audit_text.specs.Reader.Items.{config_in_words, feed_in_words, value_in_words, outcome_of, answer_in_words, give_up_in_words, event_of, note_in_words, step_in_words, item_of, words_in, item_in}
 use Rattle.audit_text.specs.Reader.Lines.{line_words, is_skipped}
 use Rattle.audit_text.specs.declared.reader.item.Item.{Item}
 use Rattle.audit_text.specs.declared.reader.item.Item.TheVariants as item
-use Rattle.audit_text.proofs.reader.Joined.{Lacks, IsWord, Each-append, joined, words-joined, lacks-joined, line-joined}
+use Rattle.audit_text.proofs.reader.Joined.{Lacks, IsWord, AllByRecursion-append, joined, words-joined, lacks-joined, line-joined}
 use Rattle.audit_text.proofs.reader.Said.{number_in-decimal, word-decimal, bytes_in-word, word-bytes, number_or_none, word-number_or_none, part_in-word, part_or_none, word-part_or_none, bytes_or_none, word-bytes_or_none, flag_in-word, held_in-word, policy_in-word, weight_in-word, cause_in-word, word-tested, word-flag, word-held, word-policy, word-weight, word-cause}
 
 -- an item that can be written
@@ -104,24 +104,24 @@ words_in-item (item.Note note) fits = rw (note_of-words note fits)
 -- ---- line_words are line_words
 
 word-setting : (name w : List ℕ) → IsWord name → IsWord w → IsWord (name ++ w)
-word-setting name w a b = Each-append (λ x. 32 < x) name w a b
+word-setting name w a b = AllByRecursion-append (λ x. 32 < x) name w a b
 
-words-note : (word : List ℕ) (note : Note) → IsWord word → Each IsWord (word ∷ note_words note)
+words-note : (word : List ℕ) (note : Note) → IsWord word → AllByRecursion IsWord (word ∷ note_words note)
 words-note word note is = (is, (word-cause note.cause, (word-bytes note.key, (word-bytes note.value, tt))))
 
-pub words-outcome : (o : Outcome) → FitsOutcome o → Each IsWord (outcome_words o)
+pub words-outcome : (o : Outcome) → FitsOutcome o → AllByRecursion IsWord (outcome_words o)
 words-outcome (outcome.Value bytes ms) fits = (word-tested (codes "value") refl, (word-bytes bytes, (word-number_or_none ms fits.1, tt)))
 words-outcome outcome.None fits = (word-tested (codes "none") refl, tt)
 words-outcome (outcome.Fault text) fits = (word-tested (codes "fault") refl, (word-bytes text, tt))
 
-words-event : (e : Event) → FitsEvent e → Each IsWord (event_words e)
+words-event : (e : Event) → FitsEvent e → AllByRecursion IsWord (event_words e)
 words-event (event.Open conn) fits = (word-tested (codes "open") refl, (word-decimal conn fits, tt))
 words-event (event.Close conn) fits = (word-tested (codes "close") refl, (word-decimal conn fits, tt))
 words-event (event.Feed conn piece moment) fits = (word-tested (codes "feed") refl, (word-decimal conn fits.0, (word-decimal moment.nanos fits.2, (word-bytes piece, tt))))
 words-event (event.Answer load outcome moment) fits = (word-tested (codes "answer") refl, (word-decimal load fits.0, (word-decimal moment.nanos fits.2, words-outcome outcome fits.1)))
 words-event (event.GiveUp load moment) fits = (word-tested (codes "giveup") refl, (word-decimal load fits.0, (word-decimal moment.nanos fits.1, tt)))
 
-pub words-config : (c : Config) → FitsConfig c → Each IsWord (config_words c)
+pub words-config : (c : Config) → FitsConfig c → AllByRecursion IsWord (config_words c)
 words-config c fits =
     let parts : c.parts < 2 ^ 64 = (let small = fits.parts in omega arith) in (
       word-tested (codes "config") refl,
@@ -149,7 +149,7 @@ words-config c fits =
       ),
     )
 
-words-item : (i : Item) → FitsItem i → Each IsWord (item_words i)
+words-item : (i : Item) → FitsItem i → AllByRecursion IsWord (item_words i)
 words-item (item.Config config) fits = words-config config fits
 words-item (item.Made made) fits = (word-tested (codes "made") refl, (word-decimal made.nanos fits, tt))
 words-item (item.Event event) fits = words-event event fits
@@ -205,7 +205,7 @@ text-item (item.Step step) fits =
     ap (λ n. line (step_words step) ++ flat_map (note_line (codes "note")) n) fits.1 ∙ append-nil (line (step_words step)) ∙ line-joined (step_words step)
 text-item (item.Note note) fits = line-joined (codes "note" ∷ note_words note)
 
-pub words-said : (ws : List (List ℕ)) → is_skipped (joined ws) ≡ false → Each IsWord ws → line_words (joined ws) ≡ ws
+pub words-said : (ws : List (List ℕ)) → is_skipped (joined ws) ≡ false → AllByRecursion IsWord ws → line_words (joined ws) ≡ ws
 words-said [] says all = cc
 words-said (w ∷ ws) says all = words-joined w ws all
 

@@ -1,7 +1,7 @@
 -- The items of a transcript, gathered.
 use Rattle.std.proofs.Common.{◌≡◌, ℕ, ◌<◌, Bool, true, false, cond, List, [], ◌∷◌, ◌++◌, Option, Some, None, refl, sym, ap, ◌∙◌}
 use Rattle.std.specs.Prelude.{codes}
-use Rattle.std.specs.List.{flat_map}
+use Rattle.std.specs.List.{flat_map, AllByRecursion}
 use Rattle.std.proofs.lemmas.List.{append_assoc, append-nil}
 use Rattle.audit_model.specs.declared.config.Config.{Config}
 use Rattle.audit_model.specs.declared.event.Event.{Event}
@@ -14,7 +14,7 @@ use Rattle.audit_model.specs.declared.transcript.Transcript.{Transcript}
 use Rattle.audit_text.specs.Text.{config_words, made_words, event_words, own_text, note_line, step_words, step_text, record_text, transcript_text}
 use Rattle.audit_text.specs.Words.{line}
 use Rattle.audit_text.specs.Reader.Fields.{◌>>=◌}
-use Rattle.audit_text.specs.Reader.Fits.{Each, IfAny, FitsPart, FitsConfig, FitsNote, FitsStep, FitsRecord, FitsTranscript}
+use Rattle.audit_text.specs.Reader.Fits.{IfAny, FitsPart, FitsConfig, FitsNote, FitsStep, FitsRecord, FitsTranscript}
 use Rattle.audit_text.specs.Reader.Gathered.{item_line}
 use Rattle.audit_text.specs.Reader.Gathering.{none_gathered, with_step, with_note, begun, add_config, add_made, add_event, add_own, add_own_note, add_step, add_note, add_item, add_lines, finished}
 use Rattle.audit_text.specs.Reader.Items.{item_in}
@@ -56,32 +56,32 @@ items config transcript = item.Config config ∷ item.Made transcript.made ∷ r
 
 -- ---- they fit
 
-fits-own : (own : Option Accepted) (is : List Item) → IfAny FitsPart own → Each FitsItem is → Each FitsItem (own_then own is)
+fits-own : (own : Option Accepted) (is : List Item) → IfAny FitsPart own → AllByRecursion FitsItem is → AllByRecursion FitsItem (own_then own is)
 fits-own None is own more = more
 fits-own (Some part) is own more = (own, more)
 
-fits-own_notes : (ns : List Note) (is : List Item) → Each FitsNote ns → Each FitsItem is → Each FitsItem (own_notes_then ns is)
+fits-own_notes : (ns : List Note) (is : List Item) → AllByRecursion FitsNote ns → AllByRecursion FitsItem is → AllByRecursion FitsItem (own_notes_then ns is)
 fits-own_notes [] is all more = more
 fits-own_notes (n ∷ ns) is all more = (all.0, fits-own_notes ns is all.1 more)
 
-fits-notes : (ns : List Note) (is : List Item) → Each FitsNote ns → Each FitsItem is → Each FitsItem (notes_then ns is)
+fits-notes : (ns : List Note) (is : List Item) → AllByRecursion FitsNote ns → AllByRecursion FitsItem is → AllByRecursion FitsItem (notes_then ns is)
 fits-notes [] is all more = more
 fits-notes (n ∷ ns) is all more = (all.0, fits-notes ns is all.1 more)
 
 fits-bare : (s : Step) → FitsStep s → FitsStep (bare s)
 fits-bare s fits = record { conn = fits.conn; line = fits.line; reply = fits.reply; load = fits.load; accepted = fits.accepted; notices = tt }
 
-fits-steps : (ss : List Step) (is : List Item) → Each FitsStep ss → Each FitsItem is → Each FitsItem (steps_then ss is)
+fits-steps : (ss : List Step) (is : List Item) → AllByRecursion FitsStep ss → AllByRecursion FitsItem is → AllByRecursion FitsItem (steps_then ss is)
 fits-steps [] is all more = more
 fits-steps (s ∷ ss) is all more = ((fits-bare s all.0, refl), fits-notes s.notices (steps_then ss is) all.0.notices (fits-steps ss is all.1 more))
 
-fits-records : (rs : List Record) → Each FitsRecord rs → Each FitsItem (record_items rs)
+fits-records : (rs : List Record) → AllByRecursion FitsRecord rs → AllByRecursion FitsItem (record_items rs)
 fits-records [] all = tt
 fits-records (r ∷ rs) all =
     let steps = fits-steps r.steps (record_items rs) all.0.steps (fits-records rs all.1) in
     (all.0.event, fits-own r.own _ all.0.own (fits-own_notes r.notices _ all.0.notices steps))
 
-pub fits-items : (config : Config) (transcript : Transcript) → FitsConfig config → FitsTranscript transcript → Each FitsItem (items config transcript)
+pub fits-items : (config : Config) (transcript : Transcript) → FitsConfig config → FitsTranscript transcript → AllByRecursion FitsItem (items config transcript)
 fits-items config transcript c t = (c, (t.made, fits-records transcript.records t.records))
 
 -- ---- their text
@@ -138,7 +138,7 @@ abbrev pub add_items : Gathered → List Item → Option Gathered
 add_items g [] = Some g
 add_items g (i ∷ is) = add_item g i >>= (λ more. add_items more is)
 
-pub lines-items : (g : Gathered) (is : List Item) → Each FitsItem is → add_lines g (said_lines (text_of is)) ≡ add_items g is
+pub lines-items : (g : Gathered) (is : List Item) → AllByRecursion FitsItem is → add_lines g (said_lines (text_of is)) ≡ add_items g is
 lines-items g [] all = refl
 lines-items g (i ∷ is) all = first (line-of i all.0) ∙ by_sum (add_item g i) (λ more. lines-items more is all.1)
   where

@@ -22,7 +22,7 @@ use Rattle.audit_model.specs.Notes.{cause_word}
 use Rattle.audit_text.specs.Text.{part_word}
 use Rattle.audit_lines.proofs.Digits.{AreDigits, number_in-fits}
 use Rattle.audit_text.specs.Reader.Fields.{◌>>=◌, option_in, part_in_words, flag_in, held_in, policy_in, weight_in_words, cause_in, digit_in, byte_in, digits_in, bytes_in}
-use Rattle.audit_text.specs.Reader.Fits.{Each, IfAny, FitsNumber, FitsBytes, FitsPart}
+use Rattle.audit_text.specs.Reader.Fits.{IfAny, FitsNumber, FitsBytes, FitsPart}
 use Rattle.audit_text.proofs.reader.Joined.{IsWord}
 use Rattle.audit_text.proofs.reader.Wording.{bytes_eq-differ}
 

@@ -10,7 +10,7 @@ use Rattle.std.proofs.lemmas.List.{append_cancel_right}
 use Rattle.std.proofs.lemmas.Slice.Eq.{bytes_eq-Decides}
 use Rattle.audit_model.specs.Bytewise.{onto_first}
 use Rattle.audit_text.specs.Reader.Lines.{pieces}
-use Rattle.audit_text.specs.Reader.Fields.{◌>>=◌, field, setting_in, words_of_rest, behind, byte_in, digits_in}
+use Rattle.audit_text.specs.Reader.Fields.{◌>>=◌, field, setting_in, words_of_rest, behind_prefix, byte_in, digits_in}
 
 onto-some : (x : ℕ) (ws : List (List ℕ)) → onto_first x ws ≢ []
 onto-some x [] = λ e. cc
@@ -31,17 +31,17 @@ left-some None none e f = λ g. cc
 left-some (Some rest) none e f = pieces-some 32 rest.now
 
 -- what stands behind a beginning
-pub behind-append : (name rest : List ℕ) → behind name (name ++ rest) ≡ Some rest
-behind-append [] rest = refl
-behind-append (n ∷ name) rest = cond-true (n == n) _ _ (eq-eqb n n refl) ∙ behind-append name rest
+pub behind_prefix-append : (name rest : List ℕ) → behind_prefix name (name ++ rest) ≡ Some rest
+behind_prefix-append [] rest = refl
+behind_prefix-append (n ∷ name) rest = cond-true (n == n) _ _ (eq-eqb n n refl) ∙ behind_prefix-append name rest
 
 -- there is no such beginning
-pub behind-none : (name word : List ℕ) → ((rest : List ℕ) → word ≢ name ++ rest) → behind name word ≡ None
-behind-none [] word other = absurd (other word refl)
-behind-none (n ∷ name) [] other = refl
-behind-none (n ∷ name) (b ∷ word) other = by_test (b == n) refl (λ o. behind-none name word o)
+pub behind_prefix-none : (name word : List ℕ) → ((rest : List ℕ) → word ≢ name ++ rest) → behind_prefix name word ≡ None
+behind_prefix-none [] word other = absurd (other word refl)
+behind_prefix-none (n ∷ name) [] other = refl
+behind_prefix-none (n ∷ name) (b ∷ word) other = by_test (b == n) refl (λ o. behind_prefix-none name word o)
   where
-    by_test : (t : Bool) → (b == n) ≡ t → (((rest : List ℕ) → word ≢ name ++ rest) → behind name word ≡ None) → cond t (behind name word) None ≡ None
+    by_test : (t : Bool) → (b == n) ≡ t → (((rest : List ℕ) → word ≢ name ++ rest) → behind_prefix name word ≡ None) → cond t (behind_prefix name word) None ≡ None
     by_test true e more = more (λ rest same. other rest (let x = eqb-true b n e in cc))
     by_test false e more = refl
 
@@ -67,9 +67,9 @@ bytes_eq-differ a b differ = by_test (bytes_eq a b) refl
     by_test false e = refl
 
 -- a setting is read off the next word
-pub setting_field : {A : Type 0} (name : List ℕ) (says : List ℕ → Option A) (ws : List (List ℕ)) → field (setting_in name says) ws ≡ (field (behind name) ws >>= (λ b. option_map {U = A × List (List ℕ)} (λ a. (a, b.1)) (says b.0)))
+pub setting_field : {A : Type 0} (name : List ℕ) (says : List ℕ → Option A) (ws : List (List ℕ)) → field (setting_in name says) ws ≡ (field (behind_prefix name) ws >>= (λ b. option_map {U = A × List (List ℕ)} (λ a. (a, b.1)) (says b.0)))
 setting_field {A = A} name says [] = refl
-setting_field {A = A} name says (w ∷ ws) = go (behind name w)
+setting_field {A = A} name says (w ∷ ws) = go (behind_prefix name w)
   where
     go : (o : Option (List ℕ)) → option_map {U = A × List (List ℕ)} (λ a. (a, ws)) (o >>= says) ≡ (option_map {U = List ℕ × List (List ℕ)} (λ b. (b, ws)) o >>= (λ b. option_map {U = A × List (List ℕ)} (λ a. (a, b.1)) (says b.0)))
     go None = refl

@@ -12,7 +12,7 @@ use Rattle.audit_model.specs.declared.input.Input.{Input}
 use Rattle.audit_model.specs.declared.input.Input.TheVariants as input
 use Rattle.audit_text.specs.Text.{config_words, made_words}
 use Rattle.audit_text.specs.Words.{line}
-use Rattle.audit_text.specs.Reader.Fields.{◌>>=◌, field, whole}
+use Rattle.audit_text.specs.Reader.Fields.{◌>>=◌, field, if_no_word_left}
 use Rattle.audit_text.specs.Reader.Inputs.{input_words}
 use Rattle.audit_text.specs.Reader.Items.{config_in_words, event_of}
 use Rattle.audit_text.specs.Reader.Lines.{line_words, said_lines}
@@ -62,7 +62,7 @@ unfoldable pub entry_words_in : List (List ℕ) → Option InputLine
 entry_words_in ws = do
   kind ← field Some ws
   said ← entry_of kind.0 kind.1
-  whole said
+  if_no_word_left said
 
 -- what a line says; it is well-formed only as it would be written
 unfoldable pub entry_in : List ℕ → Option InputLine

@@ -81,9 +81,9 @@ field says [] = None
 field says (w ∷ ws) = option_map (λ a. (a, ws)) (says w)
 
 -- what was said, if no word is left
-abbrev pub whole : {A : Type 0} → A × List (List ℕ) → Option A
-whole (a, []) = Some a
-whole (a, w ∷ ws) = None
+abbrev pub if_no_word_left : {A : Type 0} → A × List (List ℕ) → Option A
+if_no_word_left (a, []) = Some a
+if_no_word_left (a, w ∷ ws) = None
 
 -- what may be missing
 abbrev pub option_in : {A : Type 0} → (List ℕ → Option A) → List ℕ → Option (Option A)
@@ -123,20 +123,20 @@ cause_in word =
     else (if bytes_eq word (codes "Size") then Some cause.Size else None)))
 
 -- what comes after a prefix
-abbrev pub behind : List ℕ → List ℕ → Option (List ℕ)
-behind [] word = Some word
-behind (n ∷ name) [] = None
-behind (n ∷ name) (b ∷ word) = if b == n then behind name word else None
+abbrev pub behind_prefix : List ℕ → List ℕ → Option (List ℕ)
+behind_prefix [] word = Some word
+behind_prefix (n ∷ name) [] = None
+behind_prefix (n ∷ name) (b ∷ word) = if b == n then behind_prefix name word else None
 
 -- what comes after this name in the next word was returned, and the words after it are left
 abbrev pub IsSetting : List ℕ → List (List ℕ) → Result (Bor (List ℕ)) LineFault → List (List ℕ)
     → Type 0
-IsSetting name old (Ok rest) left = field (behind name) old ≡ Some (rest.now, left)
-IsSetting name old (Err f) left = IsFault (field (behind name) old) f
+IsSetting name old (Ok rest) left = field (behind_prefix name) old ≡ Some (rest.now, left)
+IsSetting name old (Err f) left = IsFault (field (behind_prefix name) old) f
 
 -- the value of a setting of this name, which ends in `=`
 abbrev pub setting_in : {A : Type 0} → List ℕ → (List ℕ → Option A) → List ℕ → Option A
-setting_in name says word = behind name word >>= says
+setting_in name says word = behind_prefix name word >>= says
 
 -- the value of a lower-case hex digit
 abbrev pub digit_in : ℕ → Option ℕ
@@ -161,4 +161,4 @@ digits_in front (high ∷ low ∷ rest) = do
 
 -- bytes: `x`, and two digits for each byte
 abbrev pub bytes_in : List ℕ → Option (List ℕ)
-bytes_in word = behind (codes "x") word >>= digits_in []
+bytes_in word = behind_prefix (codes "x") word >>= digits_in []

@@ -1,5 +1,6 @@
 -- What can be written with the program's integers.
 use Rattle.std.specs.Prelude.{◌≡◌, ℕ, ◌<◌, ◌^◌, List, [], ◌∷◌, Option, Some, None}
+use Rattle.std.specs.List.{AllByRecursion}
 use Rattle.audit_model.specs.declared.config.Config.{Config}
 use Rattle.audit_model.specs.declared.event.Event.{Event}
 use Rattle.audit_model.specs.declared.event.Event.TheVariants as event
@@ -12,11 +13,6 @@ use Rattle.audit_model.specs.declared.transcript.Step.{Step}
 use Rattle.audit_model.specs.declared.transcript.Transcript.{Transcript}
 use Rattle.audit_text.specs.Text.{transcript_text}
 
--- P holds for each
-abbrev pub Each : {A : Type 0} → (A → Type 0) → List A → Type 0
-Each P [] = Unit {0}
-Each P (x ∷ xs) = P x × Each P xs
-
 -- P holds for what is there, if anything is
 abbrev pub IfAny : {A : Type 0} → (A → Type 0) → Option A → Type 0
 IfAny P None = Unit {0}
@@ -28,7 +24,7 @@ FitsNumber n = n < 2 ^ 64
 
 -- bytes, of 8 bits each
 abbrev pub FitsBytes : List ℕ → Type 0
-FitsBytes bytes = Each (λ b. b < 256) bytes
+FitsBytes bytes = AllByRecursion (λ b. b < 256) bytes
 
 abbrev pub FitsPart : Accepted → Type 0
 FitsPart accepted = FitsNumber accepted.part
@@ -63,17 +59,17 @@ pub record FitsStep (step : Step) : Type 0 where
   pub reply : IfAny FitsBytes step.reply
   pub load : IfAny FitsNumber step.load
   pub accepted : IfAny FitsPart step.accepted
-  pub notices : Each FitsNote step.notices
+  pub notices : AllByRecursion FitsNote step.notices
 
 pub record FitsRecord (r : Record) : Type 0 where
   pub event : FitsEvent r.event
   pub own : IfAny FitsPart r.own
-  pub notices : Each FitsNote r.notices
-  pub steps : Each FitsStep r.steps
+  pub notices : AllByRecursion FitsNote r.notices
+  pub steps : AllByRecursion FitsStep r.steps
 
 pub record FitsTranscript (transcript : Transcript) : Type 0 where
   pub made : FitsNumber transcript.made.nanos
-  pub records : Each FitsRecord transcript.records
+  pub records : AllByRecursion FitsRecord transcript.records
 
 -- two transcripts with one text are one, and so are their configurations
 abbrev pub OneText : Type 0

@@ -1,11 +1,11 @@
 -- The text form of the inputs of a replay, line by line.
 use Rattle.std.specs.Prelude.{◌≡◌, ◌≢◌, ℕ, List, [], ◌∷◌, ◌++◌, codes, decimal}
-use Rattle.std.specs.List.{flat_map}
+use Rattle.std.specs.List.{flat_map, AllByRecursion}
 use Rattle.audit_model.specs.declared.input.Input.{Input}
 use Rattle.audit_model.specs.declared.input.Input.TheVariants as input
 use Rattle.audit_text.specs.Text.{config_words, made_words, outcome_words}
 use Rattle.audit_text.specs.Words.{bytes_word, line}
-use Rattle.audit_text.specs.Reader.Fits.{Each, FitsNumber, FitsBytes, FitsConfig, FitsOutcome}
+use Rattle.audit_text.specs.Reader.Fits.{FitsNumber, FitsBytes, FitsConfig, FitsOutcome}
 use Rattle.audit_text.specs.declared.reader.inputs.Replay.{Replay}
 
 -- what is asked of a namespace; an opening has no number
@@ -45,6 +45,6 @@ FitsInput (input.GiveUp load moment) =
 -- a replay that can be written: it has a configuration
 pub record FitsReplay (replay : Replay) : Type 0 where
   pub some : replay.configs ≢ []
-  pub configs : Each FitsConfig replay.configs
+  pub configs : AllByRecursion FitsConfig replay.configs
   pub made : FitsNumber replay.made.nanos
-  pub inputs : Each FitsInput replay.inputs
+  pub inputs : AllByRecursion FitsInput replay.inputs

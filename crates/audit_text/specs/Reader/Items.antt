@@ -9,7 +9,7 @@ use Rattle.audit_model.specs.declared.event.Outcome.{Outcome}
 use Rattle.audit_model.specs.declared.event.Outcome.TheVariants as outcome
 use Rattle.audit_model.specs.declared.transcript.Note.{Note}
 use Rattle.audit_model.specs.declared.transcript.Step.{Step}
-use Rattle.audit_text.specs.Reader.Fields.{◌>>=◌, field, whole, option_in, part_in_words, flag_in, held_in, policy_in, weight_in_words, cause_in, setting_in, bytes_in}
+use Rattle.audit_text.specs.Reader.Fields.{◌>>=◌, field, if_no_word_left, option_in, part_in_words, flag_in, held_in, policy_in, weight_in_words, cause_in, setting_in, bytes_in}
 use Rattle.audit_text.specs.Reader.Gathered.{item_line}
 use Rattle.audit_text.specs.Reader.Lines.{line_words}
 use Rattle.audit_text.specs.declared.reader.item.Item.{Item}
@@ -94,8 +94,8 @@ step_in_words ws = do
   Some (record { conn = conn.0; line = line.0; held = held.0; reply = reply.0; load = load.0; accepted = accepted.0; notices = [] }, accepted.1)
 
 -- a line of the head, or an event, by its kind
-abbrev pub head_of : List ℕ → List (List ℕ) → Option (Item × List (List ℕ))
-head_of kind ws =
+abbrev pub item_of_kind : List ℕ → List (List ℕ) → Option (Item × List (List ℕ))
+item_of_kind kind ws =
     if bytes_eq kind (codes "config") then option_map (λ config. (item.Config config.0, config.1)) (config_in_words ws)
     else (if bytes_eq kind (codes "made") then option_map (λ nanos. (item.Made (record { nanos = nanos.0 }), nanos.1)) (field number_in ws)
     else option_map (λ event. (item.Event event.0, event.1)) (event_of kind ws))
@@ -107,14 +107,14 @@ item_of kind ws =
     else (if bytes_eq kind (codes "note") then option_map (λ note. (item.Note note.0, note.1)) (note_in_words ws)
     else (if bytes_eq kind (codes "own") then option_map (λ part. (item.Own part.0, part.1)) (field part_in_words ws)
     else (if bytes_eq kind (codes "ownnote") then option_map (λ note. (item.OwnNote note.0, note.1)) (note_in_words ws)
-    else head_of kind ws)))
+    else item_of_kind kind ws)))
 
 -- what the words of a whole line say, less strictly
 unfoldable pub words_in : List (List ℕ) → Option Item
 words_in ws = do
   kind ← field Some ws
   said ← item_of kind.0 kind.1
-  whole said
+  if_no_word_left said
 
 -- what a line says; it is well-formed only as it would be written
 unfoldable pub item_in : List ℕ → Option Item

@@ -1,7 +1,7 @@
 //! The words of a line, read one by one.
 ghost use Rattle.std.specs.Prelude.{◌≡◌, ◌∷◌, [], ◌<◌, IfSome};
 ghost use Rattle.audit_model.specs.Grammar.{number_in};
-ghost use Rattle.audit_text.specs.Reader.Fields.{at_line, IsRead, IsReadOff, IsNextWord, IsEnd, IsBehind, IsSetting, IsReadItems, byte_in, words_of_rest, words_left, field, option_in, part_in_words, flag_in, held_in, policy_in, weight_in_words, cause_in, behind, setting_in, digit_in, digits_in, bytes_in};
+ghost use Rattle.audit_text.specs.Reader.Fields.{at_line, IsRead, IsReadOff, IsNextWord, IsEnd, IsBehind, IsSetting, IsReadItems, byte_in, words_of_rest, words_left, field, option_in, part_in_words, flag_in, held_in, policy_in, weight_in_words, cause_in, behind_prefix, setting_in, digit_in, digits_in, bytes_in};
 ghost use Rattle.audit_text.specs.Reader.Lines.{line_words};
 ghost use Rattle.audit_text.specs.declared.reader.fields.LineFault.TheVariants as fault;
 
@@ -262,7 +262,7 @@ fn read_part_or_none(word: &[u8]) -> Result<Option<Accepted>, LineFault>
 
 /// The setting of this name, which ends in `=`.
 fn read_setting<'a>(word: &'a [u8], name: &[u8]) -> Result<&'a [u8], LineFault>
-    ensures { IsBehind (behind name.now word.now) result }
+    ensures { IsBehind (behind_prefix name.now word.now) result }
 {
     match word.strip_prefix(name) {
         Some(rest) => Ok(rest),

@@ -4,7 +4,7 @@ ghost use Rattle.audit_model.specs.Grammar.{number_in};
 ghost use Rattle.audit_text.specs.Reader.Fields.{IsRead, IsReadOff, field, part_in_words, words_left};
 ghost use Rattle.audit_text.specs.Reader.Gathered.{item_line};
 ghost use Rattle.audit_text.specs.Reader.Gathering.{IsMade};
-ghost use Rattle.audit_text.specs.Reader.Items.{config_in_words, head_of, feed_in_words, value_in_words, outcome_of, answer_in_words, give_up_in_words, event_of, note_in_words, step_in_words, item_of, words_in, item_in};
+ghost use Rattle.audit_text.specs.Reader.Items.{config_in_words, item_of_kind, feed_in_words, value_in_words, outcome_of, answer_in_words, give_up_in_words, event_of, note_in_words, step_in_words, item_of, words_in, item_in};
 ghost use Rattle.audit_text.specs.Reader.Lines.{line_words};
 
 use crate::reader::fields::{LineFault, Words};
@@ -114,7 +114,8 @@ fn parse_kind(alloc: Global, kind: &[u8], words: &mut Words<'_>) -> Result<Item,
 
 /// A line of a transcript's head, or an event, as an item.
 fn parse_head(alloc: Global, kind: &[u8], words: &mut Words<'_>) -> Result<Item, LineFault>
-    ensures { IsReadOff (head_of kind.now (words_left words.old)) result (words_left words.new) }
+    ensures { IsReadOff (item_of_kind kind.now (words_left words.old)) result
+        (words_left words.new) }
 {
     if kind == b"config".as_slice() {
         parse_config(words)

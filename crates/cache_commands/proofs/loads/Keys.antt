@@ -9,7 +9,7 @@ use Rattle.audit_model.specs.Situation.{PendingLoad, with_waiting}
 use Rattle.audit_model.specs.declared.input.LoadId.{LoadId}
 use Rattle.cache_commands.specs.Loads.Keys.{agrees_on, are_in_turn, has_its_key, have_their_keys, were_sent}
 use Rattle.std.proofs.lemmas.List.Folds.{list_all-append}
-use Rattle.std.proofs.lemmas.Slice.Eq.{bytes_eq-Decides}
+use Rattle.cache_store.proofs.Keys.{same-refl}
 
 -- ---- lists
 
@@ -87,7 +87,8 @@ pub keys-more : (ns before b : ℕ) (load : PendingLoad) (loads : List PendingLo
     → load.number ≡ suc b → out.0.number ≡ suc b → same load.key out.1 ≡ true → have_their_keys loads outs ≡ true → have_their_keys (load ∷ loads) (outs ++ out ∷ []) ≡ true
 keys-more ns before b load loads outs out turn few all is number keyed have =
     list_all-append (has_its_key (load ∷ loads)) outs (out ∷ [])
-    ∙ and_from (have_their_keys (load ∷ loads) outs) (has_its_key (load ∷ loads) out && true) (keys-before b load loads outs is (in-turn-below ns before b outs turn few) have) (and_from (has_its_key (load ∷ loads) out) true (and_from (agrees_on out load) (has_its_key loads out) own (keys-behind b out loads number all)) refl)
+    ∙ and_from (have_their_keys (load ∷ loads) outs) (has_its_key (load ∷ loads) out && true) (keys-before b load loads outs is (in-turn-below ns before b outs turn few) have)
+    (and_from (has_its_key (load ∷ loads) out) true (and_from (agrees_on out load) (has_its_key loads out) own (keys-behind b out loads number all)) refl)
   where
     own : agrees_on out load ≡ true
     own = grind (arith, keyed)
@@ -115,9 +116,6 @@ waiting-key conn key l = grind arith
 
 pub joined-keys : (conn : ℕ) (key : List ℕ) (loads : List PendingLoad) (outs : List (LoadId × List ℕ)) → have_their_keys loads outs ≡ true → have_their_keys (map (with_waiting conn key) loads) outs ≡ true
 joined-keys conn key = keys-mapped (with_waiting conn key) (waiting-number conn key) (waiting-key conn key)
-
-pub same-refl : (key : List ℕ) → same key key ≡ true
-same-refl key = (bytes_eq-Decides key key).1 refl
 
 -- ---- a load that is sent
 

@@ -15,11 +15,11 @@ use Rattle.std.specs.declared.cmp.Reverse.{Reverse}
 use Rattle.audit_model.specs.Bytewise.{same}
 use Rattle.audit_model.specs.Situation.{PendingLoad}
 use Rattle.audit_loads.proofs.Waiting.{at-number, below, keyed-of, of-none, of-number}
-use Rattle.audit_loads.specs.Numbered.{changed_at}
+use Rattle.audit_loads.specs.Numbered.{changed_numbered}
 use Rattle.audit_loads.specs.Underway.{Keys, Joined, IsKeyed, KeepsNumbers, has_number, number_at}
 use Rattle.cache_commands.proofs.loads.Keys.{all-filter, all-mapped, all-on}
 use Rattle.cache_commands.specs.Loads.Keys.{pending_load, were_sent}
-use Rattle.cache_commands.specs.Loads.Numbers.{Entries, are_below, are_falling, have_own_numbers, load_numbered, loads_of, AreUnderWay, load_with_key}
+use Rattle.cache_commands.specs.Loads.Numbers.{NumberedLoads, are_below, are_falling, have_own_numbers, load_numbered, loads_of, AreUnderWay, load_with_key}
 use Rattle.cache_commands.specs.declared.loads.load.Load.{Load}
 
 -- ---- lists of loads that fall
@@ -39,11 +39,11 @@ others-kept n (p ∷ ps) below =
     ap (λ b. cond (not b) (p ∷ filter (λ q. not (q.number == n)) ps) (filter (λ q. not (q.number == n)) ps)) (lower-other p.number n parts.0)
     ∙ ap (λ qs. p ∷ qs) (others-kept n ps parts.1)
 
-pub others-same : (n : ℕ) (f : PendingLoad → PendingLoad) (ps : List PendingLoad) → are_below n ps ≡ true → map (changed_at number_of n f) ps ≡ ps
+pub others-same : (n : ℕ) (f : PendingLoad → PendingLoad) (ps : List PendingLoad) → are_below n ps ≡ true → map (changed_numbered number_of n f) ps ≡ ps
 others-same n f [] below = refl
 others-same n f (p ∷ ps) below =
     let parts = and_parts (nat_lt p.number n) (are_below n ps) below in
-    ap (λ b. (if b then f p else p) ∷ map (changed_at number_of n f) ps) (lower-other p.number n parts.0)
+    ap (λ b. (if b then f p else p) ∷ map (changed_numbered number_of n f) ps) (lower-other p.number n parts.0)
     ∙ ap (λ qs. p ∷ qs) (others-same n f ps parts.1)
 
 pub falling-filtered : (p : PendingLoad → Bool) (ps : List PendingLoad) → are_falling ps ≡ true → are_falling (filter p ps) ≡ true
@@ -77,14 +77,14 @@ pub shown : (r : Option (Bor Load)) → option_map (λ load. pending_load load.n
 shown None = refl
 shown (Some x) = refl
 
-pub found-at : (n : ℕ) (es : Entries) → have_own_numbers es ≡ true → option_map pending_load (lookup (at n) es) ≡ load_numbered n (loads_of es)
+pub found-at : (n : ℕ) (es : NumberedLoads) → have_own_numbers es ≡ true → option_map pending_load (lookup (at n) es) ≡ load_numbered n (loads_of es)
 found-at n [] own = refl
 found-at n (e ∷ es) own =
     let parts = and_parts (e.0.0 == e.1.number) (have_own_numbers es) own in
     ap (λ b. option_map pending_load (cond b (Some e.1) (lookup (at n) es))) (hit n e parts.0) ∙ (let next = found-at n es parts.1 in grind (arith, next))
 
 -- a load taken out
-pub removed-is : (n : ℕ) (es : Entries) → have_own_numbers es ≡ true → are_falling (loads_of es) ≡ true → loads_of (remove_entry (at n) es) ≡ filter (λ p. not (p.number == n)) (loads_of es)
+pub removed-is : (n : ℕ) (es : NumberedLoads) → have_own_numbers es ≡ true → are_falling (loads_of es) ≡ true → loads_of (remove_entry (at n) es) ≡ filter (λ p. not (p.number == n)) (loads_of es)
 removed-is n [] own falls = refl
 removed-is n (e ∷ es) own falls =
     let parts = and_parts (e.0.0 == e.1.number) (have_own_numbers es) own in
@@ -94,22 +94,22 @@ removed-is n (e ∷ es) own falls =
     let kept = others-kept e.1.number (loads_of es) falling.0 in
     grind (arith, nat_tests, here, next, kept)
 
-removed-own : (n : ℕ) (es : Entries) → have_own_numbers es ≡ true → have_own_numbers (remove_entry (at n) es) ≡ true
+removed-own : (n : ℕ) (es : NumberedLoads) → have_own_numbers es ≡ true → have_own_numbers (remove_entry (at n) es) ≡ true
 removed-own n [] own = refl
 removed-own n (e ∷ es) own =
     let parts = and_parts (e.0.0 == e.1.number) (have_own_numbers es) own in
     let next = removed-own n es parts.1 in
     grind (arith, parts, next)
 
-pub removed-kept : (n : ℕ) (es new : Entries) → new ≡ remove_entry (at n) es → have_own_numbers es ≡ true → are_falling (loads_of es) ≡ true → (have_own_numbers new ≡ true) × ((are_falling (loads_of new) ≡ true) × ⊤)
+pub removed-kept : (n : ℕ) (es new : NumberedLoads) → new ≡ remove_entry (at n) es → have_own_numbers es ≡ true → are_falling (loads_of es) ≡ true → (have_own_numbers new ≡ true) × ((are_falling (loads_of new) ≡ true) × ⊤)
 removed-kept n es new is own falls =
     let here : have_own_numbers new ≡ true = ap have_own_numbers is ∙ removed-own n es own in
     let left : are_falling (loads_of new) ≡ true = ap (λ ds. are_falling (loads_of ds)) is ∙ ap are_falling (removed-is n es own falls) ∙ falling-filtered (λ p. not (p.number == n)) (loads_of es) falls in
     (here, (left, tt))
 
 -- a load changed
-pub changed-is : (n : ℕ) (f : PendingLoad → PendingLoad) (es : Entries) (was is : Load) → have_own_numbers es ≡ true → are_falling (loads_of es) ≡ true → lookup (at n) es ≡ Some was → pending_load is ≡ f (pending_load was)
-    → loads_of (set_value (at n) es is) ≡ map (changed_at number_of n f) (loads_of es)
+pub changed-is : (n : ℕ) (f : PendingLoad → PendingLoad) (es : NumberedLoads) (was is : Load) → have_own_numbers es ≡ true → are_falling (loads_of es) ≡ true → lookup (at n) es ≡ Some was → pending_load is ≡ f (pending_load was)
+    → loads_of (set_value (at n) es is) ≡ map (changed_numbered number_of n f) (loads_of es)
 changed-is n f [] was is own falls found does = absurd (none-some was found)
 changed-is n f (e ∷ es) was is own falls found does =
     let parts = and_parts (e.0.0 == e.1.number) (have_own_numbers es) own in
@@ -120,7 +120,7 @@ changed-is n f (e ∷ es) was is own falls found does =
     grind (arith, nat_tests, here, next, kept)
 
 -- there is none to change
-pub unchanged-is : (n : ℕ) (f : PendingLoad → PendingLoad) (es : Entries) → have_own_numbers es ≡ true → lookup (at n) es ≡ None → map (changed_at number_of n f) (loads_of es) ≡ loads_of es
+pub unchanged-is : (n : ℕ) (f : PendingLoad → PendingLoad) (es : NumberedLoads) → have_own_numbers es ≡ true → lookup (at n) es ≡ None → map (changed_numbered number_of n f) (loads_of es) ≡ loads_of es
 unchanged-is n f [] own none = refl
 unchanged-is n f (e ∷ es) own none =
     let parts = and_parts (e.0.0 == e.1.number) (have_own_numbers es) own in
@@ -128,27 +128,27 @@ unchanged-is n f (e ∷ es) own none =
     let next = unchanged-is n f es parts.1 in
     grind (arith, here, next)
 
-changed-own : (n : ℕ) (es : Entries) (was is : Load) → have_own_numbers es ≡ true → lookup (at n) es ≡ Some was → is.number ≡ was.number → have_own_numbers (set_value (at n) es is) ≡ true
+changed-own : (n : ℕ) (es : NumberedLoads) (was is : Load) → have_own_numbers es ≡ true → lookup (at n) es ≡ Some was → is.number ≡ was.number → have_own_numbers (set_value (at n) es is) ≡ true
 changed-own n [] was is own found same = refl
 changed-own n (e ∷ es) was is own found same =
     let parts = and_parts (e.0.0 == e.1.number) (have_own_numbers es) own in
     let next = λ (h : lookup (at n) es ≡ Some was). changed-own n es was is parts.1 h same in
     grind (arith, parts, next)
 
-pub changed-number : (n : ℕ) (f : PendingLoad → PendingLoad) → ((p : PendingLoad) → (f p).number ≡ p.number) → (p : PendingLoad) → (changed_at number_of n f p).number ≡ p.number
+pub changed-number : (n : ℕ) (f : PendingLoad → PendingLoad) → ((p : PendingLoad) → (f p).number ≡ p.number) → (p : PendingLoad) → (changed_numbered number_of n f p).number ≡ p.number
 changed-number n f keeps p = let h = keeps p in grind (arith, h)
 
-pub changed-kept : (n : ℕ) (f : PendingLoad → PendingLoad) → ((p : PendingLoad) → (f p).number ≡ p.number) → (es new : Entries) (was is : Load) → have_own_numbers es ≡ true → are_falling (loads_of es) ≡ true → lookup (at n) es ≡ Some was
+pub changed-kept : (n : ℕ) (f : PendingLoad → PendingLoad) → ((p : PendingLoad) → (f p).number ≡ p.number) → (es new : NumberedLoads) (was is : Load) → have_own_numbers es ≡ true → are_falling (loads_of es) ≡ true → lookup (at n) es ≡ Some was
     → new ≡ set_value (at n) es is → pending_load is ≡ f (pending_load was) → (have_own_numbers new ≡ true) × ((are_falling (loads_of new) ≡ true) × ⊤)
 changed-kept n f keeps es new was is own falls found set does =
     let here : have_own_numbers new ≡ true = ap have_own_numbers set ∙ changed-own n es was is own found (ap number_of does ∙ keeps (pending_load was)) in
     let left : are_falling (loads_of new) ≡ true =
-    ap (λ ds. are_falling (loads_of ds)) set ∙ ap are_falling (changed-is n f es was is own falls found does) ∙ falling-mapped (changed_at number_of n f) (changed-number n f keeps) (loads_of es) ∙ falls
+    ap (λ ds. are_falling (loads_of ds)) set ∙ ap are_falling (changed-is n f es was is own falls found does) ∙ falling-mapped (changed_numbered number_of n f) (changed-number n f keeps) (loads_of es) ∙ falls
     in
     (here, (left, tt))
 
 -- a load as it was
-pub same-is : (n : ℕ) (es : Entries) (was is : Load) → lookup (at n) es ≡ Some was → pending_load is ≡ pending_load was → loads_of (set_value (at n) es is) ≡ loads_of es
+pub same-is : (n : ℕ) (es : NumberedLoads) (was is : Load) → lookup (at n) es ≡ Some was → pending_load is ≡ pending_load was → loads_of (set_value (at n) es is) ≡ loads_of es
 same-is n [] was is found same = refl
 same-is n (e ∷ es) was is found same = let next = λ (h : lookup (at n) es ≡ Some was). same-is n es was is h same in grind (arith, next)
 
@@ -156,27 +156,27 @@ same-is n (e ∷ es) was is found same = let next = λ (h : lookup (at n) es ≡
 abbrev pub with_one : ℕ → PendingLoad → PendingLoad
 with_one conn p = record p { waiting = p.waiting ++ conn ∷ [] }
 
-pub joined-kept : {A E : Type 0} (r : Result A E) (n conn : ℕ) (es new : Entries) (was is : Load) → have_own_numbers es ≡ true → are_falling (loads_of es) ≡ true → lookup (at n) es ≡ Some was → new ≡ set_value (at n) es is
+pub joined-kept : {A E : Type 0} (r : Result A E) (n conn : ℕ) (es new : NumberedLoads) (was is : Load) → have_own_numbers es ≡ true → are_falling (loads_of es) ≡ true → lookup (at n) es ≡ Some was → new ≡ set_value (at n) es is
     → OnOk r (pending_load is ≡ with_one conn (pending_load was)) → OnErr r (pending_load is ≡ pending_load was) → (have_own_numbers new ≡ true) × ((are_falling (loads_of new) ≡ true) × ⊤)
 joined-kept (Ok x) n conn es new was is own falls found set ok err = changed-kept n (with_one conn) (λ p. refl) es new was is own falls found set ok
 joined-kept (Err e) n conn es new was is own falls found set ok err = changed-kept n (λ p. p) (λ p. refl) es new was is own falls found set err
 
 -- ---- a load added
 
-newest-first : (n m : ℕ) (load : Load) (e : Reverse ℕ × Load) (es : Entries) → m ≡ e.0.0 → nat_lt m n ≡ true → insert_entry order (e ∷ es) (record { 0 = n }) load ≡ (record { 0 = n }, load) ∷ e ∷ es
+newest-first : (n m : ℕ) (load : Load) (e : Reverse ℕ × Load) (es : NumberedLoads) → m ≡ e.0.0 → nat_lt m n ≡ true → insert_entry order (e ∷ es) (record { 0 = n }) load ≡ (record { 0 = n }, load) ∷ e ∷ es
 newest-first n m load e es is lower = ap (λ o. match_ordering o ((record { 0 = n }, load) ∷ e ∷ es) ((e.0, load) ∷ es) (e ∷ insert_entry order es (record { 0 = n }) load)) less
   where
     less : nat_cmp e.0.0 n ≡ Less
     less = ap (λ b. cond b Less (cond (e.0.0 == n) Equal Greater)) (ap (λ k. nat_lt k n) (sym is) ∙ lower)
 
-pub put-first : (load : Load) (es : Entries) → have_own_numbers es ≡ true → are_below load.number (loads_of es) ≡ true → insert_entry order es (record { 0 = load.number }) load ≡ (record { 0 = load.number }, load) ∷ es
+pub put-first : (load : Load) (es : NumberedLoads) → have_own_numbers es ≡ true → are_below load.number (loads_of es) ≡ true → insert_entry order es (record { 0 = load.number }) load ≡ (record { 0 = load.number }, load) ∷ es
 put-first load [] own below = refl
 put-first load (e ∷ es) own below =
     let parts = and_parts (e.0.0 == e.1.number) (have_own_numbers es) own in
     let lower = and_parts (nat_lt e.1.number load.number) (are_below load.number (loads_of es)) below in
     newest-first load.number e.1.number load e es (sym (eqb-true e.0.0 e.1.number parts.0)) lower.0
 
-pub added-kept : {A E : Type 0} (r : Result A E) (load : Load) (es new : Entries) → have_own_numbers es ≡ true → are_falling (loads_of es) ≡ true → are_below load.number (loads_of es) ≡ true
+pub added-kept : {A E : Type 0} (r : Result A E) (load : Load) (es new : NumberedLoads) → have_own_numbers es ≡ true → are_falling (loads_of es) ≡ true → are_below load.number (loads_of es) ≡ true
     → OnOk r (new ≡ insert_entry order es (record { 0 = load.number }) load) → OnErr r (new ≡ es) → (have_own_numbers new ≡ true) × ((are_falling (loads_of new) ≡ true) × ⊤)
 added-kept (Ok x) load es new own falls below ok err =
     let is = ok ∙ put-first load es own below in

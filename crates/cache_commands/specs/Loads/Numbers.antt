@@ -27,15 +27,15 @@ are_falling [] = true
 are_falling (load ∷ loads) = are_below load.number loads && are_falling loads
 
 -- loads by their numbers, the highest first
-abbrev pub Entries : Type 0
-Entries = List (Reverse ℕ × Load)
+abbrev pub NumberedLoads : Type 0
+NumberedLoads = List (Reverse ℕ × Load)
 
 -- each is at its own number
-abbrev pub have_own_numbers : Entries → Bool
+abbrev pub have_own_numbers : NumberedLoads → Bool
 have_own_numbers entries = list_all (λ e. e.0.0 == e.1.number) entries
 
 -- the loads, with those that wait for them
-abbrev pub loads_of : Entries → List PendingLoad
+abbrev pub loads_of : NumberedLoads → List PendingLoad
 loads_of entries = map (λ e. pending_load e.1) entries
 
 -- each number at a key is one of a load under way

@@ -2,7 +2,7 @@
 ghost use Rattle.std.specs.Prelude.{◌≡◌, ◌++◌, ◌∷◌, ◌==◌, [], not, true, length, map, option_map, OnOk, OnErr};
 ghost use Rattle.std.specs.List.{filter};
 ghost use Rattle.audit_model.specs.Situation.{without_waiting};
-ghost use Rattle.audit_loads.specs.Numbered.{changed_at};
+ghost use Rattle.audit_loads.specs.Numbered.{changed_numbered};
 ghost use Rattle.cache_commands.specs.Loads.Keys.{pending_load};
 ghost use Rattle.cache_commands.specs.Loads.Numbers.{are_below, are_falling, have_own_numbers, load_numbered, loads_of};
 
@@ -75,8 +75,8 @@ impl Numbered {
 
     /// Makes a connection wait no more for the load of that number.
     pub fn leave(&mut self, number: u64, conn: u64)
-        ensures { self.new ≡ map (changed_at (λ load. load.number) number (without_waiting conn))
-            self.old }
+        ensures { self.new
+            ≡ map (changed_numbered (λ load. load.number) number (without_waiting conn)) self.old }
     {
         if let Some(load) = self.loads.get_mut(&Reverse(number)) {
             leave(load, conn);
@@ -86,7 +86,7 @@ impl Numbered {
     /// Makes a connection join those that wait for the load of that number. Returns an error if there is not enough memory; then nothing
     /// has changed.
     pub fn join(&mut self, number: u64, conn: u64) -> Result<(), AllocError>
-        ensures joined { OnOk result (self.new ≡ map (changed_at (λ load. load.number) number
+        ensures joined { OnOk result (self.new ≡ map (changed_numbered (λ load. load.number) number
             (λ load. record load { waiting = load.waiting ++ conn ∷ [] })) self.old) }
         ensures same { OnErr result (self.new ≡ self.old) }
     {

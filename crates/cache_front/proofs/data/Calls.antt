@@ -11,7 +11,7 @@ use Rattle.rand_core.specs.Stream.{Stream}
 use Rattle.engine_reference.specs.Calls.{IsNew, cleared_by, removal_rooms}
 use Rattle.engine_reference.specs.Scanning.{NotesLookUp}
 use Rattle.engine_reference.specs.declared.data.Settings.{Settings}
-use Rattle.front_reference.specs.Fronts.{part_of, share_of, CallsAll, CallsPart, part_by_hash, passed as passed_front}
+use Rattle.front_reference.specs.Fronts.{part_of, share_of, CallsAll, CallsPart, part_by_hash, passed}
 use Rattle.front_reference.specs.Keeping.{Common}
 use Rattle.front_reference.specs.Wholes.{DrawsInVain, RunsPart}
 use Rattle.front_reference.specs.declared.errors.CacheError.{CacheError}
@@ -23,7 +23,7 @@ use Rattle.audit_model.specs.Bytewise.{same}
 use Rattle.audit_model.specs.Changes.{all_held_after, newly_held}
 use Rattle.audit_model.specs.Commands.{Covering, Deed, Everything, Nothing, Prefixed}
 use Rattle.audit_model.specs.History.{part_count, Value}
-use Rattle.audit_model.specs.Notes.{are_true_notes, candidates_of, first_of, is_true_note, newcomer}
+use Rattle.audit_model.specs.Notes.{are_true_notes, candidates_of, first_with_key, is_true_note, newcomer}
 use Rattle.audit_model.specs.Situation.{HeldValue, candidate_at}
 use Rattle.audit_model.specs.Values.{untold, without_key}
 use Rattle.audit_model.specs.View.{Candidate}
@@ -34,14 +34,14 @@ use Rattle.cache_store.specs.Promises.{Frame, covering, deleting, syncing, using
 use Rattle.cache_store.specs.Values.{Does, HandsBy, AcceptsValue, IsAcceptable, IsLive, IsMoment, IsSettled, IsSoundStore, IsSpent, LacksIdentifiers, ReadsLive}
 use Rattle.cache_front.proofs.data.Drains.{one_told}
 use Rattle.cache_front.proofs.kept.Identifying.{released}
-use Rattle.cache_front.proofs.whole.Calling.{some_held, some_stand, accept as one_accept, after-is, changed, look_up as one_look_up, peek as one_peek, remove as one_remove, parts_are}
+use Rattle.cache_front.proofs.whole.Calling.{some_held, some_stand, accept as one_accept, after_telling-is, changed, look_up as one_look_up, peek as one_peek, remove as one_remove, parts_are}
 use Rattle.cache_front.proofs.whole.Settling.{made, sound, clear as clear_parts, drop as drop_parts, lacks, no_steps, no_tickets, run_all as run_parts}
 use Rattle.cache_front.specs.Data.{FrontData, InsertsBy, LackTickets, TakesOutBy, parted_by}
 use Rattle.cache_front.specs.Draining.{drained_at, waiting_at}
 use Rattle.cache_front.specs.Making.{IsJustMade, whole_settings}
-use Rattle.cache_front.specs.Parts.{IsBrief, Part, settings_of, items_of, Stored, service_answers}
-use Rattle.cache_front.specs.State.{IsFit, Lent, store_of, settled}
-use Rattle.cache_front.specs.View.{StoreOfParts, view, IsWhole, ComesTo, after, all_drained, stored, total_number, total_weight, waiting}
+use Rattle.cache_front.specs.Parts.{IsBrief, Part, part_settings, items_of, Stored, service_answers}
+use Rattle.cache_front.specs.State.{IsFitStore, Lent, store_of, over_drained}
+use Rattle.cache_front.specs.View.{StoreOfParts, view, IsWhole, ComesTo, after_telling, all_drained, kept_value, number_in_all, weight_in_all, waiting}
 use Rattle.front_reference.specs.declared.errors.CacheError.TheVariants as errors
 
 -- the upper bits of a number of 64 bits say one of so many parts
@@ -52,8 +52,8 @@ below : (bits hash : ℕ) → bits ≤ 16 → hash < 2 ^ 64 → hash / 2 ^ (64 -
 below bits hash low fits = (div-lt_iff_lt-mul (pow_pos (64 - bits))).1 (subst (λ n. hash < n) (all-bits bits low) fits)
 
 -- each part gets its share
-shared : (config : Config) (made parts : ℕ) → parts ≡ part_count config → with_share parts (whole_settings config made) ≡ settings_of config made
-shared config made parts is = ap (λ (c : Option ℕ). record (settings_of config made) { capacity = c }) (ap (λ n. option_map (share_of n) config.capacity) is)
+shared : (config : Config) (made parts : ℕ) → parts ≡ part_count config → with_share parts (whole_settings config made) ≡ part_settings config made
+shared config made parts is = ap (λ (c : Option ℕ). record (part_settings config made) { capacity = c }) (ap (λ n. option_map (share_of n) config.capacity) is)
 
 none-from : (xs : List HeldValue) → length xs ≡ 0 → xs ≡ []
 none-from [] e = refl
@@ -64,7 +64,7 @@ new_frame config hash since bits hasher latest = record { config = config; part_
 
 pub new_over : {S : Type 0} (hash : S → List ℕ → ℕ) (config : Config) (since bits : ℕ) (hasher : S) (stream : Stream) (f : Lent S) (room : ℕ)
     → IsMadeWith None bits (whole_settings config since) hasher config.weight f → 2 ^ bits ≡ part_count config → bits ≤ 8 → ((s : S) (key : List ℕ) → hash s key < 2 ^ 64) → IsBrief config → since < 2 ^ 63
-    → IsFit (store_of hash config since false [] stream f) 0 room × IsJustMade config (hash hasher) since stream (view (store_of hash config since false [] stream f))
+    → IsFitStore (store_of hash config since false [] stream f) 0 room × IsJustMade config (hash hasher) since stream (view (store_of hash config since false [] stream f))
 new_over {S} hash config since bits hasher stream f room m counts few words brief range =
     let t = made a None hasher number placed brief range moment m.new.step each in
     let s = sound a t.0 in (
@@ -87,7 +87,7 @@ new_over {S} hash config since bits hasher stream f room m counts few words brie
     a : StoreOfParts S
     a = store_of hash config since false [] stream f
 
-    common : f.common ≡ record { settings = settings_of config since; hasher = hasher; rules = config.weight }
+    common : f.common ≡ record { settings = part_settings config since; hasher = hasher; rules = config.weight }
     common = m.common ∙ ap (λ (s : Settings). record { settings = s; hasher = hasher; rules = config.weight }) (shared config since (2 ^ bits) counts)
 
     number : length f.parts ≡ part_count config
@@ -99,7 +99,7 @@ new_over {S} hash config since bits hasher stream f room m counts few words brie
     placed : (key : List ℕ) → a.frame.part_of key < part_count config
     placed key = subst (λ n. hash f.common.hasher key / 2 ^ (64 - f.bits) < n) (ap (λ b. 2 ^ b) m.bits_are ∙ counts) (below f.bits (hash f.common.hasher key) (let e = m.bits_are in omega (arith, e, few)) (words f.common.hasher key))
 
-    each : (place : ℕ) (s : Part S) → slice_get f.parts place ≡ Some s → IsNew None (settings_of config since) hasher config.weight s
+    each : (place : ℕ) (s : Part S) → slice_get f.parts place ≡ Some s → IsNew None (part_settings config since) hasher config.weight s
     each place s there = subst (λ (c : Common S Weight). IsNew None c.settings c.hasher c.rules s) common (m.new.parts place s there)
 
 -- A call tells each note of another value, so by as many fewer values are held.
@@ -138,15 +138,15 @@ news-same config (Some v) = refl
 
 -- ---- each note tells another candidate
 
-shorter : (key : List ℕ) (cs : List Candidate) (c : Candidate) → first_of key cs ≡ Some c → suc (length (without_key candidate_key key cs)) ≡ length cs
+shorter : (key : List ℕ) (cs : List Candidate) (c : Candidate) → first_with_key key cs ≡ Some c → suc (length (without_key candidate_key key cs)) ≡ length cs
 shorter key [] c found = absurd (none-some c found)
 shorter key (x ∷ cs) c found = grind (arith, candidate_key, shorter key cs c)
 
 told-exact : (config : Config) (held : List Candidate) (deed : Deed) (cs : List Candidate) (notes : List Note) → are_true_notes config held deed cs notes ≡ true → length (untold candidate_key notes cs) + length notes ≡ length cs
 told-exact config held deed cs [] h = omega arith
-told-exact config held deed cs (note ∷ notes) h = go (first_of note.key cs) refl (and_parts _ _ h).0 (told-exact config held deed (without_key candidate_key note.key cs) notes (and_parts _ _ h).1)
+told-exact config held deed cs (note ∷ notes) h = go (first_with_key note.key cs) refl (and_parts _ _ h).0 (told-exact config held deed (without_key candidate_key note.key cs) notes (and_parts _ _ h).1)
   where
-    go : (o : Option Candidate) → first_of note.key cs ≡ o → is_true_note config held deed note o ≡ true
+    go : (o : Option Candidate) → first_with_key note.key cs ≡ o → is_true_note config held deed note o ≡ true
         → length (untold candidate_key notes (without_key candidate_key note.key cs)) + length notes ≡ length (without_key candidate_key note.key cs)
         → length (untold candidate_key notes (without_key candidate_key note.key cs)) + suc (length notes) ≡ length cs
     go None found is later = absurd (true≢false (sym is))
@@ -163,7 +163,8 @@ handed Everything old new told is h = let no : ⊥ = cc in absurd no
 handed (Prefixed prefix) old new told is h = let no : ⊥ = cc in absurd no
 
 -- A CALL THAT COVERS NOTHING TELLS EACH NOTE OF ANOTHER VALUE: that many fewer values are held, not counting the one that it accepts
-pub counted : {S : Type 0} → (a b : StoreOfParts S) (now : ℕ) (deed : Deed) → IsWhole a → deed.covers ≡ Nothing → Does now deed (view a) (view b) → length (items_of 0 b.parts) + length b.queue ≡ length (items_of 0 a.parts) + length a.queue + length (option_to_list (option_map newly_held deed.value))
+pub counted : {S : Type 0} → (a b : StoreOfParts S) (now : ℕ) (deed : Deed) → IsWhole a → deed.covers ≡ Nothing → Does now deed (view a) (view b)
+    → length (items_of 0 b.parts) + length b.queue ≡ length (items_of 0 a.parts) + length a.queue + length (option_to_list (option_map newly_held deed.value))
 counted {S} a b now deed w nothing does =
     let done = does.done (some_held a w) (some_stand a w) in
     let e = held-exact a.frame.config now (some_held a w) deed done.told done.right in
@@ -177,7 +178,7 @@ counted {S} a b now deed w nothing does =
 module _ {S : Type 0} (hash : S → List ℕ → ℕ) where
   -- the store when what a call told was taken
   abbrev pub then_by : FrontData S → Stream → Lent S → StoreOfParts S
-  then_by d stream g = settled hash d.config d.made d.dropped d.queue stream g
+  then_by d stream g = over_drained hash d.config d.made d.dropped d.queue stream g
 
   -- what a call comes to once its notices are taken: the store shows this of it, is whole, and holds so many values with those told
   pub record Comes (d : FrontData S) (g : Lent S) (number : ℕ) (Shows : StoreOfParts S → Type 0) : Type 0 where
@@ -186,7 +187,7 @@ module _ {S : Type 0} (hash : S → List ℕ → ℕ) where
     pub number_is : length (items_of 0 (then_by d d.stream g).parts) + length (waiting g.parts) ≡ number
 
   -- a call left these parts
-  left-is : (d : FrontData S) (g : Lent S) (now next : ℕ) (parts : List (Part S)) → g ≡ passed_front now next (record d.front { parts = parts }) → then_by d d.stream g ≡ after now next parts (parted_by hash d)
+  left-is : (d : FrontData S) (g : Lent S) (now next : ℕ) (parts : List (Part S)) → g ≡ passed now next (record d.front { parts = parts }) → then_by d d.stream g ≡ after_telling now next parts (parted_by hash d)
   left-is d g now next parts is = ap (λ (x : Lent S). then_by d d.stream x) is
 
   -- a call came to one part
@@ -194,10 +195,10 @@ module _ {S : Type 0} (hash : S → List ℕ → ℕ) where
       → then_by d d.stream g ≡ changed (parted_by hash d) w now next (part_of d.front.bits h) call.call.after
   changed-is d g h now next Rel w call =
       let a = parted_by hash d in
-      left-is d g now next call.parts call.changed ∙ ap (λ ps. after now next ps a) call.call.changed ∙ after-is a w now next (part_of d.front.bits h) call.call.before call.call.after call.call.there
+      left-is d g now next call.parts call.changed ∙ ap (λ ps. after_telling now next ps a) call.call.changed ∙ after_telling-is a w now next (part_of d.front.bits h) call.call.before call.call.after call.call.there
 
   -- what a call comes to that left the store so
-  comes-to : (d : FrontData S) (g : Lent S) (count room number now : ℕ) (deed : Deed) (Shows : StoreOfParts S → Type 0) (b : StoreOfParts S) → IsFit (parted_by hash d) count room → deed.covers ≡ Nothing
+  comes-to : (d : FrontData S) (g : Lent S) (count room number now : ℕ) (deed : Deed) (Shows : StoreOfParts S → Type 0) (b : StoreOfParts S) → IsFitStore (parted_by hash d) count room → deed.covers ≡ Nothing
       → number ≡ count + length (option_to_list (option_map newly_held deed.value)) → then_by d d.stream g ≡ b → Does now deed (view (parted_by hash d)) (view b) → Shows b → IsWhole b → Comes d g number Shows
   comes-to d g count room number now deed Shows b f none number_is is does shows whole =
       let c = counted (parted_by hash d) (then_by d d.stream g) now deed f.whole none (subst (λ x. Does now deed (view (parted_by hash d)) (view x)) (sym is) does) in
@@ -228,8 +229,8 @@ module _ {S : Type 0} (hash : S → List ℕ → ℕ) where
       pub shown : Shows (parted_by hash (with_front d queue h))
       shown = subst Shows (sym then_is) t.comes.shows
 
-      pub fits : (count room : ℕ) → count + length told ≡ number → length d.queue + number ≤ room → IsFit (parted_by hash (with_front d queue h)) count room
-      fits count room counts has_room = subst (λ (x : StoreOfParts S). IsFit x count room) (sym then_is) (record {
+      pub fits : (count room : ℕ) → count + length told ≡ number → length d.queue + number ≤ room → IsFitStore (parted_by hash (with_front d queue h)) count room
+      fits count room counts has_room = subst (λ (x : StoreOfParts S). IsFitStore x count room) (sym then_is) (record {
         whole = t.comes.whole;
         counted = (let e = t.comes.number_is in let n = ap length t.told_is in omega (arith, e, n, counts));
         room = (let e = length-append d.queue (waiting g.parts) in let n = ap length t.told_is in omega (arith, e, n, counts, has_room));
@@ -246,7 +247,7 @@ module _ {S : Type 0} (hash : S → List ℕ → ℕ) where
       record { comes = comes; told_is = subst (λ ps. waiting_at place ps ≡ waiting ps) (sym parts_are) t.0; left_is = subst (λ ps. drained_at place ps ≡ all_drained ps) (sym parts_are) t.1 }
 
   -- the room that is kept for it
-  pub room_for : (d : FrontData S) (count room : ℕ) → IsFit (parted_by hash d) count room → length d.queue + count ≤ room
+  pub room_for : (d : FrontData S) (count room : ℕ) → IsFitStore (parted_by hash d) count room → length d.queue + count ≤ room
   room_for d count room f = let r = f.room in omega (arith, r)
 
   -- ---- calls that tell
@@ -254,7 +255,7 @@ module _ {S : Type 0} (hash : S → List ℕ → ℕ) where
   still : (d : FrontData S) (now : ℕ) → IsMoment (view (parted_by hash d)) now → ComesTo (parted_by hash d) now d.front.step
   still d now moment = record { moment = moment; rises = omega arith; one = omega arith }
 
-  pub look_up : (d : FrontData S) (g : Lent S) (place count room now : ℕ) (key : List ℕ) → IsFit (parted_by hash d) count room → IsMoment (view (parted_by hash d)) now
+  pub look_up : (d : FrontData S) (g : Lent S) (place count room now : ℕ) (key : List ℕ) → IsFitStore (parted_by hash d) count room → IsMoment (view (parted_by hash d)) now
       → CallsPart (hash d.front.common.hasher key) now d.front.step (NotesLookUp service_answers same key (hash d.front.common.hasher key) now false) d.front g → place ≡ part_of d.front.bits (hash d.front.common.hasher key)
       → Tells d g (waiting_at place g.parts) (drained_at place g.parts) count (λ b. Does now (using key) (view (parted_by hash d)) (view b))
   look_up d g place count room now key f moment call is =
@@ -265,8 +266,8 @@ module _ {S : Type 0} (hash : S → List ℕ → ℕ) where
       (comes-to d g count room count now (using key) (λ b. Does now (using key) (view a) (view b)) (changed a f.whole now d.front.step (part_of d.front.bits h) call.call.after) f refl (omega arith)
       (changed-is d g h now d.front.step _ f.whole call) both.0 both.0 both.1)
 
-  pub accept : (d : FrontData S) (g : Lent S) (place count room now : ℕ) (key bytes : List ℕ) (milliseconds : Option ℕ) (looked_up : Bool) → IsFit (parted_by hash d) count room → IsMoment (view (parted_by hash d)) now
-      → IsAcceptable d.config bytes milliseconds → count < 2 ^ 50 → InsertsBy hash key (stored bytes milliseconds) now d.front g → place ≡ part_of d.front.bits (hash d.front.common.hasher key)
+  pub accept : (d : FrontData S) (g : Lent S) (place count room now : ℕ) (key bytes : List ℕ) (milliseconds : Option ℕ) (looked_up : Bool) → IsFitStore (parted_by hash d) count room → IsMoment (view (parted_by hash d)) now
+      → IsAcceptable d.config bytes milliseconds → count < 2 ^ 50 → InsertsBy hash key (kept_value bytes milliseconds) now d.front g → place ≡ part_of d.front.bits (hash d.front.common.hasher key)
       → Tells d g (waiting_at place g.parts) (drained_at place g.parts) (suc count) (λ b. AcceptsValue now key bytes milliseconds looked_up (part_of d.front.bits (hash d.front.common.hasher key)) (view (parted_by hash d)) (view b))
   accept d g place count room now key bytes milliseconds looked_up f moment acceptable few call is =
       let a = parted_by hash d in
@@ -276,7 +277,7 @@ module _ {S : Type 0} (hash : S → List ℕ → ℕ) where
       (comes-to d g count room (suc count) now _ (λ b. AcceptsValue now key bytes milliseconds looked_up (part_of d.front.bits h) (view a) (view b)) (changed a f.whole now d.front.step (part_of d.front.bits h) call.call.after) f refl (omega arith)
       (changed-is d g h now d.front.step _ f.whole call) both.0 (refl, both.0) both.1)
 
-  pub remove : (d : FrontData S) (g : Lent S) (place count room now : ℕ) (key : List ℕ) → IsFit (parted_by hash d) count room → IsMoment (view (parted_by hash d)) now → TakesOutBy hash key now d.front g
+  pub remove : (d : FrontData S) (g : Lent S) (place count room now : ℕ) (key : List ℕ) → IsFitStore (parted_by hash d) count room → IsMoment (view (parted_by hash d)) now → TakesOutBy hash key now d.front g
       → place ≡ part_of d.front.bits (hash d.front.common.hasher key) → Tells d g (waiting_at place g.parts) (drained_at place g.parts) count (λ b. Does now (deleting key) (view (parted_by hash d)) (view b))
   remove d g place count room now key f moment call is =
       let a = parted_by hash d in
@@ -286,16 +287,16 @@ module _ {S : Type 0} (hash : S → List ℕ → ℕ) where
       (comes-to d g count room count now (deleting key) (λ b. Does now (deleting key) (view a) (view b)) (changed a f.whole now d.front.step (part_of d.front.bits h) call.call.after) f refl (omega arith)
       (changed-is d g h now d.front.step _ f.whole call) both.0 both.0 both.1)
 
-  pub run_all : (d : FrontData S) (g : Lent S) (count room now : ℕ) → IsFit (parted_by hash d) count room → IsMoment (view (parted_by hash d)) now → CallsAll now d.front.step (RunsPart service_answers now) d.front g
-      → Tells d g (waiting g.parts) (all_drained g.parts) count (λ b. Does now syncing (view (parted_by hash d)) (view b) × IsSettled (view b) (total_number g.parts) (total_weight g.parts))
+  pub run_all : (d : FrontData S) (g : Lent S) (count room now : ℕ) → IsFitStore (parted_by hash d) count room → IsMoment (view (parted_by hash d)) now → CallsAll now d.front.step (RunsPart service_answers now) d.front g
+      → Tells d g (waiting g.parts) (all_drained g.parts) count (λ b. Does now syncing (view (parted_by hash d)) (view b) × IsSettled (view b) (number_in_all g.parts) (weight_in_all g.parts))
   run_all d g count room now f moment call =
       let a = parted_by hash d in
-      let b = after now d.front.step call.parts a in
+      let b = after_telling now d.front.step call.parts a in
       let t = run_parts a now d.front.step call.parts f.whole (still d now moment) call.each in
       record {
         comes =
-            comes-to d g count room count now syncing (λ x. Does now syncing (view a) (view x) × IsSettled (view x) (total_number g.parts) (total_weight g.parts)) b f refl (omega arith) (left-is d g now d.front.step call.parts call.changed) t.0
-            (t.0, subst (λ (ps : List (Part S)). IsSettled (view b) (total_number ps) (total_weight ps)) (sym (ap (λ (x : Lent S). x.parts) call.changed)) t.2) t.1;
+            comes-to d g count room count now syncing (λ x. Does now syncing (view a) (view x) × IsSettled (view x) (number_in_all g.parts) (weight_in_all g.parts)) b f refl (omega arith) (left-is d g now d.front.step call.parts call.changed) t.0
+            (t.0, subst (λ (ps : List (Part S)). IsSettled (view b) (number_in_all ps) (weight_in_all ps)) (sym (ap (λ (x : Lent S). x.parts) call.changed)) t.2) t.1;
         told_is = refl;
         left_is = refl;
       }
@@ -313,15 +314,15 @@ module _ {S : Type 0} (hash : S → List ℕ → ℕ) where
       let m = length-map (items_of 0 a.parts) (λ (h : HeldValue). record h { evictable = true }) in
       omega (arith, n, l, m)
 
-  still_fits : (d e : FrontData S) (count room : ℕ) → IsFit (parted_by hash d) count room → IsWhole (parted_by hash e) → length (items_of 0 e.front.parts) ≡ length (items_of 0 d.front.parts) → e.queue ≡ d.queue → IsFit (parted_by hash e) count room
+  still_fits : (d e : FrontData S) (count room : ℕ) → IsFitStore (parted_by hash d) count room → IsWhole (parted_by hash e) → length (items_of 0 e.front.parts) ≡ length (items_of 0 d.front.parts) → e.queue ≡ d.queue → IsFitStore (parted_by hash e) count room
   still_fits d e count room f w same_number same_queue = record { whole = w; counted = f.counted ∙ sym same_number; room = (let r = f.room in let q = ap length same_queue in omega (arith, r, q)) }
 
   next : (d : FrontData S) (now : ℕ) → IsMoment (view (parted_by hash d)) now → ComesTo (parted_by hash d) now (suc d.front.step)
   next d now moment = record { moment = moment; rises = omega arith; one = omega arith }
 
-  pub clear : (d : FrontData S) (g : Lent S) (count room now : ℕ) → IsFit (parted_by hash d) count room → IsMoment (view (parted_by hash d)) now
+  pub clear : (d : FrontData S) (g : Lent S) (count room now : ℕ) → IsFitStore (parted_by hash d) count room → IsMoment (view (parted_by hash d)) now
       → CallsAll now (suc d.front.step) (λ s t. t ≡ cleared_by (suc d.front.step) s) d.front g
-      → Does now (covering Everything) (view (parted_by hash d)) (view (parted_by hash (record d { front = g }))) × IsFit (parted_by hash (record d { front = g })) count room
+      → Does now (covering Everything) (view (parted_by hash d)) (view (parted_by hash (record d { front = g }))) × IsFitStore (parted_by hash (record d { front = g })) count room
   clear d g count room now f moment call =
       let a = parted_by hash d in
       let t = subst (λ (x : Lent S). Does now (covering Everything) (view a) (view (parted_by hash (record d { front = x }))) × IsWhole (parted_by hash (record d { front = x }))) (sym call.changed)
@@ -329,10 +330,10 @@ module _ {S : Type 0} (hash : S → List ℕ → ℕ) where
       let none = (t.0.done (some_held (parted_by hash d) f.whole) (some_stand (parted_by hash d) f.whole)).handed.none in
       (t.0, still_fits d (record d { front = g }) count room f t.1 (covered-count (parted_by hash d) (parted_by hash (record d { front = g })) now Everything f.whole t.0 none) refl)
 
-  pub drop : (d : FrontData S) (g : Lent S) (left : Stream) (id count room now : ℕ) (prefix : List ℕ) → IsFit (parted_by hash d) count room → IsMoment (view (parted_by hash d)) now
+  pub drop : (d : FrontData S) (g : Lent S) (left : Stream) (id count room now : ℕ) (prefix : List ℕ) → IsFitStore (parted_by hash d) count room → IsMoment (view (parted_by hash d)) now
       → CoversAll prefix (record { now = now; step = suc d.front.step }) d.stream left id d.front g
       → let e = record d { dropped = true; stream = left; front = g } in
-      Does now (covering (Prefixed prefix)) (view (parted_by hash d)) (view (parted_by hash e)) × IsFit (parted_by hash e) count room
+      Does now (covering (Prefixed prefix)) (view (parted_by hash d)) (view (parted_by hash e)) × IsFitStore (parted_by hash e) count room
   drop d g left id count room now prefix f moment call =
       let e = record d { dropped = true; stream = left; front = g } in
       let is = call.changed ∙ ap (λ (ps : List (Part S)). record d.front { parts = ps; moment = now; step = suc d.front.step }) call.covers.registers in
@@ -342,8 +343,8 @@ module _ {S : Type 0} (hash : S → List ℕ → ℕ) where
       let none = (t.0.done (some_held (parted_by hash d) f.whole) (some_stand (parted_by hash d) f.whole)).handed.none in
       (t.0, still_fits d e count room f t.1 (covered-count (parted_by hash d) (parted_by hash e) now (Prefixed prefix) f.whole t.0 none) refl)
 
-  pub lack : (d : FrontData S) (left : Stream) (count room : ℕ) → IsFit (parted_by hash d) count room → DrawsInVain d.front.parts d.stream left
-      → LacksIdentifiers (view (parted_by hash d)) (view (parted_by hash (record d { stream = left }))) × IsFit (parted_by hash (record d { stream = left })) count room
+  pub lack : (d : FrontData S) (left : Stream) (count room : ℕ) → IsFitStore (parted_by hash d) count room → DrawsInVain d.front.parts d.stream left
+      → LacksIdentifiers (view (parted_by hash d)) (view (parted_by hash (record d { stream = left }))) × IsFitStore (parted_by hash (record d { stream = left })) count room
   lack d left count room f vain =
       let t = lacks (parted_by hash d) left f.whole vain in
       (t.0, still_fits d (record d { stream = left }) count room f t.1 refl refl)
@@ -385,7 +386,8 @@ module _ {S : Type 0} (hash : S → List ℕ → ℕ) where
 -- ---- why a call of a front is refused
 
 -- the tickets of one part do not suffice
-pub tickets_from : {S : Type 0} (ways : Ways (List ℕ) Stored (List ℕ) S Weight) (rooms : Settings → ℕ) → ((s : Settings) → rooms s ≤ 2) → (parts : List (Part S)) (place : ℕ) (e : CacheError) → IsCauseOf ways rooms (slice_get parts place) e → e ≡ errors.UsedUp → LackTickets parts
+pub tickets_from : {S : Type 0} (ways : Ways (List ℕ) Stored (List ℕ) S Weight) (rooms : Settings → ℕ) → ((s : Settings) → rooms s ≤ 2) → (parts : List (Part S)) (place : ℕ) (e : CacheError)
+    → IsCauseOf ways rooms (slice_get parts place) e → e ≡ errors.UsedUp → LackTickets parts
 tickets_from {S} ways rooms few parts place e cause is = go (slice_get parts place) refl (subst (λ x. IsCauseOf ways rooms (slice_get parts place) x) is cause)
   where
     go : (o : Option (Part S)) → slice_get parts place ≡ o → IsCauseOf ways rooms o errors.UsedUp → LackTickets parts

@@ -1,7 +1,7 @@
 -- The keys of the first parts.
 use Rattle.std.proofs.Common.{◌≡◌, refl, ap, ◌∙◌, sym, ℕ, zero, suc, ◌+◌, ◌<◌, ◌≤◌, arith, List, ◌∷◌, ◌++◌, length, take, Option, None, slice_get, [], Bool, cond, true, false, true≢false, not, ◌&&◌, ◌||◌, map, option_map, Some, is_some, drop, drop-cons, add-one, get_or, Bor, subst}
 use Rattle.std.proofs.Math.Bool.{and-false, and-true, or-false}
-use Rattle.std.proofs.lemmas.Bool.{and_from, and_parts, not-true, not_from_false, or_parts, or_right}
+use Rattle.std.proofs.lemmas.Bool.{and_from, and_parts, not-true, not_from_false, or_parts, or_right, false_from_ne_true}
 use Rattle.std.proofs.lemmas.List.{append-nil, append_assoc, length-append, length-map}
 use Rattle.std.proofs.lemmas.List.Elements.{filter-append}
 use Rattle.std.proofs.lemmas.List.Folds.{list_any-append}
@@ -25,7 +25,7 @@ use Rattle.audit_model.specs.Bytewise.{same, text_line}
 use Rattle.audit_model.specs.Values.{sorted, put_sorted}
 use Rattle.cache_store.proofs.Keys.{equal_from_same, same-refl, same-flip_false}
 use Rattle.cache_store.proofs.LiveKeys.{length-sorted, order, put_before, put_behind, sorted-push}
-use Rattle.cache_store.specs.Among.{are_distinct, is_among}
+use Rattle.cache_store.specs.Among.{are_distinct, is_among_keys}
 use Rattle.cache_store.specs.Values.{AreLive}
 use Rattle.cache_front.proofs.parts.Items.{AreParted, ArePlaced}
 use Rattle.cache_front.proofs.parts.Writing.{Kept}
@@ -57,25 +57,15 @@ module _ {S : Type 0} where
 
 -- ---- keys that pass a test
 
-pub among-filter : (p : List ℕ → Bool) (q : List ℕ) (ks : List (List ℕ)) → is_among q (filter p ks) ≡ (p q && is_among q ks)
+pub among-filter : (p : List ℕ → Bool) (q : List ℕ) (ks : List (List ℕ)) → is_among_keys q (filter p ks) ≡ (p q && is_among_keys q ks)
 among-filter p q [] = sym (and-false (p q))
-among-filter p q (k ∷ ks) = go (p k) refl (same q k) refl (among-filter p q ks)
-  where
-    go : (b : Bool) → p k ≡ b → (c : Bool) → same q k ≡ c → is_among q (filter p ks) ≡ (p q && is_among q ks) → is_among q (cond b (k ∷ filter p ks) (filter p ks)) ≡ (p q && (same q k || is_among q ks))
-    go true e true f later =
-        let here : p q ≡ true = ap p (equal_from_same q k f) ∙ e in
-        ap (λ c. c || is_among q (filter p ks)) f ∙ sym (ap (λ c. p q && (c || is_among q ks)) f ∙ ap (λ b. b && true) here)
-    go true e false f later = ap (λ c. c || is_among q (filter p ks)) f ∙ later ∙ sym (ap (λ c. p q && (c || is_among q ks)) f)
-    go false e true f later =
-        let here : p q ≡ false = ap p (equal_from_same q k f) ∙ e in
-        later ∙ ap (λ b. b && is_among q ks) here ∙ sym (ap (λ b. b && (same q k || is_among q ks)) here)
-    go false e false f later = later ∙ sym (ap (λ c. p q && (c || is_among q ks)) f)
+among-filter p q (k ∷ ks) = grind (arith, among-filter p q ks, equal_from_same q k)
 
 distinct-filter : (p : List ℕ → Bool) (ks : List (List ℕ)) → are_distinct ks ≡ true → are_distinct (filter p ks) ≡ true
 distinct-filter p [] d = refl
 distinct-filter p (k ∷ ks) d = grind (arith, and_parts, and_from, not_from_false, among-filter, not-true, and-false, distinct-filter p ks)
 
-distinct-append : (xs ys : List (List ℕ)) → are_distinct xs ≡ true → are_distinct ys ≡ true → ((q : List ℕ) → is_among q xs ≡ true → is_among q ys ≡ false) → are_distinct (xs ++ ys) ≡ true
+distinct-append : (xs ys : List (List ℕ)) → are_distinct xs ≡ true → are_distinct ys ≡ true → ((q : List ℕ) → is_among_keys q xs ≡ true → is_among_keys q ys ≡ false) → are_distinct (xs ++ ys) ≡ true
 distinct-append [] ys d e apart = e
 distinct-append (x ∷ xs) ys d e apart = grind (arith, and_parts, and_from, not_from_false, list_any-append, not-true, same-refl, or_right, distinct-append xs ys)
 
@@ -86,7 +76,7 @@ filter-few p (x ∷ xs) = grind (arith, filter-few p xs)
 
 -- ---- one part
 
-among-entry : (q : List ℕ) (es : List Kept) → is_among q (map (λ (e : Kept). e.key) es) ≡ is_some (entry_of same es q)
+among-entry : (q : List ℕ) (es : List Kept) → is_among_keys q (map (λ (e : Kept). e.key) es) ≡ is_some (entry_of same es q)
 among-entry q [] = refl
 among-entry q (e ∷ es) = grind (arith, among-entry q es)
 
@@ -103,10 +93,10 @@ module _ {S : Type 0} (now : ℕ) where
   keys_seen s = visible_keys service_answers same s now
 
   -- what is visible is held
-  sees-held : (s : Part S) (q : List ℕ) → (sees s q && is_among q (held_keys s.records)) ≡ sees s q
+  sees-held : (s : Part S) (q : List ℕ) → (sees s q && is_among_keys q (held_keys s.records)) ≡ sees s q
   sees-held s q = grind (arith, sees, among-entry, visible_by_entries, and-true)
 
-  among-seen : (s : Part S) (q : List ℕ) → is_among q (keys_seen s) ≡ sees s q
+  among-seen : (s : Part S) (q : List ℕ) → is_among_keys q (keys_seen s) ≡ sees s q
   among-seen s q = among-filter (sees s) q (held_keys s.records) ∙ sees-held s q
 
   distinct-seen : (s : Part S) → AreApart same (held_entries s.records) → are_distinct (keys_seen s) ≡ true
@@ -123,36 +113,36 @@ module _ {S : Type 0} (now : ℕ) where
   all_seen [] = []
   all_seen (s ∷ parts) = visible_keys service_answers same s now ++ all_seen parts
 
-  none-before : (part_of : List ℕ → ℕ) (first : ℕ) (parts : List (Part S)) (q : List ℕ) → AreParted part_of first parts → part_of q < first → is_among q (all_seen parts) ≡ false
+  none-before : (part_of : List ℕ → ℕ) (first : ℕ) (parts : List (Part S)) (q : List ℕ) → AreParted part_of first parts → part_of q < first → is_among_keys q (all_seen parts) ≡ false
   none-before part_of first [] q p lt = refl
   none-before part_of first (s ∷ parts) q p lt =
       list_any-append (λ k. same q k) (keys_seen s) (all_seen parts)
-      ∙ ap (λ b. b || is_among q (all_seen parts)) (among-seen s q ∙ sees-none part_of first s q p.1 (λ e. omega (arith, e, lt)))
+      ∙ ap (λ b. b || is_among_keys q (all_seen parts)) (among-seen s q ∙ sees-none part_of first s q p.1 (λ e. omega (arith, e, lt)))
       ∙ none-before part_of (suc first) parts q p.2 (omega (arith, lt))
 
-  among-all : (part_of : List ℕ → ℕ) (first k : ℕ) (parts : List (Part S)) (s : Part S) (q : List ℕ) → AreParted part_of first parts → slice_get parts k ≡ Some s → part_of q ≡ first + k → is_among q (all_seen parts) ≡ sees s q
+  among-all : (part_of : List ℕ → ℕ) (first k : ℕ) (parts : List (Part S)) (s : Part S) (q : List ℕ) → AreParted part_of first parts → slice_get parts k ≡ Some s → part_of q ≡ first + k → is_among_keys q (all_seen parts) ≡ sees s q
   among-all part_of first k [] s q p there at = absurd (none-some s there)
   among-all part_of first zero (x ∷ parts) s q p there at =
       let is : x ≡ s = cc in
       list_any-append (λ k. same q k) (keys_seen x) (all_seen parts)
-      ∙ ap (λ b. is_among q (keys_seen x) || b) (none-before part_of (suc first) parts q p.2 (omega (arith, at)))
-      ∙ or-false (is_among q (keys_seen x)) ∙ among-seen x q ∙ ap (λ (y : Part S). sees y q) is
+      ∙ ap (λ b. is_among_keys q (keys_seen x) || b) (none-before part_of (suc first) parts q p.2 (omega (arith, at)))
+      ∙ or-false (is_among_keys q (keys_seen x)) ∙ among-seen x q ∙ ap (λ (y : Part S). sees y q) is
   among-all part_of first (suc k) (x ∷ parts) s q p there at =
       list_any-append (λ k. same q k) (keys_seen x) (all_seen parts)
-      ∙ ap (λ b. b || is_among q (all_seen parts)) (among-seen x q ∙ sees-none part_of first x q p.1 (λ e. omega (arith, e, at)))
+      ∙ ap (λ b. b || is_among_keys q (all_seen parts)) (among-seen x q ∙ sees-none part_of first x q p.1 (λ e. omega (arith, e, at)))
       ∙ among-all part_of (suc first) k parts s q p.2 there (omega (arith, at))
 
   distinct-all : (part_of : List ℕ → ℕ) (first : ℕ) (parts : List (Part S)) → AreParted part_of first parts → are_distinct (all_seen parts) ≡ true
   distinct-all part_of first [] p = refl
   distinct-all part_of first (s ∷ parts) p = distinct-append (keys_seen s) (all_seen parts) (distinct-seen s p.0) (distinct-all part_of (suc first) parts p.2) apart
     where
-      apart : (q : List ℕ) → is_among q (keys_seen s) ≡ true → is_among q (all_seen parts) ≡ false
+      apart : (q : List ℕ) → is_among_keys q (keys_seen s) ≡ true → is_among_keys q (all_seen parts) ≡ false
       apart q h = go (entry_of same (held_entries s.records) q) refl
         where
           held : is_some (entry_of same (held_entries s.records) q) ≡ true
-          held = sym (among-entry q (held_entries s.records)) ∙ (and_parts (sees s q) (is_among q (held_keys s.records)) (sees-held s q ∙ sym (among-seen s q) ∙ h)).1
+          held = sym (among-entry q (held_entries s.records)) ∙ (and_parts (sees s q) (is_among_keys q (held_keys s.records)) (sees-held s q ∙ sym (among-seen s q) ∙ h)).1
 
-          go : (o : Option Kept) → entry_of same (held_entries s.records) q ≡ o → is_among q (all_seen parts) ≡ false
+          go : (o : Option Kept) → entry_of same (held_entries s.records) q ≡ o → is_among_keys q (all_seen parts) ≡ false
           go None e = absurd (true≢false (sym held ∙ ap (λ (o : Option Kept). is_some o) e))
           go (Some x) e = let at = p.1 q x e in none-before part_of (suc first) parts q p.2 (omega (arith, at))
 
@@ -190,26 +180,22 @@ module _ {S : Type 0} (now : ℕ) where
 
 -- ---- the same from the keys of all parts, by the hash of each
 
-filter-same : (p r : List ℕ → Bool) (ks : List (List ℕ)) → ((q : List ℕ) → is_among q ks ≡ true → p q ≡ r q) → filter p ks ≡ filter r ks
+filter-same : (p r : List ℕ → Bool) (ks : List (List ℕ)) → ((q : List ℕ) → is_among_keys q ks ≡ true → p q ≡ r q) → filter p ks ≡ filter r ks
 filter-same p r [] each = refl
 filter-same p r (k ∷ ks) each = grind (arith, same-refl, or_right, filter-same p r ks)
 
 module _ {S : Type 0} where
-  held-in : (part_of : List ℕ → ℕ) (part : ℕ) (s : Part S) (q : List ℕ) → ArePlaced part_of part (held_entries s.records) → is_among q (held_keys s.records) ≡ true → part_of q ≡ part
+  held-in : (part_of : List ℕ → ℕ) (part : ℕ) (s : Part S) (q : List ℕ) → ArePlaced part_of part (held_entries s.records) → is_among_keys q (held_keys s.records) ≡ true → part_of q ≡ part
   held-in part_of part s q placed h = grind (arith, among-entry)
 
-  held-none : (part_of : List ℕ → ℕ) (part : ℕ) (s : Part S) (q : List ℕ) → ArePlaced part_of part (held_entries s.records) → (part_of q ≡ part → ⊥) → is_among q (held_keys s.records) ≡ false
-  held-none part_of part s q placed other = go (is_among q (held_keys s.records)) refl
-    where
-      go : (b : Bool) → is_among q (held_keys s.records) ≡ b → is_among q (held_keys s.records) ≡ false
-      go true e = absurd (other (held-in part_of part s q placed e))
-      go false e = e
+  held-none : (part_of : List ℕ → ℕ) (part : ℕ) (s : Part S) (q : List ℕ) → ArePlaced part_of part (held_entries s.records) → (part_of q ≡ part → ⊥) → is_among_keys q (held_keys s.records) ≡ false
+  held-none part_of part s q placed other = false_from_ne_true _ (λ e. other (held-in part_of part s q placed e))
 
-  none-held : (part_of : List ℕ → ℕ) (first : ℕ) (parts : List (Part S)) (q : List ℕ) → AreParted part_of first parts → part_of q < first → is_among q (held_by_all parts) ≡ false
+  none-held : (part_of : List ℕ → ℕ) (first : ℕ) (parts : List (Part S)) (q : List ℕ) → AreParted part_of first parts → part_of q < first → is_among_keys q (held_by_all parts) ≡ false
   none-held part_of first [] q p lt = refl
   none-held part_of first (s ∷ parts) q p lt =
       list_any-append (λ k. same q k) (held_keys s.records) (held_by_all parts)
-      ∙ ap (λ b. b || is_among q (held_by_all parts)) (held-none part_of first s q p.1 (λ e. omega (arith, e, lt)))
+      ∙ ap (λ b. b || is_among_keys q (held_by_all parts)) (held-none part_of first s q p.1 (λ e. omega (arith, e, lt)))
       ∙ none-held part_of (suc first) parts q p.2 (omega (arith, lt))
 
   distinct-all-held : (part_of : List ℕ → ℕ) (first : ℕ) (parts : List (Part S)) → AreParted part_of first parts → are_distinct (held_by_all parts) ≡ true
@@ -276,12 +262,12 @@ new-sorted : (key : List ℕ) (xs : List (List ℕ)) → is_new key xs ≡ true 
 new-sorted key [] n = refl
 new-sorted key (x ∷ xs) n = let parts = and_parts (not (same key x)) (is_new key xs) n in new-put key x (sorted xs) parts.0 (new-sorted key xs parts.1)
 
-new-among : (key : List ℕ) (xs : List (List ℕ)) → is_among key xs ≡ false → is_new key xs ≡ true
+new-among : (key : List ℕ) (xs : List (List ℕ)) → is_among_keys key xs ≡ false → is_new key xs ≡ true
 new-among key [] n = refl
 new-among key (x ∷ xs) n = grind (arith, is_new, new-among key xs)
 
 -- a key is not among those before it
-not_before : (xs : List (List ℕ)) (key : List ℕ) (ys : List (List ℕ)) → are_distinct (xs ++ key ∷ ys) ≡ true → is_among key xs ≡ false
+not_before : (xs : List (List ℕ)) (key : List ℕ) (ys : List (List ℕ)) → are_distinct (xs ++ key ∷ ys) ≡ true → is_among_keys key xs ≡ false
 not_before [] key ys d = refl
 not_before (x ∷ xs) key ys d = grind (arith, and_parts, list_any-append, not-true, or_parts, same-flip_false, not_before xs key ys)
 

@@ -12,7 +12,7 @@ use Rattle.std.proofs.lemmas.Option.{none-some}
 use Rattle.rand_core.specs.Stream.{Stream, fill_bytes}
 use Rattle.uuid.specs.Parts.{v4_of_fill}
 use Rattle.audit_model.specs.Bytewise.{same}
-use Rattle.cache_store.specs.Identifiers.{stream_after, identifier_at, drawn, KeepsIdentifiers, Registers, AreUsedUp}
+use Rattle.cache_store.specs.Identifiers.{stream_left, identifier_after, next_drawn, KeepsIdentifiers, Registers, AreUsedUp}
 use Rattle.engine_reference.specs.Identifiers.Drawing as engine
 use Rattle.engine_reference.specs.Identifiers.Drawing.{is_registered}
 use Rattle.engine_reference.specs.declared.data.Registered.{Registered}
@@ -73,7 +73,13 @@ both-halves : (f : ℕ → ℕ) → listing 16 f ≡ listing 8 f ++ listing 8 (�
 both-halves f = refl
 
 same_listing : (f g : ℕ → ℕ) → ((i : ℕ) → f i < 256) → ((i : ℕ) → g i < 256) → from_be_bytes w128 (listing 16 f) ≡ from_be_bytes w128 (listing 16 g) → listing 16 f ≡ listing 16 g
-same_listing f g small_f small_g e = grind (arith, halves f, halves g, eight-small (λ i. f (8 + i)) (λ i. small_f (8 + i)), eight-small (λ i. g (8 + i)) (λ i. small_g (8 + i)), same_high (eight f) (eight g) (eight (λ i. f (8 + i))) (eight (λ i. g (8 + i))), same_low (eight f) (eight g) (eight (λ i. f (8 + i))) (eight (λ i. g (8 + i))), both-halves f, eight-listing f small_f, eight-listing g small_g, eight-listing (λ i. f (8 + i)) (λ i. small_f (8 + i)), eight-listing (λ i. g (8 + i)) (λ i. small_g (8 + i)), both-halves g)
+same_listing f g small_f small_g e =
+    let small = eight-small (λ i. g (8 + i)) (λ i. small_g (8 + i)) in
+    let high = same_high (eight f) (eight g) (eight (λ i. f (8 + i))) (eight (λ i. g (8 + i))) in
+    let low = same_low (eight f) (eight g) (eight (λ i. f (8 + i))) (eight (λ i. g (8 + i))) in
+    let listing = eight-listing (λ i. f (8 + i)) (λ i. small_f (8 + i)) in
+    let eight2 = eight-listing (λ i. g (8 + i)) (λ i. small_g (8 + i)) in
+    grind (arith, halves f, halves g, eight-small (λ i. f (8 + i)) (λ i. small_f (8 + i)), small, high, low, both-halves f, eight-listing f small_f, eight-listing g small_g, listing, eight2, both-halves g)
 
 sixteen : (xs : List ℕ) → is_identifier xs ≡ true → xs ≡ listing 16 (byte_of xs)
 sixteen xs is = listed xs ∙ ap (λ n. listing n (byte_of xs)) (eqb-true (length xs) 16 (and_parts (length xs == 16) _ is).0)
@@ -86,27 +92,27 @@ same_bytes xs ys x y e = grind (arith, sixteen, same_listing, byte_of, small-byt
 
 -- ---- the drawn stream
 
-streams_are : (n : ℕ) (s : Stream) → engine.stream_after n s ≡ stream_after n s
+streams_are : (n : ℕ) (s : Stream) → engine.stream_after n s ≡ stream_left n s
 streams_are zero s = refl
 streams_are (suc n) s = ap (λ t. (v4_of_fill (fill_bytes 16 t)).1) (streams_are n s)
 
 -- the engine's number is what the bytes say
-number_is : (n : ℕ) (s : Stream) → engine.identifier_at n s ≡ from_be_bytes w128 (identifier_at n s)
+number_is : (n : ℕ) (s : Stream) → engine.identifier_at n s ≡ from_be_bytes w128 (identifier_after n s)
 number_is n s = ap (λ t. from_be_bytes w128 (v4_of_fill (fill_bytes 16 t)).0) (streams_are n s)
 
-stream-further : (a b : ℕ) (s : Stream) → stream_after a (stream_after b s) ≡ stream_after (a + b) s
-stream-further zero b s = ap (λ n. stream_after n s) (let e : b ≡ 0 + b = omega arith in e)
-stream-further (suc a) b s = ap (λ t. (drawn t).1) (stream-further a b s) ∙ ap (λ n. stream_after n s) (let e : suc (a + b) ≡ suc a + b = omega arith in e)
+stream-further : (a b : ℕ) (s : Stream) → stream_left a (stream_left b s) ≡ stream_left (a + b) s
+stream-further zero b s = ap (λ n. stream_left n s) (let e : b ≡ 0 + b = omega arith in e)
+stream-further (suc a) b s = ap (λ t. (next_drawn t).1) (stream-further a b s) ∙ ap (λ n. stream_left n s) (let e : suc (a + b) ≡ suc a + b = omega arith in e)
 
-identifier-further : (a b : ℕ) (s : Stream) → identifier_at a (stream_after b s) ≡ identifier_at (a + b) s
-identifier-further a b s = ap (λ t. (drawn t).0) (stream-further a b s)
+identifier-further : (a b : ℕ) (s : Stream) → identifier_after a (stream_left b s) ≡ identifier_after (a + b) s
+identifier-further a b s = ap (λ t. (next_drawn t).0) (stream-further a b s)
 
 -- each that is drawn is 16 bytes
 all-bytes : (xs : List ℕ) → All (λ b. b < 256) xs → list_all (λ b. nat_lt b 256) xs ≡ true
 all-bytes [] all = refl
 all-bytes (x ∷ xs) all = and_from _ _ (lt-ltb x 256 (All-head (λ b. b < 256) x xs all)) (all-bytes xs (All-tail (λ b. b < 256) x xs all))
 
-identifiers-are : (number : ℕ) (s : Stream) → engine.AreIdentifiers number s → (n : ℕ) → n < number → is_identifier (identifier_at n s) ≡ true
+identifiers-are : (number : ℕ) (s : Stream) → engine.AreIdentifiers number s → (n : ℕ) → n < number → is_identifier (identifier_after n s) ≡ true
 identifiers-are number s bytes n lt = grind (arith, streams_are n s, and_from, eq-eqb, all-bytes)
 
 -- ---- what is registered
@@ -130,9 +136,12 @@ registered-own (x ∷ ps) zero p there = grind (arith, or_left, eq-eqb)
 registered-own (x ∷ ps) (suc place) p there = or_right (x.id == p.id) (is_registered ps p.id) (registered-own ps place p there)
 
 -- a predicate whose number is that of a drawn identifier registers that one alone
-registers-drawn : (ps : List (Registered (List ℕ))) (p : Registered (List ℕ)) (n : ℕ) (start : Stream) → is_identifier (identifier_at n start) ≡ true → p.id ≡ engine.identifier_at n start
-    → (id : List ℕ) → is_registered_in (ps ++ p ∷ []) id ≡ true → (is_registered_in ps id || same id (identifier_at n start)) ≡ true
-registers-drawn ps p n start proper drawn_is id e = grind (arith, and_parts (is_identifier id) (is_registered (ps ++ p ∷ []) (from_be_bytes w128 id)) e, registered-pushed ps p (from_be_bytes w128 id), or_left (is_registered_in ps id) (same id (identifier_at n start)), and_from, or_right (is_registered_in ps id) (same id (identifier_at n start)), same_bytes id (identifier_at n start), number_is n start, same-refl id)
+registers-drawn : (ps : List (Registered (List ℕ))) (p : Registered (List ℕ)) (n : ℕ) (start : Stream) → is_identifier (identifier_after n start) ≡ true → p.id ≡ engine.identifier_at n start
+    → (id : List ℕ) → is_registered_in (ps ++ p ∷ []) id ≡ true → (is_registered_in ps id || same id (identifier_after n start)) ≡ true
+registers-drawn ps p n start proper drawn_is id e =
+    let parts = and_parts (is_identifier id) (is_registered (ps ++ p ∷ []) (from_be_bytes w128 id)) e in
+    let right = or_right (is_registered_in ps id) (same id (identifier_after n start)) in
+    grind (arith, parts, registered-pushed ps p (from_be_bytes w128 id), or_left (is_registered_in ps id) (same id (identifier_after n start)), and_from, right, same_bytes id (identifier_after n start), number_is n start, same-refl id)
 
 -- ---- all parts draw
 
@@ -141,15 +150,15 @@ module _ {S : Type 0} (prefix : List ℕ) (step : ℕ) (start : Stream) where
   record Drawn (first : ℕ) (parts news : List (Part S)) (new : Stream) : Type 0 where
     number : ℕ
     later : first ≤ number
-    stream : new ≡ stream_after number start
+    stream : new ≡ stream_left number start
     more : (s : Part S) → slice_get parts 0 ≡ Some s → first < number
     each : (part : ℕ) (t : Part S) → slice_get news part ≡ Some t
-        → (s : Part S) × (place : ℕ) × (p : Registered (List ℕ)) × (slice_get parts part ≡ Some s) × (place < number) × (p.id ≡ engine.identifier_at place start) × (t ≡ with_predicate p s) × (is_identifier (identifier_at place start) ≡ true)
+        → (s : Part S) × (place : ℕ) × (p : Registered (List ℕ)) × (slice_get parts part ≡ Some s) × (place < number) × (p.id ≡ engine.identifier_at place start) × (t ≡ with_predicate p s) × (is_identifier (identifier_after place start) ≡ true)
 
-  drawn-all : (first : ℕ) (parts : List (Part S)) (old new : Stream) (ids : List ℕ) → old ≡ stream_after first start → DrawAll parts old new ids → Drawn first parts (registered_in prefix step ids parts) new
+  drawn-all : (first : ℕ) (parts : List (Part S)) (old new : Stream) (ids : List ℕ) → old ≡ stream_left first start → DrawAll parts old new ids → Drawn first parts (registered_in prefix step ids parts) new
   drawn-all first [] old new ids at d = grind (arith, none-some)
   drawn-all first (s ∷ ss) old new ids at (id, rest, mid, is, draws, others) =
-      let next : mid ≡ stream_after (suc draws.place + first) start = draws.stream ∙ streams_are (suc draws.place) old ∙ ap (stream_after (suc draws.place)) at ∙ stream-further (suc draws.place) first start in
+      let next : mid ≡ stream_left (suc draws.place + first) start = draws.stream ∙ streams_are (suc draws.place) old ∙ ap (stream_left (suc draws.place)) at ∙ stream-further (suc draws.place) first start in
       let d = drawn-all (suc draws.place + first) ss mid new rest next others in
       let more = d.later in
       record {
@@ -162,14 +171,14 @@ module _ {S : Type 0} (prefix : List ℕ) (step : ℕ) (start : Stream) where
     where
       own : id ≡ engine.identifier_at (draws.place + first) start
       own =
-          draws.drawn ∙ number_is draws.place old ∙ ap (λ t. from_be_bytes w128 (identifier_at draws.place t)) at
+          draws.drawn ∙ number_is draws.place old ∙ ap (λ t. from_be_bytes w128 (identifier_after draws.place t)) at
           ∙ ap (from_be_bytes w128) (identifier-further draws.place first start) ∙ sym (number_is (draws.place + first) start)
 
-      proper : is_identifier (identifier_at (draws.place + first) start) ≡ true
-      proper = ap is_identifier (sym (identifier-further draws.place first start) ∙ ap (identifier_at draws.place) (sym at)) ∙ identifiers-are (suc draws.place) old draws.bytes draws.place (omega arith)
+      proper : is_identifier (identifier_after (draws.place + first) start) ≡ true
+      proper = ap is_identifier (sym (identifier-further draws.place first start) ∙ ap (identifier_after draws.place) (sym at)) ∙ identifiers-are (suc draws.place) old draws.bytes draws.place (omega arith)
 
       go : (part : ℕ) (t : Part S) → slice_get (registered_in prefix step (id ∷ rest) (s ∷ ss)) part ≡ Some t → (d : Drawn (suc draws.place + first) ss (registered_in prefix step rest ss) new)
-          → (x : Part S) × (place : ℕ) × (p : Registered (List ℕ)) × (slice_get (s ∷ ss) part ≡ Some x) × (place < d.number) × (p.id ≡ engine.identifier_at place start) × (t ≡ with_predicate p x) × (is_identifier (identifier_at place start) ≡ true)
+          → (x : Part S) × (place : ℕ) × (p : Registered (List ℕ)) × (slice_get (s ∷ ss) part ≡ Some x) × (place < d.number) × (p.id ≡ engine.identifier_at place start) × (t ≡ with_predicate p x) × (is_identifier (identifier_after place start) ≡ true)
       go zero t there d = let more = d.later in (s, draws.place + first, record { id = id; predicate = prefix; step = step }, refl, omega (arith, more), own, cc, proper)
       go (suc k) t there d = d.each k t there
 
@@ -179,24 +188,24 @@ module _ {S : Type 0} (prefix : List ℕ) (step : ℕ) (start : Stream) where
     s : Part S
     there : slice_get parts part ≡ Some s
     before : ℕ
-    stream : new ≡ stream_after (1000 + before) start
-    each : (n : ℕ) → n < 1000 → is_registered_in s.predicates (identifier_at (n + before) start) ≡ true
+    stream : new ≡ stream_left (1000 + before) start
+    each : (n : ℕ) → n < 1000 → is_registered_in s.predicates (identifier_after (n + before) start) ≡ true
 
-  in-vain : (first : ℕ) (parts : List (Part S)) (old new : Stream) → old ≡ stream_after first start → DrawsInVain parts old new → InVain first parts new
+  in-vain : (first : ℕ) (parts : List (Part S)) (old new : Stream) → old ≡ stream_left first start → DrawsInVain parts old new → InVain first parts new
   in-vain first [] old new at d = absurd d
   in-vain first (s ∷ ss) old new at (inl used) = record {
     part = 0;
     s = s;
     there = refl;
     before = first;
-    stream = used.drawn.stream ∙ streams_are used.number old ∙ ap (λ n. stream_after n old) used.thousand ∙ ap (stream_after 1000) at ∙ stream-further 1000 first start;
+    stream = used.drawn.stream ∙ streams_are used.number old ∙ ap (λ n. stream_left n old) used.thousand ∙ ap (stream_left 1000) at ∙ stream-further 1000 first start;
     each = λ n lt.
-        (let is = sym (identifier-further n first start) ∙ ap (identifier_at n) (sym at) in
+        (let is = sym (identifier-further n first start) ∙ ap (identifier_after n) (sym at) in
         ap (is_registered_in s.predicates) is
         ∙ and_from _ _ (identifiers-are used.number old used.drawn.bytes n (let all = used.thousand in omega (arith, all, lt))) (ap (is_registered s.predicates) (sym (number_is n old)) ∙ used.drawn.each n (let all = used.thousand in omega (arith, all, lt))));
   }
   in-vain first (s ∷ ss) old new at (inr (id, mid, draws, later)) =
-      let next : mid ≡ stream_after (suc draws.place + first) start = draws.stream ∙ streams_are (suc draws.place) old ∙ ap (stream_after (suc draws.place)) at ∙ stream-further (suc draws.place) first start in
+      let next : mid ≡ stream_left (suc draws.place + first) start = draws.stream ∙ streams_are (suc draws.place) old ∙ ap (stream_left (suc draws.place)) at ∙ stream-further (suc draws.place) first start in
       let v = in-vain (suc draws.place + first) ss mid new next later in
       record { part = suc v.part; s = v.s; there = v.there; before = v.before; stream = v.stream; each = v.each }
 
@@ -213,14 +222,14 @@ registers_all {S = S} prefix step parts old new ids first there d =
     }
   where
     go : (part : ℕ) (o : Option (Part S)) → slice_get (registered_in prefix step ids parts) part ≡ o → (k : Drawn prefix step old 0 parts (registered_in prefix step ids parts) new)
-        → (place : ℕ) × (place < k.number) × ((id : List ℕ) → IsTrue (option_map_or (λ (s : Part S). is_registered_in s.predicates id) (slice_get (registered_in prefix step ids parts) part) false) → IsTrue (register_of parts part id || same id (identifier_at place old)))
+        → (place : ℕ) × (place < k.number) × ((id : List ℕ) → IsTrue (option_map_or (λ (s : Part S). is_registered_in s.predicates id) (slice_get (registered_in prefix step ids parts) part) false) → IsTrue (register_of parts part id || same id (identifier_after place old)))
     go part None at k = (0, k.more first there, λ id e. absurd (true≢false (sym e ∙ ap (λ o. option_map_or (λ (s : Part S). is_registered_in s.predicates id) o false) at)))
     go part (Some t) at k =
         let x = k.each part t at in (
           x.1,
           x.4,
           λ id e.
-              ap (λ o. option_map_or (λ (s : Part S). is_registered_in s.predicates id) o false || same id (identifier_at x.1 old)) x.3
+              ap (λ o. option_map_or (λ (s : Part S). is_registered_in s.predicates id) o false || same id (identifier_after x.1 old)) x.3
               ∙ registers-drawn x.0.predicates x.2 x.1 old x.7 x.5 id
               (ap (λ (y : Part S). is_registered_in y.predicates id) (sym x.6) ∙ ap (λ o. option_map_or (λ (s : Part S). is_registered_in s.predicates id) o false) (sym at) ∙ e),
         )
@@ -242,8 +251,8 @@ used_up {S = S} parts old new d =
       thousand = omega arith;
       stream = v.stream;
       each = λ n from below.
-          ap (λ o. option_map_or (λ (s : Part S). is_registered_in s.predicates (identifier_at n old)) o false) v.there
-          ∙ (let is : n ≡ (n - v.before) + v.before = omega (arith, from) in ap (λ m. is_registered_in v.s.predicates (identifier_at m old)) is ∙ v.each (n - v.before) (omega (arith, from, below)));
+          ap (λ o. option_map_or (λ (s : Part S). is_registered_in s.predicates (identifier_after n old)) o false) v.there
+          ∙ (let is : n ≡ (n - v.before) + v.before = omega (arith, from) in ap (λ m. is_registered_in v.s.predicates (identifier_after m old)) is ∙ v.each (n - v.before) (omega (arith, from, below)));
     }
 
 -- a `DROPIF` is never refused for identifiers where no part has a predicate
@@ -294,10 +303,14 @@ module _ {S : Type 0} where
   maintained-no_more now s t new e m = grind (arith, MatchBool, from-same s t e, run_no_more now t new, from-same s new)
 
   pub looked-no_more : (key : List ℕ) (hash now : ℕ) (s new : Part S) → NotesLookUp service_answers same key hash now false s new → HasNoMore S s new
-  looked-no_more key hash now s new look n h = grind (arith, maintained-no_more now s s look.mid refl look.maintains n (ap (λ ps. is_registered ps n) (sym (ap (λ (x : Part S). x.predicates) look.reads ∙ same-read (visible_record service_answers same s now key) hash now look.mid)) ∙ h), same-read (visible_record service_answers same s now key) hash now look.mid)
+  looked-no_more key hash now s new look n h =
+      let more = maintained-no_more now s s look.mid refl look.maintains n (ap (λ ps. is_registered ps n) (sym (ap (λ (x : Part S). x.predicates) look.reads ∙ same-read (visible_record service_answers same s now key) hash now look.mid)) ∙ h) in
+      grind (arith, more, same-read (visible_record service_answers same s now key) hash now look.mid)
 
   pub inserted-no_more : (key : List ℕ) (hash now step : ℕ) (value : Stored) (s new : Part S) → Inserts service_answers same key hash value now step s new → HasNoMore S s new
-  inserted-no_more key hash now step value s new call = grind (arith, from-same s new, maintained-no_more now s (inserted service_answers same key hash value now step s) new (same-sent s.next_ticket (written service_answers same (with_room s) key hash value now step) ∙ same-written (held_at same s.records key) (with_room s) key hash value now step), same-sent s.next_ticket (written service_answers same (with_room s) key hash value now step), same-written (held_at same s.records key) (with_room s) key hash value now step)
+  inserted-no_more key hash now step value s new call =
+      let more = maintained-no_more now s (inserted service_answers same key hash value now step s) new (same-sent s.next_ticket (written service_answers same (with_room s) key hash value now step) ∙ same-written (held_at same s.records key) (with_room s) key hash value now step) in
+      grind (arith, from-same s new, more, same-sent s.next_ticket (written service_answers same (with_room s) key hash value now step), same-written (held_at same s.records key) (with_room s) key hash value now step)
 
   pub removed-no_more : (key : List ℕ) (now : ℕ) (s new : Part S) → TakesOut service_answers same key now s new → HasNoMore S s new
   removed-no_more key now s new call = grind (arith, from-same s new, maintained-no_more now s, same-taken_out)

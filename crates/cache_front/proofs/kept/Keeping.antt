@@ -1,5 +1,5 @@
 -- What a store keeps of a part, kept by each call.
-use Rattle.std.proofs.Common.{◌≡◌, refl, ap, sym, ◌∙◌, subst, ℕ, zero, suc, Bool, true, false, cond, List, [], ◌∷◌, Option, Some, None, is_some, slice_get, remove, arith, ◌+◌, ◌≤◌, true≢false, ◌||◌, MatchBool, ◌++◌, length, option_map, is_none, IsTrue, ◌<◌, length-append, nat_lt, nat_le, MatchOption}
+use Rattle.std.proofs.Common.{◌≡◌, refl, ap, sym, ◌∙◌, subst, ℕ, zero, suc, Bool, true, false, List, [], ◌∷◌, Option, Some, None, slice_get, remove, arith, ◌+◌, ◌≤◌, true≢false, ◌||◌, MatchBool, ◌++◌, length, option_map, is_none, IsTrue, ◌<◌, length-append, nat_le, MatchOption}
 use Rattle.std.proofs.lemmas.Option.{none-some}
 use Rattle.policy_base.specs.Counts.{incremented}
 use Rattle.engine_reference.specs.declared.rules.causes.RemovalCause.{RemovalCause}
@@ -12,8 +12,8 @@ use Rattle.engine_reference.specs.declared.data.Read.TheVariants.{Hit, Miss}
 use Rattle.engine_reference.specs.declared.data.Write.{Write}
 use Rattle.engine_reference.specs.declared.data.Write.TheVariants.{Put, Removed}
 use Rattle.engine_reference.specs.Admission.{Verdict, admit, displace, refuse, verdict}
-use Rattle.engine_reference.specs.Records.{record_at, without_record, without, moved_to_back, held_at, changed_at, held_weight}
-use Rattle.engine_reference.specs.Runs.{Step, Steps, Runs, reads, writes, grows, leaves, evicts, ends, with_left, left, all_left, after_read, after_hit, after_write, after_put, after_removal, counting, put_off, judged, is_overtaken, RunsToEnd}
+use Rattle.engine_reference.specs.Records.{record_at, held_at, changed_at, held_weight}
+use Rattle.engine_reference.specs.Runs.{Step, Steps, Runs, reads, writes, grows, leaves, evicts, ends, with_left, left, all_left, after_read, after_hit, after_write, after_put, after_removal, judged, RunsToEnd}
 use Rattle.engine_reference.specs.State.{State, Answers}
 use Rattle.audit_model.specs.Bytewise.{same}
 use Rattle.audit_model.specs.History.{weight_of}
@@ -30,8 +30,8 @@ use Rattle.engine_reference.proofs.SoundCalls.{each-push, calls_stay_sound}
 use Rattle.engine_reference.proofs.TellingSteps.{run_tells}
 use Rattle.engine_reference.proofs.run_laws.Swept.{sent-one, each-run}
 use Rattle.front_reference.specs.Parts.{taken_out, Inserts, TakesOut, inserted, takes_nothing}
-use Rattle.cache_front.specs.Parts.{Part, Stored, IsProper, service_answers, nanos, drained, AreLight, settings_of}
-use Rattle.cache_front.specs.Keeping.{at_moment, IsProperRecord, IsOwn, IsStorable, common_by, belongs_to, IsKeptPart}
+use Rattle.cache_front.specs.Parts.{Part, Stored, IsProper, service_answers, nanos, drained, AreLight, part_settings}
+use Rattle.cache_front.specs.Keeping.{at_moment, IsProperRecord, IsServicePart, IsStorable, common_by, belongs_to, IsKeptPart}
 use Rattle.std.proofs.lemmas.Bool.{leb-false, eq-eqb}
 use Rattle.engine_reference.specs.declared.data.Notice.{Notice}
 use Rattle.engine_reference.specs.Laws.{CallsStaySound}
@@ -72,23 +72,18 @@ module _ {K V P S R : Type 0} where
   all_left-predicates why [] s = refl
   all_left-predicates why (r ∷ rs) s = all_left-predicates why rs (left why r.number s) ∙ left-predicates why r.number s
 
-  -- either of two states has this name
-  either-predicates : (b : Bool) (s t u : State K V P S R) → t.predicates ≡ s.predicates → u.predicates ≡ s.predicates → (cond b t u).predicates ≡ s.predicates
-  either-predicates true s t u h k = h
-  either-predicates false s t u h k = k
-
   judged-predicates : (u : Upsert) (r : Record K V) (s : State K V P S R) (v : Verdict K V) → (judged u r s v).predicates ≡ s.predicates
   judged-predicates u r s admit = refl
   judged-predicates u r s (displace victims) = all_left-predicates cause.Size victims s
-  judged-predicates u r s refuse = either-predicates (is_overtaken u r) s (put_off u s) (left cause.Size u.number s) refl (left-predicates cause.Size u.number s)
+  judged-predicates u r s refuse = grind (arith, left-predicates cause.Size u.number s)
 
   after_put-predicates : (u : Upsert) (o : Option (Record K V)) (s : State K V P S R) → (after_put u o s).predicates ≡ s.predicates
   after_put-predicates u None s = refl
-  after_put-predicates u (Some r) s = grind (arith, either-predicates (nat_lt r.applied u.write) s (cond (is_some r.counts) (counting u s) (judged u r s (verdict s u))) s (either-predicates (is_some r.counts) s (counting u s) (judged u r s (verdict s u)) refl (judged-predicates u r s (verdict s u))) refl, either-predicates (is_some r.counts) s (counting u s) (judged u r s (verdict s u)) refl (judged-predicates u r s (verdict s u)), judged-predicates u r s (verdict s u))
+  after_put-predicates u (Some r) s = grind (arith, judged-predicates u r s (verdict s u))
 
   after_removal-predicates : (o : Option (Record K V)) (s : State K V P S R) → (after_removal o s).predicates ≡ s.predicates
   after_removal-predicates None s = refl
-  after_removal-predicates (Some r) s = either-predicates r.is_held s s (record s { records = without_record r.number s.records; access = without r.number s.access; order = without r.number s.order }) refl refl
+  after_removal-predicates (Some r) s = grind arith
 
   after_write-predicates : (w : Write) (s : State K V P S R) → (after_write w s).predicates ≡ s.predicates
   after_write-predicates (Put u) s = after_put-predicates u (record_at s.records u.number) s
@@ -96,7 +91,7 @@ module _ {K V P S R : Type 0} where
 
   after_hit-predicates : (o : Option (Record K V)) (s : State K V P S R) → (after_hit o s).predicates ≡ s.predicates
   after_hit-predicates None s = refl
-  after_hit-predicates (Some r) s = either-predicates (is_some r.counts) s (record s { access = moved_to_back r.number s.access }) s refl refl
+  after_hit-predicates (Some r) s = grind arith
 
   after_read-predicates : (r : Read) (s : State K V P S R) → (after_read r s).predicates ≡ s.predicates
   after_read-predicates (Hit number hash) s = after_hit-predicates (record_at s.records number) (record s { sketch = incremented s.sketch hash })
@@ -135,16 +130,14 @@ weighs-little Bytes bytes short = short
 
 -- a value without a time of its own has no deadline of its own
 none-own : (now : ℕ) (own : Bool) (ms : Option ℕ) → IsTrue (own || is_none ms) → IsTrue (own || is_none (own_expiration now (option_map nanos ms)))
-none-own now true ms h = h
-none-own now false None h = h
-none-own now false (Some m) h = h
+none-own now own ms h = grind (arith, h)
 
 proper-later : (frame : Frame) (part step now next : ℕ) → frame.latest ≤ now → step ≤ next → (e : Entry (List ℕ) Stored) → IsProper frame part step e → IsProper (at_moment frame now) part next e
 proper-later frame part step now next less rises e p = grind arith
 
 module _ {S : Type 0} where
   -- time passes
-  pub own-later : (frame : Frame) (part step now next : ℕ) (s : Part S) → frame.latest ≤ now → step ≤ next → IsOwn frame part step s → IsOwn (at_moment frame now) part next s
+  pub own-later : (frame : Frame) (part step now next : ℕ) (s : Part S) → frame.latest ≤ now → step ≤ next → IsServicePart frame part step s → IsServicePart (at_moment frame now) part next s
   own-later frame part step now next s less rises h = record {
     rules = h.rules;
     proper = each-map (IsProperRecord frame part step) (IsProperRecord (at_moment frame now) part next) (λ r k held. proper-later frame part step now next less rises r.entry (k held)) s.records h.proper;
@@ -157,12 +150,12 @@ module _ {S : Type 0} where
   }
 
   -- notices are taken
-  pub own-drained : (frame : Frame) (part step : ℕ) (s : Part S) → IsOwn frame part step s → IsOwn frame part step (drained s)
+  pub own-drained : (frame : Frame) (part step : ℕ) (s : Part S) → IsServicePart frame part step s → IsServicePart frame part step (drained s)
   own-drained frame part step s h = grind arith
 
   -- ---- runs
 
-  pub own-run : (frame : Frame) (part step now : ℕ) (s new : Part S) → IsSound s → Runs service_answers now s new → IsOwn frame part step s → IsOwn frame part step new
+  pub own-run : (frame : Frame) (part step now : ℕ) (s new : Part S) → IsSound s → Runs service_answers now s new → IsServicePart frame part step s → IsServicePart frame part step new
   own-run frame part step now s new sound run h =
       let keeps = (run_tells service_answers now s new run).keeps in
       record {
@@ -176,12 +169,12 @@ module _ {S : Type 0} where
         light = subst (λ ws. AreLight 8192 ws) (sym (ap (λ (x : Part S). x.writes) run.after ∙ run.applied.writes)) tt;
       }
 
-  pub own-maintained : (frame : Frame) (part step now : ℕ) (s new : Part S) → IsSound s → MaintainsIfDue service_answers now s new → IsOwn frame part step s → IsOwn frame part step new
+  pub own-maintained : (frame : Frame) (part step now : ℕ) (s new : Part S) → IsSound s → MaintainsIfDue service_answers now s new → IsServicePart frame part step s → IsServicePart frame part step new
   own-maintained frame part step now s new sound m h = grind (arith, MatchBool, own-run frame part step now s new sound)
 
   -- ---- look-ups
 
-  pub own-read : (frame : Frame) (part step hash : ℕ) (s : Part S) (o : Option (Record (List ℕ) Stored)) → IsSound s → IsOwn frame part step s → IsOwn frame part step (with_read service_answers o hash frame.latest s)
+  pub own-read : (frame : Frame) (part step hash : ℕ) (s : Part S) (o : Option (Record (List ℕ) Stored)) → IsSound s → IsServicePart frame part step s → IsServicePart frame part step (with_read service_answers o hash frame.latest s)
   own-read frame part step hash s None sound h = record { rules = h.rules; proper = h.proper; fresh = record { cleared = h.fresh.cleared; predicates = h.fresh.predicates }; undropped = h.undropped; light = h.light }
   own-read frame part step hash s (Some r) sound h = record {
     rules = h.rules;
@@ -197,7 +190,7 @@ module _ {S : Type 0} where
 
   -- ---- writes
 
-  module _ (frame : Frame) (part step hash : ℕ) (s : Part S) (key : List ℕ) (value : Stored) (v : IsStorable frame part key value) (h : IsOwn frame part step s) where
+  module _ (frame : Frame) (part step hash : ℕ) (s : Part S) (key : List ℕ) (value : Stored) (v : IsStorable frame part key value) (h : IsServicePart frame part step s) where
     -- what is written is as the service writes it
     proper-new : (e : Entry (List ℕ) Stored) → e.key ≡ key → e.value ≡ value → e.step ≡ step → e.written ≡ frame.latest → e.used ≡ frame.latest → e.weight ≡ weight_of s.rules value.bytes → e.expires ≡ own_expiration frame.latest (option_map nanos value.milliseconds)
         → IsProper frame part step e
@@ -206,14 +199,14 @@ module _ {S : Type 0} where
     little : weight_of s.rules value.bytes ≤ 8192
     little = weighs-little s.rules value.bytes v.short
 
-    pub own-put : s.unsent ≡ [] → IsSound s → IsOwn frame part step (sent s.next_ticket (written service_answers same s key hash value frame.latest step))
+    pub own-put : s.unsent ≡ [] → IsSound s → IsServicePart frame part step (sent s.next_ticket (written service_answers same s key hash value frame.latest step))
     own-put sent_all sound = go (held_at same s.records key)
       where
-        go : (o : Option (Record (List ℕ) Stored)) → IsOwn frame part step (sent s.next_ticket (with_written service_answers o s key hash value frame.latest step))
+        go : (o : Option (Record (List ℕ) Stored)) → IsServicePart frame part step (sent s.next_ticket (with_written service_answers o s key hash value frame.latest step))
         go None =
             let x : Record (List ℕ) Stored = record { number = s.next_number; hash = hash; entry = first_entry service_answers s key value frame.latest step; is_held = true; writes = 1; applied = 0; counts = None } in
             let u : Unsent = record { ticket = s.next_ticket; write = Put (record { number = s.next_number; write = 1; weight = x.entry.weight; hash = hash; kept = held_weight (s.records ++ x ∷ []) }) } in
-            subst (λ t. IsOwn frame part step t) (sym (sent-one u (with_written service_answers None s key hash value frame.latest step) (ap (λ us. us ++ u ∷ []) sent_all)))
+            subst (λ t. IsServicePart frame part step t) (sym (sent-one u (with_written service_answers None s key hash value frame.latest step) (ap (λ us. us ++ u ∷ []) sent_all)))
             (record {
               rules = h.rules;
               proper = each-push (IsProperRecord frame part step) s.records x h.proper (λ held. proper-new x.entry refl refl refl refl refl refl refl);
@@ -225,7 +218,7 @@ module _ {S : Type 0} where
             let f : Record (List ℕ) Stored → Record (List ℕ) Stored = λ x. record x { entry = next_entry service_answers s r.entry key value frame.latest step; writes = x.writes + 1 } in
             let records = changed_at r.number f s.records in
             let u : Unsent = record { ticket = s.next_ticket; write = Put (record { number = r.number; write = r.writes + 1; weight = (next_entry service_answers s r.entry key value frame.latest step).weight; hash = hash; kept = held_weight records }) } in
-            subst (λ t. IsOwn frame part step t) (sym (sent-one u (with_written service_answers (Some r) s key hash value frame.latest step) (ap (λ us. us ++ u ∷ []) sent_all)))
+            subst (λ t. IsServicePart frame part step t) (sym (sent-one u (with_written service_answers (Some r) s key hash value frame.latest step) (ap (λ us. us ++ u ∷ []) sent_all)))
             (record {
               rules = h.rules;
               proper = each-changed r.number f (IsProperRecord frame part step) (IsProperRecord frame part step)
@@ -236,15 +229,15 @@ module _ {S : Type 0} where
             })
 
   -- room is made
-  pub own-room : (frame : Frame) (part step : ℕ) (s : Part S) → IsOwn frame part step s → IsOwn frame part step (with_room s)
+  pub own-room : (frame : Frame) (part step : ℕ) (s : Part S) → IsServicePart frame part step s → IsServicePart frame part step (with_room s)
   own-room frame part step s h = record { rules = h.rules; proper = h.proper; fresh = record { cleared = h.fresh.cleared; predicates = h.fresh.predicates }; undropped = h.undropped; light = h.light }
 
   -- ---- removals
 
-  pub own-taken_out : (frame : Frame) (part step now : ℕ) (s : Part S) (r : Record (List ℕ) Stored) → s.unsent ≡ [] → IsSound s → IsOwn frame part step s → IsOwn frame part step (taken_out service_answers r now s)
+  pub own-taken_out : (frame : Frame) (part step now : ℕ) (s : Part S) (r : Record (List ℕ) Stored) → s.unsent ≡ [] → IsSound s → IsServicePart frame part step s → IsServicePart frame part step (taken_out service_answers r now s)
   own-taken_out frame part step now s r sent_all sound h =
       let u : Unsent = record { ticket = s.next_ticket; write = Removed r.number } in
-      subst (λ t. IsOwn frame part step (removal_told service_answers r.entry now t)) (sym (sent-one u (with_removed (Some r) s) (ap (λ us. us ++ u ∷ []) sent_all)))
+      subst (λ t. IsServicePart frame part step (removal_told service_answers r.entry now t)) (sym (sent-one u (with_removed (Some r) s) (ap (λ us. us ++ u ∷ []) sent_all)))
       (record {
         rules = h.rules;
         proper = each-changed r.number (λ x. record x { is_held = false; writes = x.writes + 1 }) (IsProperRecord frame part step) (IsProperRecord frame part step)
@@ -304,7 +297,7 @@ module _ {S : Type 0} where
     sound : IsSound s
     sound = h.front.ordered.sound
 
-    own : IsOwn after part next s
+    own : IsServicePart after part next s
     own = own-later frame part step now next s less rises h.own
 
     -- another part's call
@@ -326,7 +319,7 @@ module _ {S : Type 0} where
     kept-looked_up key hash new look = record {
       hasher = h.hasher;
       front = front-drained common belongs now next new (keep.looked_up common same same_laws belongs service_answers frame.latest step now next s new key hash false less rises look h.front);
-      own = own-drained after part next new (subst (λ x. IsOwn after part next x) (sym look.reads)
+      own = own-drained after part next new (subst (λ x. IsServicePart after part next x) (sym look.reads)
           (own-read after part next hash look.mid (visible_record service_answers same s now key) (sound-maintained now s look.mid sound look.maintains) (own-maintained after part next now s look.mid sound look.maintains own)));
       reads = subst (λ (x : Part S). length x.reads ≤ 64) (sym look.reads) (one_more (visible_record service_answers same s now key));
       taken = refl;
@@ -363,8 +356,8 @@ module _ {S : Type 0} where
       taken = refl;
     }
       where
-        go_own : (o : Option (Record (List ℕ) Stored)) → held_at same s.records key ≡ o → MatchOption o (new ≡ s) (λ r. MaintainsIfDue service_answers now (taken_out service_answers r now s) new) → IsOwn after part next new
-        go_own None e is = subst (λ x. IsOwn after part next x) (sym is) own
+        go_own : (o : Option (Record (List ℕ) Stored)) → held_at same s.records key ≡ o → MatchOption o (new ≡ s) (λ r. MaintainsIfDue service_answers now (taken_out service_answers r now s) new) → IsServicePart after part next new
+        go_own None e is = subst (λ x. IsServicePart after part next x) (sym is) own
         go_own (Some r) e maintains =
             own-maintained after part next now (taken_out service_answers r now s) new (sound-taken_out key now s r e sound) maintains (own-taken_out after part next now s r h.front.sent sound own)
 
@@ -412,7 +405,7 @@ module _ {S : Type 0} where
         pushed (x ∷ ps) (suc k) q all there = pushed ps k q (λ i y h. all (suc i) y h) there
 
   -- a part that was just made
-  pub kept-new : (frame : Frame) (part : ℕ) (name : Option (List ℕ)) (hasher : S) (s : Part S) → frame.latest ≡ frame.made → IsNew name (settings_of frame.config frame.made) hasher frame.config.weight s → IsKeptPart frame part 0 s
+  pub kept-new : (frame : Frame) (part : ℕ) (name : Option (List ℕ)) (hasher : S) (s : Part S) → frame.latest ≡ frame.made → IsNew name (part_settings frame.config frame.made) hasher frame.config.weight s → IsKeptPart frame part 0 s
   kept-new frame part name hasher s first made = record {
     hasher = hasher;
     front = subst (λ m. IsKept 63 same (common_by frame hasher) (belongs_to frame part) m 0 s) (sym first) (keep.empty (common_by frame hasher) same (belongs_to frame part) name s made);

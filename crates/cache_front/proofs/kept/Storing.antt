@@ -30,7 +30,7 @@ use Rattle.engine_reference.specs.Soundness.{Each}
 use Rattle.engine_reference.specs.Telling.{entry_of, AreApart}
 use Rattle.front_reference.specs.Fronts.{CallsEach}
 use Rattle.front_reference.specs.Parts.{Inserts, TakesOut, takes_nothing}
-use Rattle.cache_front.specs.Parts.{Part, Stored, IsProper, service_answers, settings_of, items_of, AreMarked, Stands, put, put_entry, nanos, drained, IsBrief}
+use Rattle.cache_front.specs.Parts.{Part, Stored, IsProper, service_answers, part_settings, items_of, AreMarked, Stands, value_put, put_entry, nanos, drained, IsBrief}
 use Rattle.cache_front.proofs.parts.Joining.{Maintained, idle, ran, Knows, IsNewValue, entry_of-key, own_is, fresh_is}
 use Rattle.cache_front.proofs.parts.Items.{ArePlaced, AreParted, decides, replaced-there, replaced-other}
 use Rattle.cache_front.proofs.parts.Writing.{wrote, Kept}
@@ -85,8 +85,12 @@ covers-all {S = S} next prefix (s ∷ ss) old new ids (id, rest, mid, is, draws,
     go : (place : ℕ) (before : Part S) → slice_get (s ∷ ss) place ≡ Some before → CallsEach (CoversIn next) ss (registered_in prefix next rest ss)
         → (after : Part S) × (slice_get (registered_in prefix next (id ∷ rest) (s ∷ ss)) place ≡ Some after) × CoversIn next before after
     go zero before there later =
-        let one : s ≡ before = cc in
-        (with_predicate (record { id = id; predicate = prefix; step = next }) s, refl, subst (λ x. CoversIn next x (with_predicate (record { id = id; predicate = prefix; step = next }) s)) one (record { room = s.reserved; predicate = record { id = id; predicate = prefix; step = next }; at = refl; is = refl }))
+        let one : s ≡ before = cc in (
+          with_predicate (record { id = id; predicate = prefix; step = next }) s,
+          refl,
+          subst (λ x. CoversIn next x (with_predicate (record { id = id; predicate = prefix; step = next }) s)) one
+              (record { room = s.reserved; predicate = record { id = id; predicate = prefix; step = next }; at = refl; is = refl }),
+        )
     go (suc k) before there later = later.each k before there
 
 module _ {S : Type 0} where
@@ -132,17 +136,23 @@ module _ {S : Type 0} where
 
   -- ---- the calls
 
-  pub keeps-look_up : (frame : Frame) (step now next part : ℕ) (parts : List (Part S)) (s new : Part S) (key : List ℕ) (hash : ℕ) → Comes frame step now next → AreKeptParts frame step parts → slice_get parts part ≡ Some s → NotesLookUp service_answers same key hash now false s new → AreKeptParts (at_moment frame now) next (slice_set parts part (drained new))
+  pub keeps-look_up : (frame : Frame) (step now next part : ℕ) (parts : List (Part S)) (s new : Part S) (key : List ℕ) (hash : ℕ) → Comes frame step now next → AreKeptParts frame step parts
+      → slice_get parts part ≡ Some s → NotesLookUp service_answers same key hash now false s new → AreKeptParts (at_moment frame now) next (slice_set parts part (drained new))
   keeps-look_up frame step now next part parts s new key hash at h there look = one-kept frame step now next part parts s (drained new) at h there (kept-looked_up frame part step now next s at.less at.rises (h.each part s there) key hash new look)
 
   -- a part takes values where the whole does
-  pub takes_values : (frame : Frame) (step : ℕ) (parts : List (Part S)) → AreKeptParts frame step parts → IsTrue (accepts_values frame.config.capacity) → takes_nothing (settings_of frame.config frame.made).capacity ≡ false
+  pub takes_values : (frame : Frame) (step : ℕ) (parts : List (Part S)) → AreKeptParts frame step parts → IsTrue (accepts_values frame.config.capacity) → takes_nothing (part_settings frame.config frame.made).capacity ≡ false
   takes_values frame step parts h accepts = grind (arith, share-positive)
 
-  pub keeps-accept : (frame : Frame) (step now next part : ℕ) (parts : List (Part S)) (s new : Part S) (key : List ℕ) (hash : ℕ) (value : Stored) → Comes frame step now next → AreKeptParts frame step parts → slice_get parts part ≡ Some s → IsTrue (accepts_values frame.config.capacity) → IsStorable frame part key value → Inserts service_answers same key hash value now next s new → AreKeptParts (at_moment frame now) next (slice_set parts part (drained new))
-  keeps-accept frame step now next part parts s new key hash value at h there accepts v call = grind (arith, one-kept frame step now next part parts s (drained new) at h there (kept-accepted frame part step now next s at.less at.rises (h.each part s there) key hash value new v (takes_values frame step parts h accepts) call), kept-accepted frame part step now next s at.less at.rises (h.each part s there) key hash value new v (takes_values frame step parts h accepts) call, takes_values frame step parts h accepts)
+  pub keeps-accept : (frame : Frame) (step now next part : ℕ) (parts : List (Part S)) (s new : Part S) (key : List ℕ) (hash : ℕ) (value : Stored) → Comes frame step now next → AreKeptParts frame step parts
+      → slice_get parts part ≡ Some s → IsTrue (accepts_values frame.config.capacity) → IsStorable frame part key value → Inserts service_answers same key hash value now next s new
+      → AreKeptParts (at_moment frame now) next (slice_set parts part (drained new))
+  keeps-accept frame step now next part parts s new key hash value at h there accepts v call =
+      let kept = one-kept frame step now next part parts s (drained new) at h there (kept-accepted frame part step now next s at.less at.rises (h.each part s there) key hash value new v (takes_values frame step parts h accepts) call) in
+      grind (arith, kept, kept-accepted frame part step now next s at.less at.rises (h.each part s there) key hash value new v (takes_values frame step parts h accepts) call, takes_values frame step parts h accepts)
 
-  pub keeps-remove : (frame : Frame) (step now next part : ℕ) (parts : List (Part S)) (s new : Part S) (key : List ℕ) → Comes frame step now next → AreKeptParts frame step parts → slice_get parts part ≡ Some s → TakesOut service_answers same key now s new → AreKeptParts (at_moment frame now) next (slice_set parts part (drained new))
+  pub keeps-remove : (frame : Frame) (step now next part : ℕ) (parts : List (Part S)) (s new : Part S) (key : List ℕ) → Comes frame step now next → AreKeptParts frame step parts → slice_get parts part ≡ Some s
+      → TakesOut service_answers same key now s new → AreKeptParts (at_moment frame now) next (slice_set parts part (drained new))
   keeps-remove frame step now next part parts s new key at h there call = one-kept frame step now next part parts s (drained new) at h there (kept-removed frame part step now next s at.less at.rises (h.each part s there) key new call)
 
   pub keeps-run_all : (frame : Frame) (step now next : ℕ) (parts news : List (Part S)) → Comes frame step now next → AreKeptParts frame step parts → CallsEach (RunsDrained S now) parts news → AreKeptParts (at_moment frame now) next news
@@ -160,7 +170,9 @@ module _ {S : Type 0} where
       all-kept frame (record frame { latest = now; dropped = true }) step next _ parts news refl refl at.range h calls
       (λ part s t k x. subst (λ y. IsKeptPart (record frame { latest = now; dropped = true }) part next y) (sym x.is) (kept-covered frame part step now next s at.less at.rises k x.room x.predicate x.at))
 
-  pub news-kept : (frame : Frame) (name : Option (List ℕ)) (hasher : S) (parts : List (Part S)) → length parts ≡ part_count frame.config → ((key : List ℕ) → frame.part_of key < part_count frame.config) → IsBrief frame.config → frame.made < 2 ^ 63 → frame.latest ≡ frame.made → ((part : ℕ) (s : Part S) → slice_get parts part ≡ Some s → IsNew name (settings_of frame.config frame.made) hasher frame.config.weight s) → AreKeptParts frame 0 parts
+  pub news-kept : (frame : Frame) (name : Option (List ℕ)) (hasher : S) (parts : List (Part S)) → length parts ≡ part_count frame.config → ((key : List ℕ) → frame.part_of key < part_count frame.config)
+      → IsBrief frame.config → frame.made < 2 ^ 63 → frame.latest ≡ frame.made
+      → ((part : ℕ) (s : Part S) → slice_get parts part ≡ Some s → IsNew name (part_settings frame.config frame.made) hasher frame.config.weight s) → AreKeptParts frame 0 parts
   news-kept frame name hasher parts number placed brief range first each = record {
     number = number;
     placed = placed;
@@ -191,9 +203,10 @@ module _ {S : Type 0} where
   some-below (s ∷ parts) zero lt = (s, refl)
   some-below (s ∷ parts) (suc k) lt = some-below parts k (let less : suc k < suc (length parts) = lt in omega (arith, less))
 
-  pub value-new : (frame : Frame) (step now next part : ℕ) (parts : List (Part S)) (s : Part S) (held : List HeldValue) (key : List ℕ) (hash : ℕ) (value : Stored) (k : Knows frame.config frame.part_of frame.made now part s parts held) (c : Corresponds (items_of 0 parts) held) (marked : AreMarked s held)
+  pub value-new : (frame : Frame) (step now next part : ℕ) (parts : List (Part S)) (s : Part S) (held : List HeldValue) (key : List ℕ) (hash : ℕ) (value : Stored)
+      (k : Knows frame.config frame.part_of frame.made now part s parts held) (c : Corresponds (items_of 0 parts) held) (marked : AreMarked s held)
       → Comes frame step now next → IsKeptPart frame part step s → IsStorable frame part key value → ((m : ℕ) → value.milliseconds ≡ Some m → m ≤ 999999999999)
-      → IsNewValue frame.config frame.part_of frame.made now part s parts held k c marked key (put_entry s key value now next) (put key hash value now next s) (value_for frame now key value.bytes value.milliseconds)
+      → IsNewValue frame.config frame.part_of frame.made now part s parts held k c marked key (put_entry s key value now next) (value_put key hash value now next s) (value_for frame now key value.bytes value.milliseconds)
   value-new frame step now next part parts s held key hash value k c marked at h v brief =
       let w = wrote key hash value now next s h.front.ordered h.front.apart (ap (λ c. c.settings.tells) h.front.made) h.front.sent in
       let range = at.range in
@@ -256,7 +269,7 @@ module _ {S : Type 0} where
       record { old = old.0; kept_before = h.each k old.0 old.1; run = subst (λ z. RunsDrained S now old.0 z) one y.2; kept = (keeps-run_all frame step now step parts news at h calls).each k x there }
 
   pub rested-part : (frame : Frame) (step now part : ℕ) (x : Part S) (news : List (Part S)) (held : List HeldValue) (parted : AreParted frame.part_of 0 news) (c : Corresponds (items_of 0 news) held) (count : (q : List ℕ) → (x : Part S) × (slice_get news (frame.part_of q) ≡ Some x))
-      (settings : (k : ℕ) (x : Part S) → slice_get news k ≡ Some x → x.settings ≡ settings_of frame.config frame.made) → Comes frame step now step → Left frame step now part x → IsRested frame.config frame.part_of frame.made news held parted c count settings now x
+      (settings : (k : ℕ) (x : Part S) → slice_get news k ≡ Some x → x.settings ≡ part_settings frame.config frame.made) → Comes frame step now step → Left frame step now part x → IsRested frame.config frame.part_of frame.made news held parted c count settings now x
   rested-part frame step now part x news held parted c count settings at l =
       let range = at.range in
       let less = at.less in
@@ -290,7 +303,9 @@ module _ {S : Type 0} where
     each-part now IsSent parts (λ k s there. (let x = h.each k s there in record { sound = x.front.ordered.sound; sent = x.front.sent })),
   )
 
-  pub lean : (frame : Frame) (step : ℕ) (parts : List (Part S)) (held : List HeldValue) (parted : AreParted frame.part_of 0 parts) (c : Corresponds (items_of 0 parts) held) (count : (q : List ℕ) → (x : Part S) × (slice_get parts (frame.part_of q) ≡ Some x)) (settings : (k : ℕ) (x : Part S) → slice_get parts k ≡ Some x → x.settings ≡ settings_of frame.config frame.made) → AreKeptParts frame step parts → (k : ℕ) (x : Part S) → slice_get parts k ≡ Some x → IsLean frame.config frame.part_of frame.made parts held parted c count settings x
+  pub lean : (frame : Frame) (step : ℕ) (parts : List (Part S)) (held : List HeldValue) (parted : AreParted frame.part_of 0 parts) (c : Corresponds (items_of 0 parts) held) (count : (q : List ℕ)
+      → (x : Part S) × (slice_get parts (frame.part_of q) ≡ Some x)) (settings : (k : ℕ) (x : Part S) → slice_get parts k ≡ Some x
+      → x.settings ≡ part_settings frame.config frame.made) → AreKeptParts frame step parts → (k : ℕ) (x : Part S) → slice_get parts k ≡ Some x → IsLean frame.config frame.part_of frame.made parts held parted c count settings x
   lean frame step parts held parted c count settings h k x there =
       let p = h.each k x there in
       record { in_order = p.front.ordered; sent = p.front.sent; few = (let few = p.front.few in omega (arith, few)); light = p.own.light }

@@ -1,9 +1,9 @@
 -- What accepting a value does.
-use Rattle.std.proofs.Common.{◌≡◌, ℕ, zero, suc, ◌+◌, Bool, cond, true, false, true≢false, not, ◌&&◌, ◌||◌, List, [], ◌∷◌, ◌++◌, map, Option, option_map, Some, None, slice_get, refl, sym, ap, ◌∙◌, subst, arith, inl, inr, ◌⊎◌, append-nil, if◌then◌else◌, slice_set}
+use Rattle.std.proofs.Common.{◌≡◌, ℕ, zero, suc, ◌+◌, Bool, cond, true, false, not, ◌&&◌, ◌||◌, List, [], ◌∷◌, ◌++◌, map, Option, option_map, Some, None, slice_get, refl, sym, ap, ◌∙◌, subst, arith, inl, inr, ◌⊎◌, append-nil, if◌then◌else◌, slice_set}
 use Rattle.std.specs.List.{find, list_all}
-use Rattle.std.proofs.lemmas.Bool.{and_from, and_parts, not-true, not_from_false, or_from, false_from_ne_true}
+use Rattle.std.proofs.lemmas.Bool.{and_from, and_parts, not-true, not_from_false, or_from, false_from_ne_true, cond_both}
 use Rattle.std.proofs.lemmas.List.Folds.{list_all-append}
-use Rattle.std.proofs.lemmas.Option.{none-some}
+use Rattle.std.proofs.lemmas.Option.{none-some, cond_some, same_Some}
 use Rattle.audit_model.specs.Bytewise.{same}
 use Rattle.audit_model.specs.Changes.{all_held_after, held_after, left_held, newly_held, use_after}
 use Rattle.audit_model.specs.Commands.{Deed}
@@ -22,13 +22,13 @@ use Rattle.engine_reference.specs.Visible.{is_covered, cause_of_write, notice_of
 use Rattle.engine_reference.proofs.run_laws.Shown.{entry-held}
 use Rattle.cache_store.specs.Promises.{Done, accepting}
 use Rattle.cache_store.proofs.Steps.{after_plain, corresponds-as}
-use Rattle.cache_store.specs.Held.{value_at, without, is_absent, are_apart, plain, Corresponds, cause_of_replaced}
+use Rattle.cache_store.specs.Held.{value_at, items_without, is_absent, have_own_keys, plain, Corresponds, cause_of_replaced}
 use Rattle.cache_store.proofs.Keys.{same-refl, same_from_equal, equal_from_same, same-flip_false}
-use Rattle.cache_store.proofs.Held.{key_from_some, absent_from_none, without-absent, absent-without, apart-without, all-without_key, value_at-map, value_at-without, left, first_of-map, without-map, replaced_truly}
+use Rattle.cache_store.proofs.Held.{key_from_some, absent_from_none, items_without-absent, absent-items_without, apart-items_without, all-without_key, value_at-map, value_at-items_without, left, first_with_key-map, items_without-map, replaced_truly}
 use Rattle.engine_reference.specs.RunLaws.Just.{IsJust}
-use Rattle.cache_front.specs.Parts.{Part, service_answers, cause_of, note_from, held_of, items_of, AreMarked, Stands, drained}
+use Rattle.cache_front.specs.Parts.{Part, service_answers, cause_of, note_from, as_held_value, items_of, AreMarked, Stands, drained}
 use Rattle.cache_front.proofs.parts.Items.{value_at-part, AreOf, of-append, of-removals, left-elsewhere, find-candidates, in_part, owner_part, decides, replaced-other, parted-at, corresponds-run, marks_everywhere}
-use Rattle.cache_front.proofs.parts.Joining.{Knows, IsNewValue, just, PointIs, fills, was, point_is, fits_written, corresponds_written, over_written, parted_t, there_t, value_at-just, stands_for, dead_from, first_of-append, Maintained, Ran, ran_from}
+use Rattle.cache_front.proofs.parts.Joining.{Knows, IsNewValue, just, PointIs, fills, was, point_is, fits_written, corresponds_written, over_written, parted_t, there_t, value_at-just, stands_for, dead_from, first_with_key-append, Maintained, Ran, ran_from}
 use Rattle.cache_front.proofs.parts.Writing.{Judges, judged, no_point, Kept, notes_of, told_truly, key_of, Rec, Wrote, replaced_by}
 use Rattle.engine_reference.specs.RunLaws.Points.{HasPoint}
 
@@ -43,9 +43,9 @@ all-untold p [] cs all = all
 all-untold p (n ∷ notes) cs all = all-untold p notes (without_key key_of n.key cs) (all-without_key p key_of n.key cs all)
 
 -- what is found among those that are left was there
-pub left-sub : (notes : List Note) (xs : List HeldValue) (q : List ℕ) (h : HeldValue) → are_apart xs ≡ true → value_at (left notes xs) q ≡ Some h → value_at xs q ≡ Some h
+pub left-sub : (notes : List Note) (xs : List HeldValue) (q : List ℕ) (h : HeldValue) → have_own_keys xs ≡ true → value_at (left notes xs) q ≡ Some h → value_at xs q ≡ Some h
 left-sub [] xs q h a e = e
-left-sub (n ∷ notes) xs q h a e = grind (arith, value_at-without, apart-without, none-some, left-sub notes)
+left-sub (n ∷ notes) xs q h a e = grind (arith, value_at-items_without, apart-items_without, none-some, left-sub notes)
 
 -- taken notices are no part of what is held
 module _ {S : Type 0} where
@@ -82,10 +82,10 @@ module _ {S : Type 0} (config : Config) (part_of : List ℕ → ℕ) (made now :
     after_replaced = just config part_of made now part s parts held k c marked key e t value w n
 
     abbrev pub rest : List Candidate
-    rest = map cand (without key held) ++ newcomer config value ∷ []
+    rest = map cand (items_without key held) ++ newcomer config value ∷ []
 
     pub none_rewritten : list_all (λ (x : Candidate). not (is_succeeded deed x)) rest ≡ true
-    none_rewritten = list_all-append (λ (x : Candidate). not (is_succeeded deed x)) (map cand (without key held)) (newcomer config value ∷ []) ∙ and_from _ _ (go (without key held) (absent-without key held c.apart)) refl
+    none_rewritten = list_all-append (λ (x : Candidate). not (is_succeeded deed x)) (map cand (items_without key held)) (newcomer config value ∷ []) ∙ and_from _ _ (go (items_without key held) (absent-items_without key held c.apart)) refl
       where
         go : (xs : List HeldValue) → is_absent key xs ≡ true → list_all (λ (x : Candidate). not (is_succeeded deed x)) (map cand xs) ≡ true
         go [] a = refl
@@ -104,9 +104,9 @@ module _ {S : Type 0} (config : Config) (part_of : List ℕ → ℕ) (made now :
     first None none =
         let no_entry : entry_of same (held_entries s.records) key ≡ None = entry-held same s.records key ∙ ap (option_map (λ (r : Rec). r.entry)) none in
         let zero_plus : 0 + part ≡ part = omega arith in
-        let no_item : option_map plain (value_at held key) ≡ None = c.found key ∙ value_at-part part_of 0 part parts s key k.parted k.there (n.at ∙ sym zero_plus) ∙ ap (option_map (held_of (0 + part) s)) no_entry in
+        let no_item : option_map plain (value_at held key) ≡ None = c.found key ∙ value_at-part part_of 0 part parts s key k.parted k.there (n.at ∙ sym zero_plus) ∙ ap (option_map (as_held_value (0 + part) s)) no_entry in
         let absent : is_absent key held ≡ true = absent_from_none key held (none_of (value_at held key) no_item) in
-        let is : without key held ≡ held = without-absent key held absent in
+        let is : items_without key held ≡ held = items_without-absent key held absent in
         record {
           truly = λ tail h. ap (λ xs. are_true_notes config before deed (map cand xs ++ newcomer config value ∷ []) tail) (sym is) ∙ h;
           leaves = λ tail. ap (λ xs. left tail (xs ++ newly_held value ∷ [])) (sym is);
@@ -129,34 +129,30 @@ module _ {S : Type 0} (config : Config) (part_of : List ℕ → ℕ) (made now :
         ∙ ap (λ b. cause_of_replaced b (is_covered service_answers s r.entry)) (dead_from config part_of made now part s parts held k c marked key r.entry h entry st.is)
         ∙ ap (λ b. cause_of_replaced (is_dead_at config now h) b) (sym (ap (λ (g : HeldValue). g.covered) st.is)))
         ∙ ap (λ (v : Value). record { cause = cause_of_replaced (is_dead_at config now h) h.covered; key = v.key; value = v.bytes }) (sym (ap (λ (g : HeldValue). g.value) st.is)) in
-        let found : find (λ (x : Candidate). same r.entry.key x.value.key) before ≡ Some (cand h) = first_of-map cand (λ g. refl) r.entry.key held ∙ ap (λ q. option_map cand (value_at held q)) r_key ∙ ap (option_map cand) st.found in
+        let found : find (λ (x : Candidate). same r.entry.key x.value.key) before ≡ Some (cand h) = first_with_key-map cand (λ g. refl) r.entry.key held ∙ ap (λ q. option_map cand (value_at held q)) r_key ∙ ap (option_map cand) st.found in
         record {
           truly = λ tail rest_true.
               and_from _ _
-              (ap (is_true_note config before deed (note_from (notice_of (cause_of_write service_answers s now r.entry) r.entry))) (first_of-append r.entry.key before (newcomer config value ∷ []) (cand h) found)
+              (ap (is_true_note config before deed (note_from (notice_of (cause_of_write service_answers s now r.entry) r.entry))) (first_with_key-append r.entry.key before (newcomer config value ∷ []) (cand h) found)
               ∙ ap (λ (m : Note). is_true_note config before deed m (Some (cand h))) note_is
               ∙ replaced_truly config before value h.value h.evictable (is_dead_at config now h) h.covered used (same_from_equal h.value.key value.key (h_key ∙ sym n.is_key)))
               (ap (λ cs. are_true_notes config before deed cs tail)
               (without_key-append key_of r.entry.key before (newcomer config value ∷ []) (cand h) found
-              ∙ ap (λ xs. xs ++ newcomer config value ∷ []) (without-map cand (λ g. refl) r.entry.key held ∙ ap (λ q. map cand (without q held)) r_key))
+              ∙ ap (λ xs. xs ++ newcomer config value ∷ []) (items_without-map cand (λ g. refl) r.entry.key held ∙ ap (λ q. map cand (items_without q held)) r_key))
               ∙ rest_true);
           leaves = λ tail.
               ap (left tail)
               (without_key-append (λ (g : HeldValue). g.value.key) r.entry.key held (newly_held value ∷ []) h (ap (value_at held) r_key ∙ st.found)
-              ∙ ap (λ q. without q held ++ newly_held value ∷ []) r_key);
+              ∙ ap (λ q. items_without q held ++ newly_held value ∷ []) r_key);
           of = (ap part_of r_key ∙ n.at, tt);
           no_size = λ j vs. no_size_of (has_come s.settings now r.entry) (is_covered service_answers s r.entry) j vs r.entry;
         }
       where
         causes : (dead covered : Bool) → cause_of (if dead then cause.Expired else (if covered then cause.Explicit else cause.Replaced)) ≡ cause_of_replaced dead covered
-        causes true covered = refl
-        causes false true = refl
-        causes false false = refl
+        causes dead covered = grind arith
 
         no_size_of : (dead covered : Bool) (j : ℕ) (vs : List Value) (x : Kept) → tells_size j vs (note_from (notice_of (if dead then cause.Expired else (if covered then cause.Explicit else cause.Replaced)) x) ∷ []) ≡ false
-        no_size_of true covered j vs x = refl
-        no_size_of false true j vs x = refl
-        no_size_of false false j vs x = refl
+        no_size_of dead covered j vs x = grind arith
 
     module _ (new : Part S) (maintained : Maintained now t new) where
       pub r : Ran now t new
@@ -197,21 +193,15 @@ module _ {S : Type 0} (config : Config) (part_of : List ℕ → ℕ) (made now :
       -- the look-up of the same step uses no value that stays
       pub unused : (notes : List Note) (u : Option (List ℕ)) → ((x : List ℕ) → u ≡ Some x → x ≡ key) → (q : List ℕ) (h : HeldValue) → value_at (left notes after_replaced) q ≡ Some h → use_after config now (accepting u value) h ≡ h.last_use
       unused notes None is q h found = refl
-      unused notes (Some x) is q h found = ap (λ y. cond (same y h.value.key && is_live_at config now h) now h.last_use) (is x refl) ∙ go (same key h.value.key) refl
+      unused notes (Some x) is q h found = ap (λ y. cond (same y h.value.key && is_live_at config now h) now h.last_use) (is x refl) ∙ cond_both (same key h.value.key && is_live_at config now h) now h.last_use (λ u. u ≡ h.last_use) (λ g. sym (now_is (and_parts _ _ g).0)) (λ _. refl)
         where
-          either : (b : Bool) (u : ℕ) → u ≡ now → cond b now u ≡ u
-          either true u g = sym g
-          either false u g = refl
-
-          go : (b : Bool) → same key h.value.key ≡ b → cond (same key h.value.key && is_live_at config now h) now h.last_use ≡ h.last_use
-          go false g = ap (λ b. cond (b && is_live_at config now h) now h.last_use) g
-          go true g =
+          now_is : same key h.value.key ≡ true → h.last_use ≡ now
+          now_is g =
               let is_q : q ≡ key = sym (key_from_some q (left notes after_replaced) h found) ∙ sym (equal_from_same key h.value.key g) in
               let there : value_at after_replaced q ≡ Some h = left-sub notes after_replaced q h (corresponds_written config part_of made now part s parts held k c marked key e t value w n).apart found in
-              let both : Some (newly_held value) ≡ Some h =
-              sym (ap (λ b. cond b (Some (newly_held value)) (value_at held q)) (ap (λ y. same y key) is_q ∙ same-refl key)) ∙ sym (value_at-just config part_of made now part s parts held k c marked key e t value w n q) ∙ there in
-              let one : newly_held value ≡ h = cc in
-              either (same key h.value.key && is_live_at config now h) h.last_use (ap (λ (y : HeldValue). y.last_use) (sym one) ∙ n.accepted)
+              let one : newly_held value ≡ h = same_Some (newly_held value) h
+              (sym (ap (λ b. cond b (Some (newly_held value)) (value_at held q)) (ap (λ y. same y key) is_q ∙ same-refl key)) ∙ sym (value_at-just config part_of made now part s parts held k c marked key e t value w n q) ∙ there) in
+              ap (λ (y : HeldValue). y.last_use) (sym one) ∙ n.accepted
 
       pub same_after : Corresponds (items_of 0 parts_new) (all_held_after config now held deed told)
       same_after =
@@ -233,11 +223,8 @@ module _ {S : Type 0} (config : Config) (part_of : List ℕ → ℕ) (made now :
       value_part = ap (λ (v : Value). v.part) (sym n.is)
 
       right_found : (q : List ℕ) (v : Value) → find (λ (x : Value). same q x.key) (map (λ (x : Candidate). x.value) (candidates_of config before deed)) ≡ Some v → v.part ≡ part_of q
-      right_found = find-candidates cand (λ h. refl) held (newcomer config value ∷ []) part_of (in_part config part_of now parts held k.parted c count) (λ q v found. go q v (same q value.key) refl found)
-        where
-          go : (q : List ℕ) (v : Value) (b : Bool) → same q value.key ≡ b → cond b (Some value) None ≡ Some v → v.part ≡ part_of q
-          go q v true f found = let is : value ≡ v = cc in ap (λ (x : Value). x.part) (sym is) ∙ value_part ∙ sym n.at ∙ ap part_of (sym (equal_from_same q value.key f ∙ n.is_key))
-          go q v false f found = absurd (none-some v found)
+      right_found = find-candidates cand (λ h. refl) held (newcomer config value ∷ []) part_of (in_part config part_of now parts held k.parted c count) (λ q v found. (let own = cond_some (same q value.key) value v found in
+          ap (λ (x : Value). x.part) (sym own.1) ∙ value_part ∙ sym n.at ∙ ap part_of (sym (equal_from_same q value.key own.0 ∙ n.is_key))))
 
       abbrev parts_t' : List (Part S)
       parts_t' = slice_set parts part t
@@ -295,10 +282,7 @@ module _ {S : Type 0} (config : Config) (part_of : List ℕ → ℕ) (made now :
                           ∙ f.no_size g.value.part (map (λ (x : Candidate). x.value) (candidates_of config before deed))
 
                       over_kept : (over anew evictable : Bool) → (over ≡ true) ⊎ ((anew ≡ false) × (evictable ≡ true)) → (over || (not (false || anew) && evictable)) ≡ true
-                      over_kept true anew evictable h = refl
-                      over_kept false anew evictable (inl h) = absurd (true≢false (sym h))
-                      over_kept false true evictable (inr h) = absurd (true≢false h.0)
-                      over_kept false false evictable (inr h) = h.1
+                      over_kept over anew evictable h = grind (arith, h)
 
                       by_point : PointIs config part_of made now part s parts held k c marked key e t value w n owner → (held_after config now held deed told left_values g).evictable ≡ true
                       by_point (fills a) =

@@ -1,21 +1,21 @@
 -- The values of all parts, and what is left of them where one part changes.
-use Rattle.std.proofs.Common.{◌≡◌, ℕ, zero, suc, ◌+◌, ◌<◌, Bool, cond, true, false, not, List, [], ◌∷◌, ◌++◌, map, length, Option, option_map, Some, None, slice_get, refl, sym, ap, ◌∙◌, arith, true≢false, remove, subst, ◌&&◌, ◌||◌, ◌==◌, slice_set}
+use Rattle.std.proofs.Common.{◌≡◌, ℕ, zero, suc, ◌+◌, ◌<◌, cond, true, false, not, List, [], ◌∷◌, ◌++◌, map, length, Option, option_map, Some, None, slice_get, refl, sym, ap, ◌∙◌, arith, true≢false, remove, subst, ◌==◌, slice_set, inl, inr}
 use Rattle.std.specs.List.{sum_by, find}
-use Rattle.std.proofs.lemmas.Bool.{and_from, and_parts, eq-eqb, eqb-true, false_from_ne_true}
+use Rattle.std.proofs.lemmas.Bool.{and_from, and_parts, eq-eqb, eqb-true, false_from_ne_true, cases_Bool, or_from, and_right, ne_eqb}
 use Rattle.std.proofs.lemmas.List.{length-map}
 use Rattle.std.proofs.lemmas.List.Folds.{list_all-append}
 use Rattle.std.proofs.lemmas.List.Sums.{sum_by-cons, sum_by-append}
-use Rattle.std.proofs.lemmas.Option.{none-some}
+use Rattle.std.proofs.lemmas.Option.{none-some, same_Some}
 use Rattle.audit_model.specs.Bytewise.{same}
 use Rattle.audit_model.specs.Situation.{HeldValue, candidate_at}
 use Rattle.engine_reference.specs.Records.{held_entries, held_weight, record_at}
 use Rattle.engine_reference.specs.Telling.{entry_of, AreApart, Removal, TakesAway, removed_entries}
 use Rattle.cache_store.specs.Running.{weight_in}
-use Rattle.cache_store.specs.Held.{value_at, without, is_absent, are_apart, plain, Corresponds}
+use Rattle.cache_store.specs.Held.{value_at, items_without, is_absent, have_own_keys, plain, Corresponds}
 use Rattle.cache_store.proofs.Keys.{same-refl, equal_from_same}
-use Rattle.cache_store.proofs.Held.{absent_from_none, none_from_absent, length-without, apart-without, value_at-map, apart-map, value_at-without, corresponds-left, apart-left, left}
+use Rattle.cache_store.proofs.Held.{absent_from_none, none_from_absent, length-items_without, apart-items_without, value_at-map, apart-map, value_at-items_without, corresponds-left, apart-left, left}
 use Rattle.cache_store.proofs.Weights.{adds, weight_in-sum}
-use Rattle.cache_front.specs.Parts.{Part, held_of, items_in, items_of, Stored, service_answers, AreMarked}
+use Rattle.cache_front.specs.Parts.{Part, as_held_value, items_in, items_of, Stored, service_answers, AreMarked}
 use Rattle.cache_front.proofs.parts.Writing.{Kept, notes_of, entry_of-other, entry_of-gone, entry_of-at, Rec}
 use Rattle.engine_reference.specs.Visible.{is_covered}
 use Rattle.engine_reference.proofs.StayingVisible.{AreApart-remove}
@@ -23,30 +23,27 @@ use Rattle.std.specs.Option.{option_map_or}
 use Rattle.audit_model.specs.Changes.{held_after}
 use Rattle.audit_model.specs.Commands.{Deed}
 use Rattle.audit_model.specs.History.{Value}
-use Rattle.audit_model.specs.Notes.{tells_size, same_cause, candidates_of}
+use Rattle.audit_model.specs.Notes.{tells_size, candidates_of}
 use Rattle.audit_model.specs.View.{Candidate}
 use Rattle.audit_model.specs.declared.config.Config.{Config}
 use Rattle.audit_model.specs.declared.transcript.Note.{Note}
-use Rattle.audit_model.specs.declared.transcript.RemovalCause.TheVariants.{Size}
 use Rattle.engine_reference.proofs.HeldRecords.{held-without}
 
 -- ---- lists of values that have the same one under each key
 
-pub same_length : (xs ys : List HeldValue) → are_apart xs ≡ true → are_apart ys ≡ true → ((q : List ℕ) → value_at xs q ≡ value_at ys q) → length xs ≡ length ys
+pub same_length : (xs ys : List HeldValue) → have_own_keys xs ≡ true → have_own_keys ys ≡ true → ((q : List ℕ) → value_at xs q ≡ value_at ys q) → length xs ≡ length ys
 same_length [] [] a b e = refl
 same_length [] (y ∷ ys) a b e = absurd (none-some y (e y.value.key ∙ ap (λ c. cond c (Some y) (value_at ys y.value.key)) (same-refl y.value.key)))
 same_length (x ∷ xs) ys a b e =
-    let parts = and_parts (is_absent x.value.key xs) (are_apart xs) a in
+    let parts = and_parts (is_absent x.value.key xs) (have_own_keys xs) a in
     let there : value_at ys x.value.key ≡ Some x = sym (e x.value.key) ∙ ap (λ c. cond c (Some x) (value_at xs x.value.key)) (same-refl x.value.key) in
-    ap suc (same_length xs (without x.value.key ys) parts.1 (apart-without x.value.key ys b) (λ q. go q (same q x.value.key) refl parts.0)) ∙ length-without x.value.key ys x there
+    ap suc (same_length xs (items_without x.value.key ys) parts.1 (apart-items_without x.value.key ys b) (λ q. alike q parts.0)) ∙ length-items_without x.value.key ys x there
   where
-    go : (q : List ℕ) → (c : Bool) → same q x.value.key ≡ c → is_absent x.value.key xs ≡ true → value_at xs q ≡ value_at (without x.value.key ys) q
-    go q true t absent =
-        ap (value_at xs) (equal_from_same q x.value.key t) ∙ none_from_absent x.value.key xs absent ∙ sym (ap (λ c. cond c None (value_at ys q)) t) ∙ sym (value_at-without x.value.key q ys b)
-    go q false t absent = ap (λ c. cond c (Some x) (value_at xs q)) (sym t) ∙ e q ∙ sym (ap (λ c. cond c None (value_at ys q)) t) ∙ sym (value_at-without x.value.key q ys b)
+    alike : (q : List ℕ) → is_absent x.value.key xs ≡ true → value_at xs q ≡ value_at (items_without x.value.key ys) q
+    alike q absent = grind (arith, e q, equal_from_same q x.value.key, none_from_absent x.value.key xs absent, value_at-items_without x.value.key q ys b)
 
 -- the values held are those that are found
-pub corresponds_from : (items held : List HeldValue) → are_apart items ≡ true → are_apart held ≡ true → ((q : List ℕ) → option_map plain (value_at held q) ≡ value_at items q) → Corresponds items held
+pub corresponds_from : (items held : List HeldValue) → have_own_keys items ≡ true → have_own_keys held ≡ true → ((q : List ℕ) → option_map plain (value_at held q) ≡ value_at items q) → Corresponds items held
 corresponds_from items held a b e = grind (arith, length-map held plain, same_length (map plain held) items (apart-map plain held (λ h. refl) ∙ b) a (λ q. value_at-map plain held q (λ h. refl) ∙ e q), apart-map plain held (λ h. refl), value_at-map plain held)
 
 -- each key stands once, in the part that is its own
@@ -64,23 +61,23 @@ value_at-first (x ∷ xs) ys q h some = grind (arith, value_at-first xs ys q h)
 -- ---- one part
 
 module _ {S : Type 0} where
-  pub value_at-in : (part : ℕ) (s : Part S) (es : List Kept) (q : List ℕ) → value_at (map (held_of part s) es) q ≡ option_map (held_of part s) (entry_of same es q)
+  pub value_at-in : (part : ℕ) (s : Part S) (es : List Kept) (q : List ℕ) → value_at (map (as_held_value part s) es) q ≡ option_map (as_held_value part s) (entry_of same es q)
   value_at-in part s [] q = refl
   value_at-in part s (e ∷ es) q = grind (arith, value_at-in part s es q)
 
-  weight-in : (part : ℕ) (s : Part S) (es : List Kept) → weight_in part (map (held_of part s) es) ≡ sum_by (λ (e : Kept). e.weight) es
-  weight-in part s es = weight_in-sum part (map (held_of part s) es) ∙ go es
+  weight-in : (part : ℕ) (s : Part S) (es : List Kept) → weight_in part (map (as_held_value part s) es) ≡ sum_by (λ (e : Kept). e.weight) es
+  weight-in part s es = weight_in-sum part (map (as_held_value part s) es) ∙ go es
     where
-      go : (es : List Kept) → sum_by (adds part) (map (held_of part s) es) ≡ sum_by (λ (e : Kept). e.weight) es
+      go : (es : List Kept) → sum_by (adds part) (map (as_held_value part s) es) ≡ sum_by (λ (e : Kept). e.weight) es
       go [] = refl
       go (e ∷ es) =
-          sum_by-cons (adds part) (held_of part s e) (map (held_of part s) es)
-          ∙ ap (λ b. cond b e.weight 0 + sum_by (adds part) (map (held_of part s) es)) (eq-eqb part part refl)
+          sum_by-cons (adds part) (as_held_value part s e) (map (as_held_value part s) es)
+          ∙ ap (λ b. cond b e.weight 0 + sum_by (adds part) (map (as_held_value part s) es)) (eq-eqb part part refl)
           ∙ ap (λ n. e.weight + n) (go es) ∙ sym (sum_by-cons (λ (x : Kept). x.weight) e es)
 
-  weight-out : (part other : ℕ) (s : Part S) (es : List Kept) → (other == part) ≡ false → sum_by (adds part) (map (held_of other s) es) ≡ 0
+  weight-out : (part other : ℕ) (s : Part S) (es : List Kept) → (other == part) ≡ false → sum_by (adds part) (map (as_held_value other s) es) ≡ 0
   weight-out part other s [] away = refl
-  weight-out part other s (e ∷ es) away = grind (arith, sum_by-cons (adds part) (held_of other s e) (map (held_of other s) es), adds part, weight-out part other s es away)
+  weight-out part other s (e ∷ es) away = grind (arith, sum_by-cons (adds part) (as_held_value other s e) (map (as_held_value other s) es), adds part, weight-out part other s es away)
 
   -- ---- all parts
 
@@ -98,31 +95,32 @@ module _ {S : Type 0} where
 
   -- under a key stands what its part has
   pub value_at-part : (part_of : List ℕ → ℕ) (first k : ℕ) (parts : List (Part S)) (s : Part S) (q : List ℕ) → AreParted part_of first parts → slice_get parts k ≡ Some s → part_of q ≡ first + k
-      → value_at (items_of first parts) q ≡ option_map (held_of (first + k) s) (entry_of same (held_entries s.records) q)
+      → value_at (items_of first parts) q ≡ option_map (as_held_value (first + k) s) (entry_of same (held_entries s.records) q)
   value_at-part part_of first k [] s q p there at = absurd (none-some s there)
-  value_at-part part_of first zero (x ∷ parts) s q p there at = grind (arith, Kept, value_at-in first x (held_entries x.records) q, value_at-both (items_in first x) (items_of (suc first) parts) q, none_before part_of (suc first) parts q p.2, value_at-first (items_in first x) (items_of (suc first) parts) q)
+  value_at-part part_of first zero (x ∷ parts) s q p there at =
+      let value = value_at-first (items_in first x) (items_of (suc first) parts) q in
+      grind (arith, Kept, value_at-in first x (held_entries x.records) q, value_at-both (items_in first x) (items_of (suc first) parts) q, none_before part_of (suc first) parts q p.2, value)
   value_at-part part_of first (suc k) (x ∷ parts) s q p there at = grind (arith, value_at-both (items_in first x) (items_of (suc first) parts) q, not_here part_of first x q p.1, value_at-part part_of (suc first) k parts s q p.2 there)
 
-  pub apart-of : (part_of : List ℕ → ℕ) (first : ℕ) (parts : List (Part S)) → AreParted part_of first parts → are_apart (items_of first parts) ≡ true
+  pub apart-of : (part_of : List ℕ → ℕ) (first : ℕ) (parts : List (Part S)) → AreParted part_of first parts → have_own_keys (items_of first parts) ≡ true
   apart-of part_of first [] p = refl
   apart-of part_of first (s ∷ parts) p = go (held_entries s.records) p.0 p.1 (apart-of part_of (suc first) parts p.2)
     where
       rest : List HeldValue
       rest = items_of (suc first) parts
 
-      go : (es : List Kept) → AreApart same es → ArePlaced part_of first es → are_apart rest ≡ true → are_apart (map (held_of first s) es ++ rest) ≡ true
+      go : (es : List Kept) → AreApart same es → ArePlaced part_of first es → have_own_keys rest ≡ true → have_own_keys (map (as_held_value first s) es ++ rest) ≡ true
       go [] a placed r = r
       go (e ∷ es) a placed r =
           let at : part_of e.key ≡ first = placed e.key e (ap (λ b. cond b (Some e) (entry_of same es e.key)) (same-refl e.key)) in
-          let here = absent_from_none e.key (map (held_of first s) es) (value_at-in first s es e.key ∙ ap (option_map (held_of first s)) a.0) in
+          let here = absent_from_none e.key (map (as_held_value first s) es) (value_at-in first s es e.key ∙ ap (option_map (as_held_value first s)) a.0) in
           let there = absent_from_none e.key rest (none_before part_of (suc first) parts e.key p.2 (omega (arith, at))) in
           and_from _ _
-          (list_all-append (λ (g : HeldValue). not (same e.key g.value.key)) (map (held_of first s) es) rest ∙ and_from _ _ here there)
-          (go es a.1 (λ q x h. placed q x (skip q x h (same q e.key) refl a.0)) r)
+          (list_all-append (λ (g : HeldValue). not (same e.key g.value.key)) (map (as_held_value first s) es) rest ∙ and_from _ _ here there)
+          (go es a.1 (λ q x h. placed q x (skip q x h a.0)) r)
         where
-          skip : (q : List ℕ) (x : Kept) → entry_of same es q ≡ Some x → (b : Bool) → same q e.key ≡ b → entry_of same es e.key ≡ None → entry_of same (e ∷ es) q ≡ Some x
-          skip q x h true t none = absurd (none-some x (sym (ap (entry_of same es) (equal_from_same q e.key t) ∙ none) ∙ h))
-          skip q x h false t none = ap (λ b. cond b (Some e) (entry_of same es q)) t ∙ h
+          skip : (q : List ℕ) (x : Kept) → entry_of same es q ≡ Some x → entry_of same es e.key ≡ None → entry_of same (e ∷ es) q ≡ Some x
+          skip q x h none = grind (arith, equal_from_same q e.key, none-some x)
 
   weight-before : (part first : ℕ) (parts : List (Part S)) → part < first → sum_by (adds part) (items_of first parts) ≡ 0
   weight-before part first [] lt = refl
@@ -160,11 +158,13 @@ away (gone ∷ removals) old new a t = away removals (remove old t.0) new (AreAp
 
 pub placed-away : (part_of : List ℕ → ℕ) (part : ℕ) (removals : List (Removal (List ℕ) Stored)) (old new : List Kept) → AreApart same old → ArePlaced part_of part old → TakesAway (removed_entries removals) old new → ArePlaced part_of part new
 placed-away part_of part [] old new a p t = subst (λ es. ArePlaced part_of part es) (sym t) p
-placed-away part_of part (gone ∷ removals) old new a p t = placed-away part_of part removals (remove old t.0) new (AreApart-remove same old t.0 a) (λ q e h. go q e h (same q gone.entry.key) refl) t.2
+placed-away part_of part (gone ∷ removals) old new a p t = placed-away part_of part removals (remove old t.0) new (AreApart-remove same old t.0 a) left_placed t.2
   where
-    go : (q : List ℕ) (e : Kept) → entry_of same (remove old t.0) q ≡ Some e → (b : Bool) → same q gone.entry.key ≡ b → part_of q ≡ part
-    go q e h true k = ap part_of (equal_from_same q gone.entry.key k) ∙ p gone.entry.key gone.entry (entry_of-at old t.0 gone.entry a t.1)
-    go q e h false k = p q e (sym (entry_of-other old t.0 gone.entry q t.1 k) ∙ h)
+    left_placed : ArePlaced part_of part (remove old t.0)
+    left_placed q e h = elim (cases_Bool (same q gone.entry.key)) [
+      | inl k ↦ ap part_of (equal_from_same q gone.entry.key k) ∙ p gone.entry.key gone.entry (entry_of-at old t.0 gone.entry a t.1)
+      | inr k ↦ p q e (sym (entry_of-other old t.0 gone.entry q t.1 k) ∙ h)
+    ]
 
 -- ---- notes of one part
 
@@ -179,12 +179,14 @@ of-append part_of part (n ∷ xs) ys a b = (a.0, of-append part_of part xs ys a.
 
 pub of-removals : (part_of : List ℕ → ℕ) (part : ℕ) (removals : List (Removal (List ℕ) Stored)) (old new : List Kept) → AreApart same old → ArePlaced part_of part old → TakesAway (removed_entries removals) old new → AreOf part_of part (notes_of removals)
 of-removals part_of part [] old new a p t = tt
-of-removals part_of part (gone ∷ removals) old new a p t = grind (arith, entry_of-at old t.0 gone.entry a t.1, of-removals part_of part removals (remove old t.0) new (AreApart-remove same old t.0 a) (placed-away part_of part (gone ∷ []) old (remove old t.0) a p (t.0, t.1, refl)) t.2, remove old t.0, AreApart-remove same old t.0 a, placed-away part_of part (gone ∷ []) old (remove old t.0) a p (t.0, t.1, refl))
+of-removals part_of part (gone ∷ removals) old new a p t =
+    let removals2 = of-removals part_of part removals (remove old t.0) new (AreApart-remove same old t.0 a) (placed-away part_of part (gone ∷ []) old (remove old t.0) a p (t.0, t.1, refl)) t.2 in
+    grind (arith, entry_of-at old t.0 gone.entry a t.1, removals2, remove old t.0, AreApart-remove same old t.0 a, placed-away part_of part (gone ∷ []) old (remove old t.0) a p (t.0, t.1, refl))
 
 -- a key of another part is not touched
-pub left-elsewhere : (part_of : List ℕ → ℕ) (part : ℕ) (notes : List Note) (xs : List HeldValue) (q : List ℕ) → are_apart xs ≡ true → AreOf part_of part notes → (part_of q ≡ part → ⊥) → value_at (left notes xs) q ≡ value_at xs q
+pub left-elsewhere : (part_of : List ℕ → ℕ) (part : ℕ) (notes : List Note) (xs : List HeldValue) (q : List ℕ) → have_own_keys xs ≡ true → AreOf part_of part notes → (part_of q ≡ part → ⊥) → value_at (left notes xs) q ≡ value_at xs q
 left-elsewhere part_of part [] xs q a of other = refl
-left-elsewhere part_of part (n ∷ notes) xs q a of other = grind (arith, left-elsewhere part_of part notes (without n.key xs) q (apart-without n.key xs a) of.1 other, apart-without n.key xs a, value_at-without n.key q xs a, equal_from_same q n.key)
+left-elsewhere part_of part (n ∷ notes) xs q a of other = grind (arith, left-elsewhere part_of part notes (items_without n.key xs) q (apart-items_without n.key xs a) of.1 other, apart-items_without n.key xs a, value_at-items_without n.key q xs a, equal_from_same q n.key)
 
 -- ---- a part in the place of another
 
@@ -238,39 +240,44 @@ module _ {S : Type 0} where
     zero_plus = omega arith
 
     pub placed_changed : ArePlaced part_of (0 + part) (held_entries t.records)
-    placed_changed q x f = go (same q key) refl (sym (found q) ∙ f)
-      where
-        go : (b : Bool) → same q key ≡ b → cond b e (entry_of same (held_entries s.records) q) ≡ Some x → part_of q ≡ 0 + part
-        go true same_key _ = ap part_of (equal_from_same q key same_key) ∙ at ∙ sym zero_plus
-        go false other was = (parted-at part_of 0 part parts s parted there).1 q x was
+    placed_changed q x f = elim (cases_Bool (same q key)) [
+      | inl same_key ↦ ap part_of (equal_from_same q key same_key) ∙ at ∙ sym zero_plus
+      | inr other ↦ (parted-at part_of 0 part parts s parted there).1 q x (rw other at (sym (found q) ∙ f))
+    ]
 
     pub parted_changed : AreParted part_of 0 (slice_set parts part t)
     parted_changed = parted-with part_of 0 part t parts parted apart placed_changed
 
-    pub corresponds_changed : are_apart xs ≡ true → ((q : List ℕ) → value_at xs q ≡ cond (same q key) h (value_at held q)) → option_map plain h ≡ option_map (held_of part t) e → Corresponds (items_of 0 (slice_set parts part t)) xs
+    pub corresponds_changed : have_own_keys xs ≡ true → ((q : List ℕ) → value_at xs q ≡ cond (same q key) h (value_at held q)) → option_map plain h ≡ option_map (as_held_value part t) e → Corresponds (items_of 0 (slice_set parts part t)) xs
     corresponds_changed apart_xs held_is is =
         corresponds_from (items_of 0 (slice_set parts part t)) xs (apart-of part_of 0 (slice_set parts part t) parted_changed) apart_xs (λ q. ap (option_map plain) (held_is q) ∙ by_part q (decides (part_of q) (0 + part)))
       where
-        covers : (o : Option Kept) → option_map (held_of (0 + part) s) o ≡ option_map (held_of (0 + part) t) o
+        covers : (o : Option Kept) → option_map (as_held_value (0 + part) s) o ≡ option_map (as_held_value (0 + part) t) o
         covers None = refl
-        covers (Some x) = ap (λ b. Some (record (held_of (0 + part) s x) { covered = b })) (sym (cover x))
+        covers (Some x) = ap (λ b. Some (record (as_held_value (0 + part) s x) { covered = b })) (sym (cover x))
 
         by_part : (q : List ℕ) → Dec (part_of q ≡ 0 + part) → option_map plain (cond (same q key) h (value_at held q)) ≡ value_at (items_of 0 (slice_set parts part t)) q
         by_part q (yes here) =
-            go (same q key) ∙ ap (option_map (held_of (0 + part) t)) (sym (found q)) ∙ sym (value_at-part part_of 0 part (slice_set parts part t) t q parted_changed (replaced-there part t s parts there) here)
+            by_key ∙ ap (option_map (as_held_value (0 + part) t)) (sym (found q)) ∙ sym (value_at-part part_of 0 part (slice_set parts part t) t q parted_changed (replaced-there part t s parts there) here)
           where
-            go : (b : Bool) → option_map plain (cond b h (value_at held q)) ≡ option_map (held_of (0 + part) t) (cond b e (entry_of same (held_entries s.records) q))
-            go true = is ∙ ap (λ m. option_map (held_of m t) e) (sym zero_plus)
-            go false = c.found q ∙ value_at-part part_of 0 part parts s q parted there here ∙ covers (entry_of same (held_entries s.records) q)
+            by_key : option_map plain (cond (same q key) h (value_at held q)) ≡ option_map (as_held_value (0 + part) t) (cond (same q key) e (entry_of same (held_entries s.records) q))
+            by_key = elim (cases_Bool (same q key)) [
+              | inl k ↦ rw k (is ∙ ap (λ m. option_map (as_held_value m t) e) (sym zero_plus))
+              | inr k ↦ rw k (c.found q ∙ value_at-part part_of 0 part parts s q parted there here ∙ covers (entry_of same (held_entries s.records) q))
+            ]
         by_part q (no away) =
             ap (λ b. option_map plain (cond b h (value_at held q))) (false_from_ne_true (same q key) (λ is_key. away (ap part_of (equal_from_same q key is_key) ∙ at ∙ sym zero_plus)))
             ∙ c.found q ∙ sym (value_at-elsewhere part_of 0 part t parts q parted parted_changed away)
 
   -- what is found under a key after entries were taken away and their values told
-  pub found-away : (part : ℕ) (s : Part S) (removals : List (Removal (List ℕ) Stored)) (old new : List Kept) (items : List HeldValue) → AreApart same old → are_apart items ≡ true → TakesAway (removed_entries removals) old new
-      → (q : List ℕ) → value_at items q ≡ option_map (held_of part s) (entry_of same old q) → value_at (left (notes_of removals) items) q ≡ option_map (held_of part s) (entry_of same new q)
-  found-away part s [] old new items a b t q e = e ∙ ap (λ es. option_map (held_of part s) (entry_of same es q)) (sym t)
-  found-away part s (gone ∷ removals) old new items a b t q e = grind (arith, found-away part s removals (remove old t.0) new (without gone.entry.key items) (AreApart-remove same old t.0 a) (apart-without gone.entry.key items b) t.2 q, remove old t.0, AreApart-remove same old t.0 a, apart-without gone.entry.key items b, value_at-without gone.entry.key q items b, equal_from_same q gone.entry.key, entry_of-gone old t.0 gone.entry a t.1, entry_of-other old t.0 gone.entry q t.1)
+  pub found-away : (part : ℕ) (s : Part S) (removals : List (Removal (List ℕ) Stored)) (old new : List Kept) (items : List HeldValue) → AreApart same old → have_own_keys items ≡ true → TakesAway (removed_entries removals) old new
+      → (q : List ℕ) → value_at items q ≡ option_map (as_held_value part s) (entry_of same old q) → value_at (left (notes_of removals) items) q ≡ option_map (as_held_value part s) (entry_of same new q)
+  found-away part s [] old new items a b t q e = e ∙ ap (λ es. option_map (as_held_value part s) (entry_of same es q)) (sym t)
+  found-away part s (gone ∷ removals) old new items a b t q e =
+      let away = found-away part s removals (remove old t.0) new (items_without gone.entry.key items) (AreApart-remove same old t.0 a) (apart-items_without gone.entry.key items b) t.2 q in
+      let value = value_at-items_without gone.entry.key q items b in
+      let other = entry_of-other old t.0 gone.entry q t.1 in
+      grind (arith, away, remove old t.0, AreApart-remove same old t.0 a, apart-items_without gone.entry.key items b, value, equal_from_same q gone.entry.key, entry_of-gone old t.0 gone.entry a t.1, other)
 
   -- THE PARTS AFTER A RUN OF ONE: the values that are left correspond
   pub corresponds-run : (part_of : List ℕ → ℕ) (k : ℕ) (t new : Part S) (parts : List (Part S)) (held : List HeldValue) (removals : List (Removal (List ℕ) Stored)) → AreParted part_of 0 parts → slice_get parts k ≡ Some t
@@ -284,16 +291,16 @@ module _ {S : Type 0} where
       at : AreApart same (held_entries t.records) × ArePlaced part_of (0 + k) (held_entries t.records)
       at = parted-at part_of 0 k parts t p there
 
-      apart_items : are_apart (items_of 0 parts) ≡ true
+      apart_items : have_own_keys (items_of 0 parts) ≡ true
       apart_items = apart-of part_of 0 parts p
 
       parted : AreParted part_of 0 (slice_set parts k new)
       parted = parted-with part_of 0 k new parts p (away removals (held_entries t.records) (held_entries new.records) at.0 takes)
           (placed-away part_of (0 + k) removals (held_entries t.records) (held_entries new.records) at.0 at.1 takes)
 
-      covers : (q : List ℕ) (o : Option Kept) → entry_of same (held_entries new.records) q ≡ o → option_map (held_of (0 + k) t) o ≡ option_map (held_of (0 + k) new) o
+      covers : (q : List ℕ) (o : Option Kept) → entry_of same (held_entries new.records) q ≡ o → option_map (as_held_value (0 + k) t) o ≡ option_map (as_held_value (0 + k) new) o
       covers q None e = refl
-      covers q (Some x) e = ap (λ b. Some (record (held_of (0 + k) t x) { covered = b })) (sym (cover q x e))
+      covers q (Some x) e = ap (λ b. Some (record (as_held_value (0 + k) t x) { covered = b })) (sym (cover q x e))
 
       by_part : (q : List ℕ) → Dec (part_of q ≡ 0 + k) → value_at (left (notes_of removals) (items_of 0 parts)) q ≡ value_at (items_of 0 (slice_set parts k new)) q
       by_part q (yes e) =
@@ -313,13 +320,11 @@ module _ {S : Type 0} where
 none_elsewhere : (part_of : List ℕ → ℕ) (part j : ℕ) (values : List Value) (notes : List Note) → (j ≡ part → ⊥) → ((q : List ℕ) (v : Value) → find (λ (x : Value). same q x.key) values ≡ Some v → v.part ≡ part_of q) → AreOf part_of part notes
     → tells_size j values notes ≡ false
 none_elsewhere part_of part j values [] other right of = refl
-none_elsewhere part_of part j values (n ∷ notes) other right of = go (same_cause n.cause Size) (find (λ (v : Value). same n.key v.key) values) refl (none_elsewhere part_of part j values notes other right of.1)
+none_elsewhere part_of part j values (n ∷ notes) other right of = or_from _ _ (and_right _ _ (unsized (find (λ (v : Value). same n.key v.key) values) refl)) (none_elsewhere part_of part j values notes other right of.1)
   where
-    go : (b : Bool) (o : Option Value) → find (λ (v : Value). same n.key v.key) values ≡ o → tells_size j values notes ≡ false → ((b && option_map_or (λ (v : Value). v.part == j) o false) || tells_size j values notes) ≡ false
-    go false o e rest = rest
-    go true None e rest = rest
-    go true (Some v) e rest =
-        ap (λ b. b || tells_size j values notes) (false_from_ne_true (v.part == j) (λ f. other (sym (eqb-true v.part j f) ∙ right n.key v e ∙ of.0))) ∙ rest
+    unsized : (o : Option Value) → find (λ (v : Value). same n.key v.key) values ≡ o → option_map_or (λ (v : Value). v.part == j) o false ≡ false
+    unsized None e = refl
+    unsized (Some v) e = ne_eqb v.part j (λ f. other (sym f ∙ right n.key v e ∙ of.0))
 
 pub find-candidates : (cand : HeldValue → Candidate) → ((h : HeldValue) → (cand h).value ≡ h.value) → (held : List HeldValue) (tail : List Candidate) (part_of : List ℕ → ℕ)
     → ((q : List ℕ) (h : HeldValue) → value_at held q ≡ Some h → h.value.part ≡ part_of q)
@@ -329,12 +334,12 @@ find-candidates cand same_value held tail part_of right later q v e = go held (r
   where
     go : (xs : List HeldValue) → ((h : HeldValue) → value_at xs q ≡ Some h → h.value.part ≡ part_of q) → find (λ (x : Value). same q x.key) (map (λ (c : Candidate). c.value) (map cand xs ++ tail)) ≡ Some v → v.part ≡ part_of q
     go [] r e = later q v e
-    go (x ∷ xs) r e = by_key (same q x.value.key) refl (ap (λ (y : Value). cond (same q y.key) (Some y) (find (λ (x : Value). same q x.key) (map (λ (c : Candidate). c.value) (map cand xs ++ tail)))) (sym (same_value x)) ∙ e) (λ k f. go xs k f)
-      where
-        by_key : (b : Bool) → same q x.value.key ≡ b → cond b (Some x.value) (find (λ (x : Value). same q x.key) (map (λ (c : Candidate). c.value) (map cand xs ++ tail))) ≡ Some v
-            → (((h : HeldValue) → value_at xs q ≡ Some h → h.value.part ≡ part_of q) → find (λ (x : Value). same q x.key) (map (λ (c : Candidate). c.value) (map cand xs ++ tail)) ≡ Some v → v.part ≡ part_of q) → v.part ≡ part_of q
-        by_key true f e next = let is : x.value ≡ v = cc in ap (λ (y : Value). y.part) (sym is) ∙ r x (ap (λ b. cond b (Some x) (value_at xs q)) f)
-        by_key false f e next = next (λ h g. r h (ap (λ b. cond b (Some x) (value_at xs q)) f ∙ g)) e
+    go (x ∷ xs) r e =
+        let e = ap (λ (y : Value). cond (same q y.key) (Some y) (find (λ (x : Value). same q x.key) (map (λ (c : Candidate). c.value) (map cand xs ++ tail)))) (sym (same_value x)) ∙ e in
+        elim (cases_Bool (same q x.value.key)) [
+          | inl f ↦ ap (λ (y : Value). y.part) (sym (same_Some x.value v (rw f at e))) ∙ r x (ap (λ b. cond b (Some x) (value_at xs q)) f)
+          | inr f ↦ go xs (λ h g. r h (ap (λ b. cond b (Some x) (value_at xs q)) f ∙ g)) (rw f at e)
+        ]
 
 module _ {S : Type 0} (config : Config) (part_of : List ℕ → ℕ) (now : ℕ) (parts : List (Part S)) (held : List HeldValue) (parted : AreParted part_of 0 parts) (c : Corresponds (items_of 0 parts) held) where
   -- a value held is in its key's part
@@ -344,9 +349,9 @@ module _ {S : Type 0} (config : Config) (part_of : List ℕ → ℕ) (now : ℕ)
       let zero_plus : 0 + part_of q ≡ part_of q = omega arith in
       go s.0 (entry_of same (held_entries s.0.records) q) (ap (option_map plain) (sym e) ∙ c.found q ∙ value_at-part part_of 0 (part_of q) parts s.0 q parted s.1 (sym zero_plus)) zero_plus
     where
-      go : (s : Part S) (o : Option Kept) → Some (plain h) ≡ option_map (held_of (0 + part_of q) s) o → 0 + part_of q ≡ part_of q → h.value.part ≡ part_of q
+      go : (s : Part S) (o : Option Kept) → Some (plain h) ≡ option_map (as_held_value (0 + part_of q) s) o → 0 + part_of q ≡ part_of q → h.value.part ≡ part_of q
       go s None e z = absurd (none-some (plain h) (sym e))
-      go s (Some x) e z = let is : plain h ≡ held_of (0 + part_of q) s x = cc in ap (λ (g : HeldValue). g.value.part) is ∙ z
+      go s (Some x) e z = let is : plain h ≡ as_held_value (0 + part_of q) s x = cc in ap (λ (g : HeldValue). g.value.part) is ∙ z
 
   -- a record held is in its part
   pub owner_part : (j : ℕ) (s : Part S) → slice_get parts j ≡ Some s → (owner : Rec) → record_at s.records owner.number ≡ Some owner → owner.is_held ≡ true

@@ -1,8 +1,10 @@
 -- What maintenance leaves of a part, whether it came or not.
-use Rattle.std.proofs.Common.{◌≡◌, ℕ, true, List, [], ◌∷◌, ◌++◌, map, Some, refl, ap, ◌∙◌, inr, ◌⊎◌, append-nil, arith, ◌+◌, ◌<◌, Bool, cond, false, true≢false, ◌||◌, Option, option_map, None, slice_get, sym, subst, is_none, not, slice_set, suc, ◌≤◌, ◌&&◌}
+use Rattle.std.proofs.Common.{◌≡◌, ℕ, true, List, [], ◌∷◌, ◌++◌, map, Some, refl, ap, ◌∙◌, inr, ◌⊎◌, append-nil, arith, ◌+◌, ◌<◌, Bool, cond, false, true≢false, ◌||◌, Option, option_map, None, slice_get, sym, subst, is_none, not, slice_set, suc, ◌≤◌, ◌&&◌, inl}
+use Rattle.std.proofs.lemmas.Simd.{map-map}
+use Rattle.std.proofs.lemmas.List.{map-append}
 use Rattle.std.proofs.Math.Bool.{and_comm}
-use Rattle.std.proofs.lemmas.Bool.{and_left, or_from, or_left, or_right, and_from, and_parts, ltb-true, false_from_ne_true}
-use Rattle.std.proofs.lemmas.Option.{none-some}
+use Rattle.std.proofs.lemmas.Bool.{and_left, or_from, or_left, or_right, and_from, and_parts, ltb-true, false_from_ne_true, cases_Bool}
+use Rattle.std.proofs.lemmas.Option.{none-some, same_Some}
 use Rattle.std.specs.List.{list_all, find, list_any}
 use Rattle.policy_base.specs.Info.{kept_time}
 use Rattle.engine_reference.proofs.Accounts.{each-map}
@@ -25,25 +27,21 @@ use Rattle.audit_model.specs.Bytewise.{same}
 use Rattle.audit_model.specs.Changes.{newly_held}
 use Rattle.audit_model.specs.Commands.{Deed}
 use Rattle.audit_model.specs.History.{Value, share}
-use Rattle.audit_model.specs.Notes.{is_over, is_told_first, overfills, first_of, just_accepted, newcomer, is_succeeded}
+use Rattle.audit_model.specs.Notes.{is_over, is_told_first, overfills, first_with_key, just_accepted, newcomer, is_succeeded}
 use Rattle.audit_model.specs.Situation.{HeldValue, candidate_at, is_dead_at, live_at, is_live_at}
-use Rattle.audit_model.specs.Values.{without_key, deadline, has_come as is_come, own_deadline_from, rounded}
+use Rattle.audit_model.specs.Values.{without_key, deadline, deadline_has_come, own_deadline_from, rounded}
 use Rattle.audit_model.specs.View.{Candidate}
 use Rattle.audit_model.specs.declared.config.Config.{Config}
 use Rattle.audit_model.specs.declared.config.Weight.{Weight}
-use Rattle.cache_store.proofs.Held.{key_from_some, absent-without, apart-without, value_at-without, value_at-append, apart-append, first_of-map, Stood, stood}
+use Rattle.cache_store.proofs.Held.{key_from_some, absent-items_without, apart-items_without, value_at-items_without, value_at-append, apart-append, first_with_key-map, Stood, stood}
 use Rattle.cache_store.proofs.Keys.{equal_from_same, same_from_equal}
 use Rattle.cache_store.proofs.Live.{live_is}
 use Rattle.cache_store.proofs.Weights.{over_is}
-use Rattle.cache_store.specs.Held.{value_at, without, is_absent, plain, Corresponds, exceeds, if_live}
+use Rattle.cache_store.specs.Held.{value_at, items_without, is_absent, plain, Corresponds, exceeds, if_live}
 use Rattle.cache_store.specs.Promises.{accepting, deleting}
 use Rattle.cache_front.proofs.parts.Items.{ArePlaced, AreParted, value_at-part, apart-of, weight-part, replaced-there, parted-at, parted_changed, corresponds_changed}
 use Rattle.cache_front.proofs.parts.Writing.{Kept, notes_of, Judges, dead_is, PointsBack, itself, earlier, points_back, Fits, Fitting, Rec, same_laws, Wrote}
-use Rattle.cache_front.specs.Parts.{Stored, Part, service_answers, note_from, settings_of, held_of, value_of, items_of, AreMarked, IsBrief, nanos}
-
-pub map_append : {A B : Type 0} (f : A → B) (xs ys : List A) → map f (xs ++ ys) ≡ map f xs ++ map f ys
-map_append f [] ys = refl
-map_append f (x ∷ xs) ys = ap (λ zs. f x ∷ zs) (map_append f xs ys)
+use Rattle.cache_front.specs.Parts.{Stored, Part, service_answers, note_from, part_settings, as_held_value, as_value, items_of, AreMarked, IsBrief, nanos}
 
 notes_are : (removals : List (Removal (List ℕ) Stored)) → map note_from (map notice_of_removal removals) ≡ notes_of removals
 notes_are [] = refl
@@ -80,7 +78,7 @@ module _ {S : Type 0} (now : ℕ) (t new : Part S) where
         just = k.just;
         notices =
             ap (map note_from) (k.tells.notices ∙ ap (λ b. t.notices ++ notices_of b k.removals) tells)
-            ∙ map_append note_from t.notices (map notice_of_removal k.removals)
+            ∙ map-append note_from t.notices (map notice_of_removal k.removals)
             ∙ ap (λ ns. map note_from t.notices ++ ns) (notes_are k.removals);
         cover = λ q e h. (let place = entry_of-there same (held_entries new.records) q e h in keeps.covered place.0 e place.1);
         comes = k.comes;
@@ -92,13 +90,13 @@ module _ {S : Type 0} (now : ℕ) (t new : Part S) where
 
 -- ---- finding
 
-pub first_of-append : (q : List ℕ) (xs ys : List Candidate) (c : Candidate) → first_of q xs ≡ Some c → first_of q (xs ++ ys) ≡ Some c
-first_of-append q [] ys c e = absurd (none-some c e)
-first_of-append q (x ∷ xs) ys c e = grind (arith, first_of-append q xs ys c)
+pub first_with_key-append : (q : List ℕ) (xs ys : List Candidate) (c : Candidate) → first_with_key q xs ≡ Some c → first_with_key q (xs ++ ys) ≡ Some c
+first_with_key-append q [] ys c e = absurd (none-some c e)
+first_with_key-append q (x ∷ xs) ys c e = grind (arith, first_with_key-append q xs ys c)
 
-pub first_of-behind : (q : List ℕ) (xs ys : List Candidate) → first_of q xs ≡ None → first_of q (xs ++ ys) ≡ first_of q ys
-first_of-behind q [] ys e = refl
-first_of-behind q (x ∷ xs) ys e = grind (arith, first_of-behind q xs ys, none-some x)
+pub first_with_key-behind : (q : List ℕ) (xs ys : List Candidate) → first_with_key q xs ≡ None → first_with_key q (xs ++ ys) ≡ first_with_key q ys
+first_with_key-behind q [] ys e = refl
+first_with_key-behind q (x ∷ xs) ys e = grind (arith, first_with_key-behind q xs ys, none-some x)
 
 pub entry_of-key : (es : List Kept) (q : List ℕ) (e : Kept) → entry_of same es q ≡ Some e → q ≡ e.key
 entry_of-key [] q e h = absurd (none-some e h)
@@ -118,7 +116,7 @@ module _ {S : Type 0} (config : Config) (part_of : List ℕ → ℕ) (made now :
   pub record Knows : Type 0 where
     pub there : slice_get parts part ≡ Some s
     pub parted : AreParted part_of 0 parts
-    pub settings : s.settings ≡ settings_of config made
+    pub settings : s.settings ≡ part_settings config made
     pub brief : IsBrief config
     pub early : (q : List ℕ) (e : Kept) → entry_of same (held_entries s.records) q ≡ Some e → (e.written < 9223372036854775808) × (e.used < 9223372036854775808)
     pub in_order : IsInOrder s
@@ -132,11 +130,11 @@ module _ {S : Type 0} (config : Config) (part_of : List ℕ → ℕ) (made now :
     placed q e h = (parted-at part_of 0 part parts s k.parted k.there).1 q e h ∙ omega arith
 
     -- the value held that is an entry
-    pub stands_for : (q : List ℕ) (e : Kept) → entry_of same (held_entries s.records) q ≡ Some e → Stood cand (λ h. refl) held q (held_of part s e)
-    stands_for q e h = grind (arith, stood cand (λ h. refl) (items_of 0 parts) held q (held_of part s e) c, value_at-part part_of 0 part parts s q k.parted k.there, placed q e)
+    pub stands_for : (q : List ℕ) (e : Kept) → entry_of same (held_entries s.records) q ≡ Some e → Stood cand (λ h. refl) held q (as_held_value part s e)
+    stands_for q e h = grind (arith, stood cand (λ h. refl) (items_of 0 parts) held q (as_held_value part s e) c, value_at-part part_of 0 part parts s q k.parted k.there, placed q e)
 
     -- it is dead where the entry is past its deadline
-    pub dead_from : (q : List ℕ) (e : Kept) (h : HeldValue) → entry_of same (held_entries s.records) q ≡ Some e → plain h ≡ held_of part s e → has_come s.settings now e ≡ is_dead_at config now h
+    pub dead_from : (q : List ℕ) (e : Kept) (h : HeldValue) → entry_of same (held_entries s.records) q ≡ Some e → plain h ≡ as_held_value part s e → has_come s.settings now e ≡ is_dead_at config now h
     dead_from q e h there is = grind (arith, dead_is)
 
     -- A REMOVAL FOR WEIGHT OF WHAT WAS HELD IS TRUE: its point is a mark
@@ -151,7 +149,7 @@ module _ {S : Type 0} (config : Config) (part_of : List ℕ → ℕ) (made now :
         let st = stands_for q e there in
         record {
           candidate = cand st.value;
-          there = first_of-append q (map cand held) tail (cand st.value) (first_of-map cand (λ h. refl) q held ∙ ap (option_map cand) st.found);
+          there = first_with_key-append q (map cand held) tail (cand st.value) (first_with_key-map cand (λ h. refl) q held ∙ ap (option_map cand) st.found);
           is = record {
             bytes = ap (λ (h : HeldValue). h.value.bytes) st.is;
             later = later q e there st.value st.found;
@@ -167,7 +165,7 @@ module _ {S : Type 0} (config : Config) (part_of : List ℕ → ℕ) (made now :
     pub record IsNewValue (key : List ℕ) (e : Kept) (t : Part S) (value : Value) : Type 0 where
       pub at : part_of key ≡ part
       pub is_key : value.key ≡ key
-      pub is : value_of part e ≡ value
+      pub is : as_value part e ≡ value
       pub used : e.used ≡ now
       pub accepted : value.accepted_at ≡ now
       pub fresh : is_covered service_answers t e ≡ false
@@ -176,7 +174,7 @@ module _ {S : Type 0} (config : Config) (part_of : List ℕ → ℕ) (made now :
     module _ (key : List ℕ) (e : Kept) (t : Part S) (value : Value) (w : Wrote now key e s t) (n : IsNewValue key e t value) where
       -- the values held just after the acceptance: the key's other value is gone
       abbrev pub just : List HeldValue
-      just = without key held ++ newly_held value ∷ []
+      just = items_without key held ++ newly_held value ∷ []
 
       abbrev pub parts_t : List (Part S)
       parts_t = slice_set parts part t
@@ -190,44 +188,36 @@ module _ {S : Type 0} (config : Config) (part_of : List ℕ → ℕ) (made now :
       pub there_t : slice_get parts_t part ≡ Some t
       there_t = replaced-there part t s parts k.there
 
-      absent : is_absent value.key (without key held) ≡ true
-      absent = subst (λ x. is_absent x (without key held) ≡ true) (sym n.is_key) (absent-without key held c.apart)
+      absent : is_absent value.key (items_without key held) ≡ true
+      absent = subst (λ x. is_absent x (items_without key held) ≡ true) (sym n.is_key) (absent-items_without key held c.apart)
 
       pub value_at-just : (q : List ℕ) → value_at just q ≡ cond (same q key) (Some (newly_held value)) (value_at held q)
-      value_at-just q = grind (arith, value_at-append (without key held) (newly_held value) q absent, absent, value_at-without key q held c.apart)
+      value_at-just q = grind (arith, value_at-append (items_without key held) (newly_held value) q absent, absent, value_at-items_without key q held c.apart)
 
-      new_is : plain (newly_held value) ≡ held_of part t e
+      new_is : plain (newly_held value) ≡ as_held_value part t e
       new_is = grind arith
 
       -- the values held just after the acceptance are those of the parts after the write
       pub corresponds_written : Corresponds (items_of 0 parts_t) just
       corresponds_written =
           corresponds_changed part_of part s t parts held just key (Some e) (Some (newly_held value)) k.parted k.there c n.at w.apart w.found w.cover
-          (apart-append (without key held) (newly_held value) (apart-without key held c.apart) absent) value_at-just (ap (λ h. Some h) new_is)
+          (apart-append (items_without key held) (newly_held value) (apart-items_without key held c.apart) absent) value_at-just (ap (λ h. Some h) new_is)
 
       -- THE KEPT WEIGHT IS THE AUDIT'S: the part is over its share then exactly where what is kept beside the write is above the capacity
       pub over_written : is_over config part (map (λ (h : HeldValue). h.value) just) ≡ is_above t.settings.capacity w.upsert.kept
-      over_written = grind (arith, over_is config part (items_of 0 parts_t) just (apart-of part_of 0 parts_t parted_t) corresponds_written, apart-of part_of 0 parts_t parted_t, parted_t, corresponds_written, zero_plus, weight-part 0 part parts_t t there_t, there_t, above_is (option_map (share config) config.capacity) w.upsert.kept)
+      over_written =
+          let over = over_is config part (items_of 0 parts_t) just (apart-of part_of 0 parts_t parted_t) corresponds_written in
+          grind (arith, over, apart-of part_of 0 parts_t parted_t, parted_t, corresponds_written, zero_plus, weight-part 0 part parts_t t there_t, there_t, above_is (option_map (share config) config.capacity) w.upsert.kept)
 
-      values_without : (xs : List HeldValue) → without_key (λ (v : Value). v.key) key (map (λ (x : Candidate). x.value) (map cand xs)) ≡ map (λ (h : HeldValue). h.value) (without key xs)
+      values_without : (xs : List HeldValue) → without_key (λ (v : Value). v.key) key (map (λ (x : Candidate). x.value) (map cand xs)) ≡ map (λ (h : HeldValue). h.value) (items_without key xs)
       values_without [] = refl
-      values_without (x ∷ xs) = go (same key x.value.key) (values_without xs)
-        where
-          go : (b : Bool) → without_key (λ (v : Value). v.key) key (map (λ (x : Candidate). x.value) (map cand xs)) ≡ map (λ (h : HeldValue). h.value) (without key xs)
-              → cond b (map (λ (x : Candidate). x.value) (map cand xs)) (x.value ∷ without_key (λ (v : Value). v.key) key (map (λ (x : Candidate). x.value) (map cand xs))) ≡ map (λ (h : HeldValue). h.value) (cond b xs (x ∷ without key xs))
-          go true next = plain_values xs
-            where
-              plain_values : (ys : List HeldValue) → map (λ (x : Candidate). x.value) (map cand ys) ≡ map (λ (h : HeldValue). h.value) ys
-              plain_values [] = refl
-              plain_values (y ∷ ys) = ap (λ vs. y.value ∷ vs) (plain_values ys)
-          go false next = ap (λ vs. x.value ∷ vs) next
-
-      map_push : (xs : List HeldValue) → map (λ (h : HeldValue). h.value) (xs ++ newly_held value ∷ []) ≡ map (λ (h : HeldValue). h.value) xs ++ value ∷ []
-      map_push [] = refl
-      map_push (x ∷ xs) = ap (λ vs. x.value ∷ vs) (map_push xs)
+      values_without (x ∷ xs) = elim (cases_Bool (same key x.value.key)) [
+        | inl e ↦ rw e (map-map (λ (x : Candidate). x.value) cand xs)
+        | inr e ↦ rw e (ap (λ vs. x.value ∷ vs) (values_without xs))
+      ]
 
       accepted_are : just_accepted (map (λ (x : Candidate). x.value) (map cand held)) (Some value) ≡ map (λ (h : HeldValue). h.value) just
-      accepted_are = grind (arith, values_without held, map_push (without key held))
+      accepted_are = grind (arith, values_without held, map-append (λ (h : HeldValue). h.value) (items_without key held) (newly_held value ∷ []))
 
       pub overfills_is : (used : Option (List ℕ)) → overfills config (map cand held) (accepting used value) part ≡ is_above t.settings.capacity w.upsert.kept
       overfills_is used = ap (is_over config part) accepted_are ∙ over_written
@@ -238,22 +228,56 @@ module _ {S : Type 0} (config : Config) (part_of : List ℕ → ℕ) (made now :
         was : same key owner.entry.key ≡ false → record_at s.records owner.number ≡ Some owner → HasPoint s.settings.capacity s.writes (map (λ u. u.write) s.unsent) owner.number → PointIs owner
 
       pub point_is : (owner : Rec) → record_at t.records owner.number ≡ Some owner → owner.is_held ≡ true → HasPoint t.settings.capacity t.writes (map (λ u. u.write) t.unsent) owner.number → PointIs owner
-      point_is owner there held p = grind (arith, points_back t.settings.capacity s.writes (Put w.upsert) owner.number (subst (λ us. HasPoint t.settings.capacity (s.writes ++ Put w.upsert ∷ []) us owner.number) (ap (λ us. map (λ u. u.write) us) w.unsent) (subst (λ ws. HasPoint t.settings.capacity ws (map (λ u. u.write) t.unsent) owner.number) w.writes p)), PointsBack t.settings.capacity s.writes (Put w.upsert) owner.number, itself, earlier)
+      point_is owner there held p =
+          let back = points_back t.settings.capacity s.writes (Put w.upsert) owner.number
+          (subst (λ us. HasPoint t.settings.capacity (s.writes ++ Put w.upsert ∷ []) us owner.number) (ap (λ us. map (λ u. u.write) us) w.unsent)
+          (subst (λ ws. HasPoint t.settings.capacity ws (map (λ u. u.write) t.unsent) owner.number) w.writes p)) in
+          grind (arith, back, PointsBack t.settings.capacity s.writes (Put w.upsert) owner.number, itself, earlier)
 
       -- a run that begins after the write
-      pub fits_written : (used : Option (List ℕ)) → Fits (Judges config (accepting used value) (map cand held) now t) (map cand (without key held) ++ newcomer config value ∷ []) (held_entries t.records)
-      fits_written used q x there = go (same q key) refl (sym (w.found q) ∙ there)
+      pub fits_written : (used : Option (List ℕ)) → Fits (Judges config (accepting used value) (map cand held) now t) (map cand (items_without key held) ++ newcomer config value ∷ []) (held_entries t.records)
+      fits_written used q x there = elim (cases_Bool (same q key)) [
+        | inl f ↦
+            let is : e ≡ x = same_Some e x (sym (ap (λ b. cond b (Some e) (entry_of same (held_entries s.records) q)) f) ∙ sym (w.found q) ∙ there) in
+            subst (λ y. Fitting (Judges config (accepting used value) (map cand held) now t) (map cand (items_without key held) ++ newcomer config value ∷ []) q y) is (record {
+              candidate = newcomer config value;
+              there = first_with_key-behind q (map cand (items_without key held)) (newcomer config value ∷ []) (first_none q f)
+                  ∙ ap (λ y. cond (same q y) (Some (newcomer config value)) None) n.is_key ∙ ap (λ b. cond b (Some (newcomer config value)) None) f;
+              is = record {
+                bytes = ap (λ (v : Value). v.bytes) (sym n.is);
+                later = refl;
+                expired = λ past. dead_new past;
+                explicit = λ covered. absurd (true≢false (sym covered ∙ n.fresh));
+                size = λ p. ap (overfills config (map cand held) (accepting used value)) (sym (ap (λ (v : Value). v.part) n.is)) ∙ new_size e refl p;
+              };
+            })
+        | inr f ↦
+            let in_s : entry_of same (held_entries s.records) q ≡ Some x = sym (ap (λ b. cond b (Some e) (entry_of same (held_entries s.records) q)) f) ∙ sym (w.found q) ∙ there in
+            let st = stands_for q x in_s in
+            record {
+              candidate = cand st.value;
+              there = first_with_key-append q (map cand (items_without key held)) (newcomer config value ∷ []) (cand st.value)
+                  (first_with_key-map cand (λ h. refl) q (items_without key held) ∙ ap (option_map cand) (value_at-items_without key q held c.apart ∙ ap (λ b. cond b None (value_at held q)) f ∙ st.found));
+              is = record {
+                bytes = ap (λ (h : HeldValue). h.value.bytes) st.is;
+                later = and_left _ (is_none used) (or_from (same st.value.value.key value.key) false (ap (λ y. same y value.key) (key_from_some q held st.value st.found) ∙ ap (same q) n.is_key ∙ f) refl);
+                expired = λ past. sym (dead_from q x st.value in_s st.is) ∙ ap (λ z. has_come z now x) (sym w.settings) ∙ past;
+                explicit = λ covered. ap (λ (h : HeldValue). h.covered) st.is ∙ sym (w.cover x) ∙ covered;
+                size = λ p. old_size x st.value in_s st.found (ap (λ (h : HeldValue). h.value.part) st.is) p;
+              };
+            }
+      ]
         where
-          first_none : (q : List ℕ) → same q key ≡ true → first_of q (map cand (without key held)) ≡ None
-          first_none q f = first_of-map cand (λ h. refl) q (without key held) ∙ ap (option_map cand) (value_at-without key q held c.apart ∙ ap (λ b. cond b None (value_at held q)) f)
+          first_none : (q : List ℕ) → same q key ≡ true → first_with_key q (map cand (items_without key held)) ≡ None
+          first_none q f = first_with_key-map cand (λ h. refl) q (items_without key held) ∙ ap (option_map cand) (value_at-items_without key q held c.apart ∙ ap (λ b. cond b None (value_at held q)) f)
 
           dead_new : has_come t.settings now e ≡ true → (newcomer config value).dead ≡ true
           dead_new past =
               let to_now : e.used ≡ value.accepted_at = n.used ∙ sym n.accepted in
               let written : e.written ≡ now = ap (λ (v : Value). v.accepted_at) n.is ∙ n.accepted in
-              ap (λ m. is_come (deadline config value value.accepted_at) m) n.accepted
-              ∙ ap (λ u. is_come (deadline config value u) now) (sym to_now)
-              ∙ ap (λ v. is_come (deadline config v e.used) now) (sym n.is)
+              ap (λ m. deadline_has_come (deadline config value value.accepted_at) m) n.accepted
+              ∙ ap (λ u. deadline_has_come (deadline config value u) now) (sym to_now)
+              ∙ ap (λ v. deadline_has_come (deadline config v e.used) now) (sym n.is)
               ∙ sym (dead_is config made now part t e k.brief (w.settings ∙ k.settings) (let l = n.range in omega (arith, written, l)) (let l = n.range in let u = n.used in omega (arith, u, l)))
               ∙ past
 
@@ -273,39 +297,6 @@ module _ {S : Type 0} (config : Config) (part_of : List ℕ → ℕ) (made now :
               by_point : PointIs p.owner → (h.evictable || overfills config (map cand held) (accepting used value) h.value.part) ≡ true
               by_point (fills a) = or_right h.evictable _ (ap (overfills config (map cand held) (accepting used value)) in_part ∙ overfills_is used ∙ a)
               by_point (was other there point) = or_left h.evictable _ (marked_from q y h in_s found (record { owner = p.owner; there = there; held = p.held; entry = p.entry; point = point }))
-
-          go : (b : Bool) → same q key ≡ b → cond (same q key) (Some e) (entry_of same (held_entries s.records) q) ≡ Some x
-              → Fitting (Judges config (accepting used value) (map cand held) now t) (map cand (without key held) ++ newcomer config value ∷ []) q x
-          go true f g =
-              let both : Some e ≡ Some x = sym (ap (λ b. cond b (Some e) (entry_of same (held_entries s.records) q)) f) ∙ g in
-              let is : e ≡ x = cc in
-              subst (λ y. Fitting (Judges config (accepting used value) (map cand held) now t) (map cand (without key held) ++ newcomer config value ∷ []) q y) is (record {
-                candidate = newcomer config value;
-                there = first_of-behind q (map cand (without key held)) (newcomer config value ∷ []) (first_none q f)
-                    ∙ ap (λ y. cond (same q y) (Some (newcomer config value)) None) n.is_key ∙ ap (λ b. cond b (Some (newcomer config value)) None) f;
-                is = record {
-                  bytes = ap (λ (v : Value). v.bytes) (sym n.is);
-                  later = refl;
-                  expired = λ past. dead_new past;
-                  explicit = λ covered. absurd (true≢false (sym covered ∙ n.fresh));
-                  size = λ p. ap (overfills config (map cand held) (accepting used value)) (sym (ap (λ (v : Value). v.part) n.is)) ∙ new_size e refl p;
-                };
-              })
-          go false f g =
-              let in_s : entry_of same (held_entries s.records) q ≡ Some x = sym (ap (λ b. cond b (Some e) (entry_of same (held_entries s.records) q)) f) ∙ g in
-              let st = stands_for q x in_s in
-              record {
-                candidate = cand st.value;
-                there = first_of-append q (map cand (without key held)) (newcomer config value ∷ []) (cand st.value)
-                    (first_of-map cand (λ h. refl) q (without key held) ∙ ap (option_map cand) (value_at-without key q held c.apart ∙ ap (λ b. cond b None (value_at held q)) f ∙ st.found));
-                is = record {
-                  bytes = ap (λ (h : HeldValue). h.value.bytes) st.is;
-                  later = and_left _ (is_none used) (or_from (same st.value.value.key value.key) false (ap (λ y. same y value.key) (key_from_some q held st.value st.found) ∙ ap (same q) n.is_key ∙ f) refl);
-                  expired = λ past. sym (dead_from q x st.value in_s st.is) ∙ ap (λ z. has_come z now x) (sym w.settings) ∙ past;
-                  explicit = λ covered. ap (λ (h : HeldValue). h.covered) st.is ∙ sym (w.cover x) ∙ covered;
-                  size = λ p. old_size x st.value in_s st.found (ap (λ (h : HeldValue). h.value.part) st.is) p;
-                };
-              }
 
 -- Small facts: own deadlines, what is fresh, what is live, capacity 0.
 
@@ -349,16 +340,12 @@ module _ {S : Type 0} where
       bytes_are None = refl
       bytes_are (Some h) = refl
 
-      either : (b : Bool) (e : Kept) → option_map (λ (h : HeldValue). h.value.bytes) (cond b (Some (held_of (0 + part) s e)) None) ≡ option_map (λ (e : Kept). e.value.bytes) (cond b (Some e) None)
-      either true e = refl
-      either false e = refl
-
       by_entry : (o : Option Kept) → entry_of same (held_entries s.records) key ≡ o
-          → option_map (λ (h : HeldValue). h.value.bytes) (if_live config now (option_map (held_of (0 + part) s) o)) ≡ option_map (λ (e : Kept). e.value.bytes) (passing (is_visible service_answers s now) o)
+          → option_map (λ (h : HeldValue). h.value.bytes) (if_live config now (option_map (as_held_value (0 + part) s) o)) ≡ option_map (λ (e : Kept). e.value.bytes) (passing (is_visible service_answers s now) o)
       by_entry None f = refl
       by_entry (Some e) f =
           let early = k.early key e f in
-          ap (λ b. option_map (λ (h : HeldValue). h.value.bytes) (cond b (Some (held_of (0 + part) s e)) None))
+          ap (λ b. option_map (λ (h : HeldValue). h.value.bytes) (cond b (Some (as_held_value (0 + part) s e)) None))
           (ap (λ b. not (is_covered service_answers s e) && not b) (sym (dead_is config made now (0 + part) s e k.brief k.settings early.0 early.1))
           ∙ and_comm (not (is_covered service_answers s e)) (not (has_come s.settings now e)))
-          ∙ either (is_visible service_answers s now e) e
+          ∙ grind arith

@@ -1,10 +1,10 @@
 -- What a run of one part comes to in a call that accepts nothing, and what such calls do: a look-up, a removal that finds nothing, a clear, a predicate.
-use Rattle.std.proofs.Common.{◌≡◌, ℕ, suc, true, false, not, List, [], ◌++◌, map, Option, Some, None, slice_get, sym, ap, ◌∙◌, subst, refl, arith, inl, inr, ◌⊎◌, append-nil, ◌+◌, Bool, cond, true≢false, ◌&&◌, ◌||◌, ◌∷◌, option_map, zero, ◌==◌, if◌then◌else◌, slice_set}
+use Rattle.std.proofs.Common.{◌≡◌, ℕ, suc, true, false, not, List, [], ◌++◌, map, Option, Some, None, slice_get, sym, ap, ◌∙◌, subst, refl, arith, inl, inr, ◌⊎◌, append-nil, ◌+◌, Bool, cond, true≢false, ◌&&◌, ◌||◌, ◌∷◌, option_map, zero, ◌==◌, if◌then◌else◌, slice_set, ⊎_elim}
 use Rattle.std.proofs.Math.Bool.{and_comm, or-false}
 use Rattle.std.specs.List.{list_all}
 use Rattle.std.proofs.lemmas.Option.{none-some}
 use Rattle.audit_model.specs.Bytewise.{same}
-use Rattle.audit_model.specs.Changes.{held_after, left_held, use_after}
+use Rattle.audit_model.specs.Changes.{held_after, left_held}
 use Rattle.audit_model.specs.Commands.{Deed, Nothing, Covering, covers_key}
 use Rattle.audit_model.specs.Notes.{are_true_notes, candidates_of, is_succeeded, is_told_first}
 use Rattle.audit_model.specs.Situation.{HeldValue, candidate_at, is_dead_at, is_live_at}
@@ -17,7 +17,7 @@ use Rattle.engine_reference.specs.RunLaws.Points.{HasPoint, IsInOrder}
 use Rattle.engine_reference.specs.RunLaws.Just.{IsJust, ComesFrom}
 use Rattle.cache_store.specs.Held.{value_at, plain, Corresponds, is_absent}
 use Rattle.cache_store.proofs.Held.{left, value_at-map, apart-map, key_from_some, absent_from_none}
-use Rattle.cache_front.specs.Parts.{Part, service_answers, AreMarked, Stands, note_from, held_of, value_of, items_of, drained}
+use Rattle.cache_front.specs.Parts.{Part, service_answers, AreMarked, Stands, note_from, as_held_value, as_value, items_of, drained}
 use Rattle.cache_front.proofs.parts.Accepting.{all-untold}
 use Rattle.cache_front.proofs.parts.Joining.{Knows, fits_held, dead_from, none_deleted, Ran, Maintained, ran_from}
 use Rattle.cache_front.proofs.parts.Writing.{Judges, judged, no_point, Kept, notes_of, told_truly, Rec, same_laws, found-at, unlike_other, all_units}
@@ -34,7 +34,7 @@ use Rattle.engine_reference.proofs.run_laws.Shown.{entry-held, to-records, from-
 use Rattle.cache_store.specs.Promises.{Done, using, deleting, covering}
 use Rattle.cache_store.proofs.Steps.{none_succeeded, after_plain, corresponds-as, right_to_tell_none}
 use Rattle.cache_store.proofs.Keys.{equal_from_same}
-use Rattle.std.proofs.lemmas.Bool.{and_parts, and_left}
+use Rattle.std.proofs.lemmas.Bool.{and_parts, and_left, cases_Bool, false_from_ne_true}
 use Rattle.cache_store.specs.Handing.{TellsNone}
 
 -- a key is used, or one is deleted
@@ -151,10 +151,10 @@ module _ {S : Type 0} (now : ℕ) (key : List ℕ) (hash : ℕ) (s mid : Part S)
 
       -- in the changed records
       seen : is_visible service_answers s now rec.entry ≡ true → entry_of same (held_entries changed) q ≡ option_map (λ x. used_if now (sees q x) x) (entry_of same (held_entries mid.records) q)
-      seen v = entry-held same changed q ∙ by_key (same q key) refl ∙ ap (option_map (λ x. used_if now (sees q x) x)) (sym (entry-held same mid.records q))
+      seen v = entry-held same changed q ∙ ⊎_elim matched unmatched (cases_Bool (same q key)) ∙ ap (option_map (λ x. used_if now (sees q x) x)) (sym (entry-held same mid.records q))
         where
-          by_key : (b : Bool) → same q key ≡ b → option_map (λ (y : Rec). y.entry) (held_at same changed q) ≡ option_map (λ x. used_if now (sees q x) x) (option_map (λ (y : Rec). y.entry) (held_at same mid.records q))
-          by_key false g =
+          unmatched : same q key ≡ false → option_map (λ (y : Rec). y.entry) (held_at same changed q) ≡ option_map (λ x. used_if now (sees q x) x) (option_map (λ (y : Rec). y.entry) (held_at same mid.records q))
+          unmatched g =
               ap (option_map (λ (y : Rec). y.entry)) (unmatched-changed same rec.number f q mid.records
               (each-map (ComesFrom s.records) (λ (y : Rec). y.number ≡ rec.number → (same q y.entry.key ≡ false) × (same q (f y).entry.key ≡ false))
               (λ y from at.
@@ -168,7 +168,9 @@ module _ {S : Type 0} (now : ℕ) (key : List ℕ) (hash : ℕ) (s mid : Part S)
               plain_map : (o : Option Rec) → option_map (λ (y : Rec). y.entry) o ≡ option_map (λ x. used_if now (sees q x) x) (option_map (λ (y : Rec). y.entry) o)
               plain_map None = refl
               plain_map (Some y) = ap (λ b. Some (used_if now (b && is_visible service_answers s now y.entry) y.entry)) (sym g)
-          by_key true g = by_record (held_at same mid.records q) refl
+
+          matched : same q key ≡ true → option_map (λ (y : Rec). y.entry) (held_at same changed q) ≡ option_map (λ x. used_if now (sees q x) x) (option_map (λ (y : Rec). y.entry) (held_at same mid.records q))
+          matched g = by_record (held_at same mid.records q) refl
             where
               by_record : (o : Option Rec) → held_at same mid.records q ≡ o → option_map (λ (y : Rec). y.entry) (held_at same changed q) ≡ option_map (λ x. used_if now (sees q x) x) (option_map (λ (y : Rec). y.entry) o)
               by_record None e = ap (option_map (λ (y : Rec). y.entry)) (no_entry f rec.number q mid.records (λ x. refl) (λ x. refl) e)
@@ -198,11 +200,10 @@ module _ {S : Type 0} (now : ℕ) (key : List ℕ) (hash : ℕ) (s mid : Part S)
         where
           unseen : (o : Option Kept) → entry_of same (held_entries mid.records) q ≡ o → o ≡ option_map (λ x. used_if now (sees q x) x) o
           unseen None e = refl
-          unseen (Some x) e = go (same q key) refl
-            where
-              go : (b : Bool) → same q key ≡ b → Some x ≡ Some (used_if now (sees q x) x)
-              go true g = ap (λ b. Some (used_if now b x)) (sym (ap (λ b. b && is_visible service_answers s now x) g ∙ ap (is_visible service_answers s now) (sym (is_rec x g e)) ∙ v))
-              go false g = ap (λ b. Some (used_if now (b && is_visible service_answers s now x) x)) (sym g)
+          unseen (Some x) e = elim (cases_Bool (same q key)) [
+            | inl g ↦ ap (λ b. Some (used_if now b x)) (sym (ap (λ b. b && is_visible service_answers s now x) g ∙ ap (is_visible service_answers s now) (sym (is_rec x g e)) ∙ v))
+            | inr g ↦ ap (λ b. Some (used_if now (b && is_visible service_answers s now x) x)) (sym g)
+          ]
 
   -- ---- what stays the same
 
@@ -217,7 +218,7 @@ module _ {S : Type 0} (now : ℕ) (key : List ℕ) (hash : ℕ) (s mid : Part S)
   pub read-apart : AreApart same (held_entries mid.records) → AreApart same (held_entries read.records)
   read-apart a = from-records same read.records (kept_apart same same_laws service_answers mid (visible_record service_answers same s now key) hash now (to-records same mid.records a))
 
-  used-value : (part : ℕ) (b : Bool) (x : Kept) → value_of part (used_if now b x) ≡ value_of part x
+  used-value : (part : ℕ) (b : Bool) (x : Kept) → as_value part (used_if now b x) ≡ as_value part x
   used-value part true x = refl
   used-value part false x = refl
 
@@ -275,10 +276,10 @@ module _ {S : Type 0} (now : ℕ) (key : List ℕ) (hash : ℕ) (s mid : Part S)
     xs = left_held held (using key) told
 
     -- a value is used exactly where the part's entry is
-    used-alike : (q : List ℕ) (x : Kept) (h : HeldValue) → entry_of same (held_entries mid.records) q ≡ Some x → value_at xs q ≡ Some h → plain h ≡ held_of (0 + part) mid x → (same key h.value.key && is_live_at config now h) ≡ sees q x
+    used-alike : (q : List ℕ) (x : Kept) (h : HeldValue) → entry_of same (held_entries mid.records) q ≡ Some x → value_at xs q ≡ Some h → plain h ≡ as_held_value (0 + part) mid x → (same key h.value.key && is_live_at config now h) ≡ sees q x
     used-alike q x h in_mid found is =
         let in_s = was_there q x in_mid in
-        let is_s : plain h ≡ held_of part s x = is ∙ ap (λ m. held_of m mid x) zero_plus ∙ ap (λ b. record (held_of part s x) { covered = b }) (r.cover q x in_mid) in
+        let is_s : plain h ≡ as_held_value part s x = is ∙ ap (λ m. as_held_value m mid x) zero_plus ∙ ap (λ b. record (as_held_value part s x) { covered = b }) (r.cover q x in_mid) in
         let dead = dead_from config part_of made now part s parts held k stands.same (stands.marked part s k.there) q x h in_s is_s in
         ap (λ y. same key y && is_live_at config now h) (key_from_some q xs h found) ∙ ap (λ b. b && is_live_at config now h) (same_laws.symm key q)
         ∙ ap (λ b. same q key && b)
@@ -286,7 +287,7 @@ module _ {S : Type 0} (now : ℕ) (key : List ℕ) (hash : ℕ) (s mid : Part S)
         ∙ ap (λ b. not (is_covered service_answers s x) && not b) (sym dead)
         ∙ and_comm (not (is_covered service_answers s x)) (not (has_come s.settings now x)))
 
-    after-is : (q : List ℕ) (x : Kept) (h : HeldValue) → entry_of same (held_entries mid.records) q ≡ Some x → value_at xs q ≡ Some h → plain h ≡ held_of (0 + part) mid x → plain (f h) ≡ held_of (0 + part) (drained read) (used_if now (sees q x) x)
+    after-is : (q : List ℕ) (x : Kept) (h : HeldValue) → entry_of same (held_entries mid.records) q ≡ Some x → value_at xs q ≡ Some h → plain h ≡ as_held_value (0 + part) mid x → plain (f h) ≡ as_held_value (0 + part) (drained read) (used_if now (sees q x) x)
     after-is q x h in_mid found is = grind (arith, used-alike q x, or-false, used-value (0 + part), used-moment, used-cover, read-cover (visible_record service_answers same s now key))
 
     pub corresponds_read : Corresponds (items_of 0 parts_new) (map f xs)
@@ -297,20 +298,20 @@ module _ {S : Type 0} (now : ℕ) (key : List ℕ) (hash : ℕ) (s mid : Part S)
         by_part : (q : List ℕ) → Dec (part_of q ≡ 0 + part) → option_map plain (option_map f (value_at xs q)) ≡ value_at (items_of 0 parts_new) q
         by_part q (yes here) =
             go (value_at xs q) refl (entry_of same (held_entries mid.records) q) refl
-            ∙ ap (option_map (held_of (0 + part) (drained read))) (sym (found_read q))
+            ∙ ap (option_map (as_held_value (0 + part) (drained read))) (sym (found_read q))
             ∙ sym (value_at-part part_of 0 part parts_new (drained read) q parted_new (replaced-there part (drained read) s parts k.there) here)
           where
-            found : option_map plain (value_at xs q) ≡ option_map (held_of (0 + part) mid) (entry_of same (held_entries mid.records) q)
+            found : option_map plain (value_at xs q) ≡ option_map (as_held_value (0 + part) mid) (entry_of same (held_entries mid.records) q)
             found = corresponds_mid.found q ∙ value_at-part part_of 0 part parts_mid mid q parted_mid (replaced-there part mid s parts k.there) here
 
             go : (o : Option HeldValue) → value_at xs q ≡ o → (p : Option Kept) → entry_of same (held_entries mid.records) q ≡ p
-                → option_map plain (option_map f o) ≡ option_map (held_of (0 + part) (drained read)) (option_map (λ x. used_if now (sees q x) x) p)
+                → option_map plain (option_map f o) ≡ option_map (as_held_value (0 + part) (drained read)) (option_map (λ x. used_if now (sees q x) x) p)
             go None e None g = refl
-            go None e (Some x) g = absurd (none-some (held_of (0 + part) mid x) (sym (ap (option_map plain) e) ∙ found ∙ ap (option_map (held_of (0 + part) mid)) g))
-            go (Some h) e None g = absurd (none-some (plain h) (sym (ap (option_map (held_of (0 + part) mid)) g) ∙ sym found ∙ ap (option_map plain) e))
+            go None e (Some x) g = absurd (none-some (as_held_value (0 + part) mid x) (sym (ap (option_map plain) e) ∙ found ∙ ap (option_map (as_held_value (0 + part) mid)) g))
+            go (Some h) e None g = absurd (none-some (plain h) (sym (ap (option_map (as_held_value (0 + part) mid)) g) ∙ sym found ∙ ap (option_map plain) e))
             go (Some h) e (Some x) g =
-                let both : Some (plain h) ≡ Some (held_of (0 + part) mid x) = sym (ap (option_map plain) e) ∙ found ∙ ap (option_map (held_of (0 + part) mid)) g in
-                let is : plain h ≡ held_of (0 + part) mid x = cc in
+                let both : Some (plain h) ≡ Some (as_held_value (0 + part) mid x) = sym (ap (option_map plain) e) ∙ found ∙ ap (option_map (as_held_value (0 + part) mid)) g in
+                let is : plain h ≡ as_held_value (0 + part) mid x = cc in
                 ap (λ y. Some y) (after-is q x h g e is)
         by_part q (no other) =
             go (value_at xs q) refl
@@ -320,11 +321,8 @@ module _ {S : Type 0} (now : ℕ) (key : List ℕ) (hash : ℕ) (s mid : Part S)
           where
             go : (o : Option HeldValue) → value_at xs q ≡ o → option_map plain (option_map f o) ≡ option_map plain o
             go None e = refl
-            go (Some h) e = ap (λ y. Some y) (after_plain config now held (using key) told (map (λ (h : HeldValue). h.value) xs) refl h (unused (same key h.value.key) refl))
-              where
-                unused : (b : Bool) → same key h.value.key ≡ b → use_after config now (using key) h ≡ h.last_use
-                unused true g = absurd (other (ap part_of (sym (key_from_some q xs h e) ∙ sym (equal_from_same key h.value.key g)) ∙ at_key ∙ sym zero_plus))
-                unused false g = ap (λ b. cond (b && is_live_at config now h) now h.last_use) g
+            go (Some h) e = ap (λ y. Some y) (after_plain config now held (using key) told (map (λ (h : HeldValue). h.value) xs) refl h
+                (ap (λ b. cond (b && is_live_at config now h) now h.last_use) (false_from_ne_true (same key h.value.key) (λ g. other (ap part_of (sym (key_from_some q xs h e) ∙ sym (equal_from_same key h.value.key g)) ∙ at_key ∙ sym zero_plus)))))
 
     -- A LOOK-UP DOES WHAT A STORE PROMISES
     pub look_up_does : Done config now (using key) held (Stands parts_new) (λ notes. notes ≡ map note_from mid.notices)
@@ -373,7 +371,9 @@ module _ {S : Type 0} (config : Config) (part_of : List ℕ → ℕ) (made now :
   absent = grind (arith, absent_from_none key held, value_at-part part_of 0 part parts s key k.parted k.there (at_key ∙ sym plus_zero), plus_zero, entry-held same s.records key, none-some)
 
   same_after : Corresponds (items_of 0 parts_then) (map left_of others)
-  same_after = grind (arith, corresponds-as left_of (items_of 0 parts_then) others (λ h. refl), after_plain config now held (deleting key) only_told (map (λ (h : HeldValue). h.value) others) refl, left only_told, append-nil held, corresponds-run part_of part s (drained new) parts held r.removals k.parted k.there r.takes r.cover stands.same)
+  same_after =
+      let run = corresponds-run part_of part s (drained new) parts held r.removals k.parted k.there r.takes r.cover stands.same in
+      grind (arith, corresponds-as left_of (items_of 0 parts_then) others (λ h. refl), after_plain config now held (deleting key) only_told (map (λ (h : HeldValue). h.value) others) refl, left only_told, append-nil held, run)
 
   -- A REMOVAL OF A KEY THAT IS NOT THERE DOES WHAT A STORE PROMISES
   pub miss_does : Done config now (deleting key) held (Stands parts_then) (λ notes. notes ≡ map note_from new.notices)
@@ -453,20 +453,20 @@ module _ {S : Type 0} (which : Covering) where
           go : (x : Part S) × (slice_get parts (part_of q) ≡ Some x) → option_map plain (option_map f (value_at held q)) ≡ value_at (items_of 0 news) q
           go s = by_entry (there parts news (part_of q) s.0 all s.1)
             where
-              was : option_map plain (value_at held q) ≡ option_map (held_of (0 + part_of q) s.0) (entry_of same (held_entries s.0.records) q)
+              was : option_map plain (value_at held q) ≡ option_map (as_held_value (0 + part_of q) s.0) (entry_of same (held_entries s.0.records) q)
               was = stands.same.found q ∙ value_at-part part_of 0 (part_of q) parts s.0 q p s.1 (sym zero_plus)
 
               by_entry : (t : Part S) × (slice_get news (part_of q) ≡ Some t) × CoversToo s.0 t → option_map plain (option_map f (value_at held q)) ≡ value_at (items_of 0 news) q
               by_entry t =
                   both (value_at held q) (entry_of same (held_entries s.0.records) q) refl was
-                  ∙ ap (λ rs. option_map (held_of (0 + part_of q) t.0) (entry_of same (held_entries rs) q)) (sym t.2.records)
+                  ∙ ap (λ rs. option_map (as_held_value (0 + part_of q) t.0) (entry_of same (held_entries rs) q)) (sym t.2.records)
                   ∙ sym (value_at-part part_of 0 (part_of q) news t.0 q parted t.1 (sym zero_plus))
                 where
-                  both : (o : Option HeldValue) (e : Option Kept) → entry_of same (held_entries s.0.records) q ≡ e → option_map plain o ≡ option_map (held_of (0 + part_of q) s.0) e
-                      → option_map plain (option_map f o) ≡ option_map (held_of (0 + part_of q) t.0) e
+                  both : (o : Option HeldValue) (e : Option Kept) → entry_of same (held_entries s.0.records) q ≡ e → option_map plain o ≡ option_map (as_held_value (0 + part_of q) s.0) e
+                      → option_map plain (option_map f o) ≡ option_map (as_held_value (0 + part_of q) t.0) e
                   both None None g h = refl
-                  both None (Some x) g h = absurd (none-some (held_of (0 + part_of q) s.0 x) h)
+                  both None (Some x) g h = absurd (none-some (as_held_value (0 + part_of q) s.0 x) h)
                   both (Some y) None g h = absurd (none-some (plain y) (sym h))
                   both (Some y) (Some x) g h =
-                      let is : plain y ≡ held_of (0 + part_of q) s.0 x = cc in
-                      ap (λ z. Some z) (ap (λ (z : HeldValue). record z { covered = z.covered || covers_key z.value.key which }) is ∙ ap (λ b. record (held_of (0 + part_of q) s.0 x) { covered = b }) (sym (t.2.covers q x g)))
+                      let is : plain y ≡ as_held_value (0 + part_of q) s.0 x = cc in
+                      ap (λ z. Some z) (ap (λ (z : HeldValue). record z { covered = z.covered || covers_key z.value.key which }) is ∙ ap (λ b. record (as_held_value (0 + part_of q) s.0 x) { covered = b }) (sym (t.2.covers q x g)))

@@ -1,7 +1,7 @@
 -- The order of use of a part: keys of records, what waits, and what a read, a write and a removal move.
 use Rattle.std.proofs.Common.{◌≡◌, refl, ap, sym, ◌∙◌, subst, ℕ, arith, Bool, true, false, cond, not, List, [], ◌∷◌, ◌++◌, Option, option_map, Some, None, map, reverse, length, inl, inr, ◌⊎◌, eqb, ◌<◌, is_some, suc, ◌+◌, ◌≤◌, true≢false, take, slice_get, IsPermutation, remove, nat_lt, if◌then◌else◌}
 use Rattle.std.specs.List.{cons_option, list_any, filter}
-use Rattle.std.proofs.lemmas.Bool.{eqb-true, eqb-false, eq-eqb, ne_eqb, ltb-true, cases_eq, lt-ltb, le-ltb}
+use Rattle.std.proofs.lemmas.Bool.{eqb-true, eqb-false, eq-eqb, ne_eqb, ltb-true, cases_eq, lt-ltb, le-ltb, cases_Bool}
 use Rattle.std.proofs.lemmas.List.{reverse-append, append-nil, length-reverse, length-append, take-append-le, length-map}
 use Rattle.std.proofs.lemmas.List.Elements.{filter_map-append, filter-append}
 use Rattle.std.proofs.lemmas.List.Sorted.{IsPermutation-remove, IsPermutation-map, IsPermutation-cons, IsPermutation-trans, IsPermutation-refl, length_permutation, list_any-IsPermutation, IsPermutation-reverse}
@@ -17,7 +17,7 @@ use Rattle.engine_reference.proofs.Unapplied.{record_at-without}
 use Rattle.engine_reference.proofs.run_laws.Fewer.{weight-cons}
 use Rattle.engine_reference.proofs.run_laws.Fronting.{each-at}
 use Rattle.cache_store.proofs.Keys.{same-refl, same-flip_false, equal_from_same}
-use Rattle.cache_front.specs.Recent.{key_at, keys_in, with_reads, with_writes, applied, keys_used, IsLasting, IsUncovered}
+use Rattle.cache_front.specs.Recent.{key_numbered, keys_numbered, with_reads, with_writes, applied, keys_used, IsLasting, IsUncovered}
 use Rattle.cache_front.proofs.parts.Writing.{Rec, unlike_none, unlike_other}
 use Rattle.engine_reference.specs.declared.data.Read.{Read}
 use Rattle.engine_reference.specs.declared.data.Read.TheVariants.{Hit, Miss}
@@ -35,7 +35,7 @@ use Rattle.engine_reference.proofs.Evicting.{settled_in-left, first-there}
 use Rattle.engine_reference.proofs.SoundSteps.{after_write-frame, step-sound, IsCounted, counted}
 use Rattle.engine_reference.proofs.TellingSteps.{steps_tell}
 use Rattle.engine_reference.proofs.run_laws.Swept.{each-step, changed-other, push-other, sent-one}
-use Rattle.cache_front.specs.Parts.{Part, Stored, service_answers, put, put_entry, taken_out}
+use Rattle.cache_front.specs.Parts.{Part, Stored, service_answers, value_put, put_entry, key_taken_out}
 use Rattle.audit_model.specs.declared.config.Weight.TheVariants.{One}
 use Rattle.audit_model.specs.History.{weight_of}
 use Rattle.cache_store.specs.Recency.{put_first, used_first}
@@ -49,21 +49,21 @@ use Rattle.engine_reference.proofs.run_laws.Shown.{RecordsApart, held_at-match}
 
 module _ {K V : Type 0} where
   -- the same keys stand under these numbers
-  pub keys-alike : (rs rs' : List (Record K V)) (ns : List ℕ) → ((n : ℕ) → IsIn n ns → key_at rs' n ≡ key_at rs n) → keys_in rs' ns ≡ keys_in rs ns
+  pub keys-alike : (rs rs' : List (Record K V)) (ns : List ℕ) → ((n : ℕ) → IsIn n ns → key_numbered rs' n ≡ key_numbered rs n) → keys_numbered rs' ns ≡ keys_numbered rs ns
   keys-alike rs rs' [] h = refl
-  keys-alike rs rs' (n ∷ ns) h = ap (λ o. cons_option o (keys_in rs' ns)) (h n (inl refl)) ∙ ap (λ ks. cons_option (key_at rs n) ks) (keys-alike rs rs' ns (λ m i. h m (inr i)))
+  keys-alike rs rs' (n ∷ ns) h = ap (λ o. cons_option o (keys_numbered rs' ns)) (h n (inl refl)) ∙ ap (λ ks. cons_option (key_numbered rs n) ks) (keys-alike rs rs' ns (λ m i. h m (inr i)))
 
   -- a number under which there is no record
-  pub keys-passed : (rs : List (Record K V)) (n : ℕ) (ns : List ℕ) → record_at rs n ≡ None → keys_in rs (without n ns) ≡ keys_in rs ns
+  pub keys-passed : (rs : List (Record K V)) (n : ℕ) (ns : List ℕ) → record_at rs n ≡ None → keys_numbered rs (without n ns) ≡ keys_numbered rs ns
   keys-passed rs n [] none = refl
   keys-passed rs n (m ∷ ns) none = grind (arith, keys-passed rs n ns none, eqb m n, eqb-true m n)
 
   -- a number at the back
-  pub keys-back : (rs : List (Record K V)) (n : ℕ) (key : K) (ns : List ℕ) → key_at rs n ≡ Some key → reverse (keys_in rs (ns ++ n ∷ [])) ≡ key ∷ reverse (keys_in rs ns)
+  pub keys-back : (rs : List (Record K V)) (n : ℕ) (key : K) (ns : List ℕ) → key_numbered rs n ≡ Some key → reverse (keys_numbered rs (ns ++ n ∷ [])) ≡ key ∷ reverse (keys_numbered rs ns)
   keys-back rs n key ns here = grind (arith, filter_map-append, reverse-append)
 
   -- where each record is listed, they are the keys that are held, in another order
-  pub keys-held : (rs : List (Record K V)) (ns : List ℕ) → AreNumbered rs → AreOnce ns → Each (λ r. (r.is_held ≡ true) × IsIn r.number ns) rs → IsPermutation (map (λ e. e.key) (held_entries rs)) (keys_in rs ns)
+  pub keys-held : (rs : List (Record K V)) (ns : List ℕ) → AreNumbered rs → AreOnce ns → Each (λ r. (r.is_held ≡ true) × IsIn r.number ns) rs → IsPermutation (map (λ e. e.key) (held_entries rs)) (keys_numbered rs ns)
   keys-held [] [] numbered once all = IsPermutation-refl []
   keys-held (r ∷ rs) [] numbered once all = elim all.0.1 [ ]
   keys-held rs (n ∷ ns) numbered once all = go (record_at rs n) refl (λ xs a b. keys-held xs ns a once.1 b)
@@ -73,8 +73,8 @@ module _ {K V : Type 0} where
       past m other (inr i) = i
 
       go : (o : Option (Record K V)) → record_at rs n ≡ o
-          → ((xs : List (Record K V)) → AreNumbered xs → Each (λ r. (r.is_held ≡ true) × IsIn r.number ns) xs → IsPermutation (map (λ e. e.key) (held_entries xs)) (keys_in xs ns))
-          → IsPermutation (map (λ e. e.key) (held_entries rs)) (cons_option (option_map (λ r. r.entry.key) o) (keys_in rs ns))
+          → ((xs : List (Record K V)) → AreNumbered xs → Each (λ r. (r.is_held ≡ true) × IsIn r.number ns) xs → IsPermutation (map (λ e. e.key) (held_entries xs)) (keys_numbered xs ns))
+          → IsPermutation (map (λ e. e.key) (held_entries rs)) (cons_option (option_map (λ r. r.entry.key) o) (keys_numbered rs ns))
       go None none behind = behind rs numbered
           (each-map (λ r. ((r.is_held ≡ true) × ((n ≡ r.number) ⊎ IsIn r.number ns)) × (r.number ≡ n → ⊥)) (λ r. (r.is_held ≡ true) × IsIn r.number ns) (λ r k. (k.0.0, past r.number k.1 k.0.1)) rs
           (each-both (λ r. (r.is_held ≡ true) × ((n ≡ r.number) ⊎ IsIn r.number ns)) (λ r. r.number ≡ n → ⊥) rs all (none_there n rs none)))
@@ -88,8 +88,8 @@ module _ {K V : Type 0} where
           (IsPermutation-map (λ e. e.key) es (x.entry ∷ remove es g.place) (IsPermutation-remove es g.place x.entry (slice_get_within es g.place x.entry g.there) (sym (get_or_from_slice_get es g.place x.entry x.entry g.there)))) in
           let later = behind rest (numbered-without n rs numbered)
           (each-without n (λ r. (r.is_held ≡ true) × ((n ≡ r.number) ⊎ IsIn r.number ns)) (λ r. (r.is_held ≡ true) × IsIn r.number ns) (λ r other k. (k.0, past r.number other k.1)) rs numbered all) in
-          IsPermutation-trans (map (λ e. e.key) es) (x.entry.key ∷ map (λ e. e.key) (held_entries rest)) (x.entry.key ∷ keys_in rs ns) first
-          (IsPermutation-cons x.entry.key (map (λ e. e.key) (held_entries rest)) (keys_in rs ns)
+          IsPermutation-trans (map (λ e. e.key) es) (x.entry.key ∷ map (λ e. e.key) (held_entries rest)) (x.entry.key ∷ keys_numbered rs ns) first
+          (IsPermutation-cons x.entry.key (map (λ e. e.key) (held_entries rest)) (keys_numbered rs ns)
           (subst (λ ks. IsPermutation (map (λ e. e.key) (held_entries rest)) ks)
           (keys-alike rs rest ns (λ m i. ap (option_map (λ (r : Record K V). r.entry.key)) (record_at-without n rs m (λ same_number. once.0 (subst (λ k. IsIn k ns) (sym same_number) i))))) later))
 
@@ -111,18 +111,18 @@ without-absent key [] h = refl
 without-absent key (k ∷ keys) h = grind (arith, without-absent key keys)
 
 -- where the record of a number has the key, and no other of the list has it
-pub keys-without : (rs : List Rec) (n : ℕ) (key : List ℕ) (ns : List ℕ) → key_at rs n ≡ Some key → ((m : ℕ) (x : Rec) → (m ≡ n → ⊥) → record_at rs m ≡ Some x → same x.entry.key key ≡ false)
-    → keys_in rs (without n ns) ≡ recent.keys_without key (keys_in rs ns)
+pub keys-without : (rs : List Rec) (n : ℕ) (key : List ℕ) (ns : List ℕ) → key_numbered rs n ≡ Some key → ((m : ℕ) (x : Rec) → (m ≡ n → ⊥) → record_at rs m ≡ Some x → same x.entry.key key ≡ false)
+    → keys_numbered rs (without n ns) ≡ recent.keys_without key (keys_numbered rs ns)
 keys-without rs n key [] here others = refl
 keys-without rs n key (m ∷ ns) here others = grind (arith, keys-without rs n key ns here others, eqb m n, Rec, eqb-true m n, same-refl key, eqb-false m n)
 
 -- a key that no record has is not on the list
-pub keys-none : (rs : List Rec) (key : List ℕ) (ns : List ℕ) → held_at same rs key ≡ None → Each (λ (r : Rec). r.is_held ≡ true) rs → list_any (λ k. same k key) (keys_in rs ns) ≡ false
+pub keys-none : (rs : List Rec) (key : List ℕ) (ns : List ℕ) → held_at same rs key ≡ None → Each (λ (r : Rec). r.is_held ≡ true) rs → list_any (λ k. same k key) (keys_numbered rs ns) ≡ false
 keys-none rs key [] none all = refl
 keys-none rs key (n ∷ ns) none all = grind (arith, keys-none rs key ns none all, Rec, same-flip_false key, unlike_none key rs n, each-at (λ (r : Rec). r.is_held ≡ true) rs n)
 
 -- one that a listed record has is
-pub keys-some : (rs : List Rec) (key : List ℕ) (n : ℕ) (ns : List ℕ) → IsIn n ns → key_at rs n ≡ Some key → list_any (λ k. same k key) (keys_in rs ns) ≡ true
+pub keys-some : (rs : List Rec) (key : List ℕ) (n : ℕ) (ns : List ℕ) → IsIn n ns → key_numbered rs n ≡ Some key → list_any (λ k. same k key) (keys_numbered rs ns) ≡ true
 keys-some rs key n [] i here = elim i [ ]
 keys-some rs key n (m ∷ ns) (inl e) here = grind (arith, same-refl key)
 keys-some rs key n (m ∷ ns) (inr i) here = grind (arith, keys-some rs key n ns i here)
@@ -201,13 +201,13 @@ module _ {K V P S R : Type 0} where
   all-read (r ∷ rest) s = grind (arith, one-read r, all-read rest)
 
   -- the keys used last, where no write waits
-  pub keys-read : (s : State K V P S R) → s.writes ≡ [] → keys_used (applied s) ≡ reverse (keys_in s.records (reads_move s.reads s.records s.access))
+  pub keys-read : (s : State K V P S R) → s.writes ≡ [] → keys_used (applied s) ≡ reverse (keys_numbered s.records (reads_move s.reads s.records s.access))
   keys-read s none = grind (arith, all-read s.reads s, reverse)
 
   -- where one does, by what it makes of the records and of the access list
   pub keys-written : (s : State K V P S R) (w : Write) (of_records : List (Record K V) → List (Record K V)) (of_access : List ℕ → List ℕ) → s.writes ≡ w ∷ []
       → ((v : State K V P S R) → v.records ≡ s.records → v.settings ≡ s.settings → ((after_write w v).records ≡ of_records v.records) × ((after_write w v).access ≡ of_access v.access))
-      → keys_used (applied s) ≡ reverse (keys_in (of_records s.records) (of_access (reads_move s.reads s.records s.access)))
+      → keys_used (applied s) ≡ reverse (keys_numbered (of_records s.records) (of_access (reads_move s.reads s.records s.access)))
   keys-written s w of_records of_access one makes = grind (arith, all-read s.reads s, reverse)
 
 -- ---- what waits, applied, and what a step of a run makes of the keys used last
@@ -237,15 +237,13 @@ module _ {K V P S R : Type 0} where
 -- what is so of each entry that is held is so of each record that is held
 entries-each : (Q : Entry (List ℕ) Stored → Type 0) (rs : List Rec) → ((place : ℕ) (e : Entry (List ℕ) Stored) → slice_get (held_entries rs) place ≡ Some e → Q e) → Each (λ r. r.is_held ≡ true → Q r.entry) rs
 entries-each Q [] all = tt
-entries-each Q (r ∷ rs) all = go r.is_held refl (λ k. entries-each Q rs k) all
-  where
-    go : (b : Bool) → r.is_held ≡ b → (((place : ℕ) (e : Entry (List ℕ) Stored) → slice_get (held_entries rs) place ≡ Some e → Q e) → Each (λ r. r.is_held ≡ true → Q r.entry) rs)
-        → ((place : ℕ) (e : Entry (List ℕ) Stored) → slice_get (cond b (r.entry ∷ held_entries rs) (held_entries rs)) place ≡ Some e → Q e) → (r.is_held ≡ true → Q r.entry) × Each (λ r. r.is_held ≡ true → Q r.entry) rs
-    go true t later all = ((λ held. all 0 r.entry refl), later (λ place e there. all (suc place) e there))
-    go false t later all = ((λ held. absurd (true≢false (sym held ∙ t))), later all)
+entries-each Q (r ∷ rs) all = elim (cases_Bool r.is_held) [
+  | inl t ↦ let all = rw t at all in ((λ held. all 0 r.entry refl), entries-each Q rs (λ place e there. all (suc place) e there))
+  | inr t ↦ ((λ held. absurd (true≢false (sym held ∙ t))), entries-each Q rs (rw t at all))
+]
 
 -- the keys are those of its settled records
-keys-settled : (rs : List Rec) (ns : List ℕ) → Each IsCounted rs → keys_in rs ns ≡ map (λ (r : Rec). r.entry.key) (settled_in rs ns)
+keys-settled : (rs : List Rec) (ns : List ℕ) → Each IsCounted rs → keys_numbered rs ns ≡ map (λ (r : Rec). r.entry.key) (settled_in rs ns)
 keys-settled rs [] all = refl
 keys-settled rs (m ∷ ns) all = grind (arith, each-at, eq-eqb, keys-settled rs ns all)
 
@@ -300,7 +298,7 @@ module _ {S : Type 0} where
       (subst (λ us. Each (IsAccounted us []) s.records) h.sent (subst (λ ws. Each (IsAccounted s.unsent ws) s.records) none h.sound.records.accounted))
 
   -- the keys of the access list are those of the records held
-  pub keys-here : (n : ℕ) (s : Part S) → IsSteady n s → s.writes ≡ [] → IsPermutation (map (λ e. e.key) (held_entries s.records)) (keys_in s.records s.access)
+  pub keys-here : (n : ℕ) (s : Part S) → IsSteady n s → s.writes ≡ [] → IsPermutation (map (λ e. e.key) (held_entries s.records)) (keys_numbered s.records s.access)
   keys-here n s h none =
       keys-held s.records s.access h.sound.records.numbered h.sound.records.once
       (each-map (λ r. IsCounted r × (is_some r.counts ≡ true → IsIn r.number s.access)) (λ r. (r.is_held ≡ true) × IsIn r.number s.access) (λ r k. (k.0.held, k.1 (ap (λ o. is_some o) k.0.counts))) s.records
@@ -313,8 +311,8 @@ module _ {S : Type 0} where
       (each-map (λ r. IsCounted r × (r.is_held ≡ true → (r.entry.weight ≡ 1) × (r.entry.expires ≡ None))) (λ r. (r.is_held ≡ true) × (r.counts ≡ Some 1)) (λ r k. (k.0.held, k.0.counts ∙ ap Some (k.1 k.0.held).0)) s.records
       (each-both IsCounted IsLasting s.records (all-counted n s h none) h.lasting))
       ∙ sym (length-map (held_entries s.records) (λ (e : Entry (List ℕ) Stored). e.key))
-      ∙ sym (length_permutation (map (λ e. e.key) (held_entries s.records)) (keys_in s.records s.access) (keys-here n s h none))
-      ∙ sym (length-reverse (keys_in s.records s.access))
+      ∙ sym (length_permutation (map (λ e. e.key) (held_entries s.records)) (keys_numbered s.records s.access) (keys-here n s h none))
+      ∙ sym (length-reverse (keys_numbered s.records s.access))
 
   -- the one that an eviction takes is the last
   keys-evicted : (n : ℕ) (s : Part S) (r : Rec) → IsSteady n s → s.writes ≡ [] → next_to_evict s ≡ Some r → keys_used s ≡ keys_used (with_left cause.Size s (Some r)) ++ r.entry.key ∷ []
@@ -323,9 +321,9 @@ module _ {S : Type 0} where
       let ns = without r.number s.access in
       let counted = all-counted n s h none in
       let stay : Each IsCounted rs = each-without r.number IsCounted IsCounted (λ x other c. c) s.records h.sound.records.numbered counted in
-      let is : keys_in s.records s.access ≡ r.entry.key ∷ keys_in rs ns =
+      let is : keys_numbered s.records s.access ≡ r.entry.key ∷ keys_numbered rs ns =
       keys-settled s.records s.access counted ∙ ap (map (λ (x : Rec). x.entry.key)) (settled_in-left s.records s.access r h.sound.records.once next) ∙ ap (λ ks. r.entry.key ∷ ks) (sym (keys-settled rs ns stay)) in
-      ap reverse is ∙ reverse-append (r.entry.key ∷ []) (keys_in rs ns)
+      ap reverse is ∙ reverse-append (r.entry.key ∷ []) (keys_numbered rs ns)
 
   -- ---- a step
 
@@ -415,7 +413,7 @@ module _ {S : Type 0} (n : ℕ) (s : Part S) (h : IsSteady n s) (apart : Records
   used = keys_used (applied s)
 
   -- they are those of the access list once the reads are applied
-  used_is : used ≡ reverse (keys_in s.records listed)
+  used_is : used ≡ reverse (keys_numbered s.records listed)
   used_is = keys-read s none
 
   -- no number twice
@@ -432,7 +430,9 @@ module _ {S : Type 0} (n : ℕ) (s : Part S) (h : IsSteady n s) (apart : Records
 
   -- a key of no record
   unused : (key : List ℕ) → held_at same s.records key ≡ None → list_any (λ k. same k key) used ≡ false
-  unused key gone = grind (arith, used_is, list_any-IsPermutation (λ k. same k key) (keys_in s.records listed) (reverse (keys_in s.records listed)) (IsPermutation-reverse (keys_in s.records listed)), reverse (keys_in s.records listed), IsPermutation-reverse (keys_in s.records listed), keys-none s.records key listed gone held-all, held-all)
+  unused key gone =
+      let ispermutation = list_any-IsPermutation (λ k. same k key) (keys_numbered s.records listed) (reverse (keys_numbered s.records listed)) (IsPermutation-reverse (keys_numbered s.records listed)) in
+      grind (arith, used_is, ispermutation, reverse (keys_numbered s.records listed), IsPermutation-reverse (keys_numbered s.records listed), keys-none s.records key listed gone held-all, held-all)
 
   -- the key of a record
   module _ (key : List ℕ) (r : Rec) (some : held_at same s.records key ≡ Some r) where
@@ -441,7 +441,7 @@ module _ {S : Type 0} (n : ℕ) (s : Part S) (h : IsSteady n s) (apart : Records
     there = held_at-only same s.records key r numbered some
 
     -- with the key
-    key_is : key_at s.records r.number ≡ Some key
+    key_is : key_numbered s.records r.number ≡ Some key
     key_is = ap (option_map (λ (x : Rec). x.entry.key)) there ∙ ap (λ k. Some k) (sym (equal_from_same key r.entry.key (held_at-match same s.records key r some)))
 
     -- it counts
@@ -456,22 +456,22 @@ module _ {S : Type 0} (n : ℕ) (s : Part S) (h : IsSteady n s) (apart : Records
     used-there : list_any (λ k. same k key) used ≡ true
     used-there =
         ap (list_any (λ k. same k key)) used_is
-        ∙ sym (list_any-IsPermutation (λ k. same k key) (keys_in s.records listed) (reverse (keys_in s.records listed)) (IsPermutation-reverse (keys_in s.records listed)))
+        ∙ sym (list_any-IsPermutation (λ k. same k key) (keys_numbered s.records listed) (reverse (keys_numbered s.records listed)) (IsPermutation-reverse (keys_numbered s.records listed)))
         ∙ keys-some s.records key r.number listed
         (moves-listed s.reads s.records s.access r.number (each-at (λ (x : Rec). is_some x.counts ≡ true → IsIn x.number s.access) s.records r.number r h.sound.records.listed there (ap (λ o. is_some o) was_counted.counts))) key_is
 
     -- the other keys, in records that have them under the same numbers
-    rest : (rs : List Rec) → ((m : ℕ) → (m ≡ r.number → ⊥) → key_at rs m ≡ key_at s.records m) → reverse (keys_in rs (without r.number listed)) ≡ recent.keys_without key used
+    rest : (rs : List Rec) → ((m : ℕ) → (m ≡ r.number → ⊥) → key_numbered rs m ≡ key_numbered s.records m) → reverse (keys_numbered rs (without r.number listed)) ≡ recent.keys_without key used
     rest rs alike =
         ap reverse (keys-alike s.records rs (without r.number listed) (λ m i. alike m (λ e. not_in-without r.number listed (subst (λ k. IsIn k (without r.number listed)) e i))) ∙ keys-without s.records r.number key listed key_is others)
-        ∙ sym (filter-reverse (λ k. not (same k key)) (keys_in s.records listed)) ∙ ap (recent.keys_without key) (sym used_is)
+        ∙ sym (filter-reverse (λ k. not (same k key)) (keys_numbered s.records listed)) ∙ ap (recent.keys_without key) (sym used_is)
 
     -- its number goes to the back of the access list: the key goes first
-    moved : (rs : List Rec) → key_at rs r.number ≡ Some key → ((m : ℕ) → (m ≡ r.number → ⊥) → key_at rs m ≡ key_at s.records m) → reverse (keys_in rs (moved_to_back r.number listed)) ≡ put_first key used
+    moved : (rs : List Rec) → key_numbered rs r.number ≡ Some key → ((m : ℕ) → (m ≡ r.number → ⊥) → key_numbered rs m ≡ key_numbered s.records m) → reverse (keys_numbered rs (moved_to_back r.number listed)) ≡ put_first key used
     moved rs here alike = keys-back rs r.number key (without r.number listed) here ∙ ap (λ ks. key ∷ ks) (rest rs alike)
 
     -- where its record changes, but for number and key
-    changed-key : (f : Rec → Rec) → ((x : Rec) → (f x).number ≡ x.number) → (m : ℕ) → (m ≡ r.number → ⊥) → key_at (changed_at r.number f s.records) m ≡ key_at s.records m
+    changed-key : (f : Rec → Rec) → ((x : Rec) → (f x).number ≡ x.number) → (m : ℕ) → (m ≡ r.number → ⊥) → key_numbered (changed_at r.number f s.records) m ≡ key_numbered s.records m
     changed-key f number m other = ap (option_map (λ (x : Rec). x.entry.key)) (changed-other r.number m f number s.records other)
 
     -- or for what counts
@@ -489,7 +489,7 @@ module _ {S : Type 0} (n : ℕ) (s : Part S) (h : IsSteady n s) (apart : Records
       let own = changed-own r.number f s.records r (λ x. refl) (there key r some) in
       let c = was_counted key r some in
       keys-read (with_read service_answers (Some r) hash now s) none
-      ∙ ap (λ ns. reverse (keys_in rs ns))
+      ∙ ap (λ ns. reverse (keys_numbered rs ns))
       (moves-append s.reads (Hit r.number hash) rs s.access
       ∙ ap (λ o. hit_moves o (reads_move s.reads rs s.access)) own
       ∙ ap (λ b. cond (is_some b) (moved_to_back r.number (reads_move s.reads rs s.access)) (reads_move s.reads rs s.access)) c.counts
@@ -517,8 +517,8 @@ module _ {S : Type 0} (n : ℕ) (s : Part S) (h : IsSteady n s) (apart : Records
     weighs = ap (λ w. weight_of w value.bytes) rules
 
     -- A WRITE PUTS ITS KEY FIRST
-    pub put-moves : keys_used (applied (put key hash value now step s)) ≡ put_first key used
-    put-moves = go (held_at same s.records key) refl
+    pub value_put-moves : keys_used (applied (value_put key hash value now step s)) ≡ put_first key used
+    value_put-moves = go (held_at same s.records key) refl
       where
         go : (o : Option Rec) → held_at same s.records key ≡ o → keys_used (applied (sent s.next_ticket (with_written service_answers o (with_room s) key hash value now step))) ≡ put_first key used
         go None gone =
@@ -541,7 +541,7 @@ module _ {S : Type 0} (n : ℕ) (s : Part S) (h : IsSteady n s) (apart : Records
             (λ v e c.
             let k = put-counts v w x (ap (λ l. record_at l s.next_number) e ∙ own) refl (inr (admits v w (ap (λ z. z.capacity) c ∙ h.capacity) (ap (λ z. z.policy) c ∙ policy) weighs)) in
             (ap (λ (y : Part S). y.records) k, ap (λ (y : Part S). y.access) k))
-            ∙ ap (λ ns. reverse (keys_in new (moved_to_back s.next_number ns))) (moves-alike s.reads s.records rs s.access more)
+            ∙ ap (λ ns. reverse (keys_numbered new (moved_to_back s.next_number ns))) (moves-alike s.reads s.records rs s.access more)
             ∙ keys-back new s.next_number key (without s.next_number listed) (ap (option_map (λ (y : Rec). y.entry.key)) (changed-own s.next_number (counts-with w) rs x (λ y. refl) own))
             ∙ ap (λ ks. key ∷ reverse ks)
             (keys-alike s.records new (without s.next_number listed)
@@ -567,7 +567,7 @@ module _ {S : Type 0} (n : ℕ) (s : Part S) (h : IsSteady n s) (apart : Records
             (λ v e settings.
             let k = put-counts v w (f r) (ap (λ l. record_at l r.number) e ∙ own) (lt-ltb r.applied (r.writes + 1) (omega (arith, settled))) (inl (ap (λ o. is_some o) c.counts)) in
             (ap (λ (y : Part S). y.records) k, ap (λ (y : Part S). y.access) k))
-            ∙ ap (λ ns. reverse (keys_in new (moved_to_back r.number ns))) (changed-listed key r some f (λ x. refl) (λ x. refl))
+            ∙ ap (λ ns. reverse (keys_numbered new (moved_to_back r.number ns))) (changed-listed key r some f (λ x. refl) (λ x. refl))
             ∙ moved key r some new (ap (option_map (λ (y : Rec). y.entry.key)) (changed-own r.number (counts-with w) rs (f r) (λ y. refl) own))
             (λ m other. ap (option_map (λ (y : Rec). y.entry.key)) (changed-other r.number m (counts-with w) (λ y. refl) rs other) ∙ changed-key key r some f (λ x. refl) m other)
 
@@ -575,7 +575,7 @@ module _ {S : Type 0} (n : ℕ) (s : Part S) (h : IsSteady n s) (apart : Records
 
   module _ (key : List ℕ) (now : ℕ) where
     -- A REMOVAL TAKES ITS KEY OUT
-    pub removal-moves : keys_used (applied (taken_out key now s)) ≡ recent.keys_without key used
+    pub removal-moves : keys_used (applied (key_taken_out key now s)) ≡ recent.keys_without key used
     removal-moves = go (held_at same s.records key) refl
       where
         go : (o : Option Rec) → held_at same s.records key ≡ o → keys_used (applied (taking s now o o)) ≡ recent.keys_without key used
@@ -591,5 +591,5 @@ module _ {S : Type 0} (n : ℕ) (s : Part S) (h : IsSteady n s) (apart : Records
             ap (λ (y : Part S). keys_used (applied y)) is
             ∙ keys-written t1 (Removed r.number) (without_record r.number) (without r.number) (ap (λ ws. ws ++ Removed r.number ∷ []) none)
             (λ v e c. let k = ap (λ o. after_removal o v) (ap (λ l. record_at l r.number) e ∙ own) in (ap (λ (y : Part S). y.records) k, ap (λ (y : Part S). y.access) k))
-            ∙ ap (λ ns. reverse (keys_in (without_record r.number rs) (without r.number ns))) (changed-listed key r some f (λ x. refl) (λ x. refl))
+            ∙ ap (λ ns. reverse (keys_numbered (without_record r.number rs) (without r.number ns))) (changed-listed key r some f (λ x. refl) (λ x. refl))
             ∙ rest key r some (without_record r.number rs) (λ m other. ap (option_map (λ (y : Rec). y.entry.key)) (record_at-without r.number rs m (λ e. other (sym e))) ∙ changed-key key r some f (λ x. refl) m other)

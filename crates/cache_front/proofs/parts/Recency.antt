@@ -1,5 +1,5 @@
 -- Exact recency of a part.
-use Rattle.std.proofs.Common.{◌≡◌, refl, ap, sym, ◌∙◌, ℕ, Bool, true, false, cond, List, [], ◌∷◌, Option, Some, None, arith, subst, suc, ◌+◌, true≢false, ◌++◌, map, reverse, take, inl, inr, ◌⊎◌, IsPermutation, option_map}
+use Rattle.std.proofs.Common.{◌≡◌, refl, ap, sym, ◌∙◌, ℕ, Bool, true, false, List, [], ◌∷◌, Option, Some, None, arith, subst, suc, ◌+◌, true≢false, ◌++◌, map, reverse, take, inl, inr, ◌⊎◌, IsPermutation, option_map}
 use Rattle.engine_reference.specs.declared.rules.causes.RemovalCause.{RemovalCause}
 use Rattle.engine_reference.specs.declared.rules.causes.RemovalCause.TheVariants as cause
 use Rattle.engine_reference.specs.declared.data.Record.{Record}
@@ -10,9 +10,9 @@ use Rattle.engine_reference.specs.declared.data.Write.{Write}
 use Rattle.engine_reference.specs.declared.data.Write.TheVariants.{Put, Removed}
 use Rattle.engine_reference.specs.Admission.{Verdict, admit, displace, refuse}
 use Rattle.engine_reference.specs.Records.{held_at, changed_at, admitted_weight, held_entries, held_weight}
-use Rattle.engine_reference.specs.Runs.{left, all_left, after_read, after_write, counting, put_off, judged, is_overtaken, Runs, RunsToEnd, IsApplied}
+use Rattle.engine_reference.specs.Runs.{left, all_left, after_read, after_write, counting, judged, Runs, RunsToEnd, IsApplied}
 use Rattle.engine_reference.specs.State.{State}
-use Rattle.cache_front.specs.Recent.{with_reads, with_writes, applied, keys_used, IsLasting, IsUncovered, keys_in, IsPlain, IsRecent, IsFresh}
+use Rattle.cache_front.specs.Recent.{with_reads, with_writes, applied, keys_used, IsLasting, IsUncovered, keys_numbered, IsPlain, IsRecent, IsFresh}
 use Rattle.std.proofs.lemmas.Bool.{ltb-false}
 use Rattle.std.proofs.lemmas.List.{take_all}
 use Rattle.std.proofs.lemmas.List.Sorted.{IsPermutation-trans, IsPermutation-reverse}
@@ -33,10 +33,10 @@ use Rattle.engine_reference.proofs.run_laws.Fronting.{each-at}
 use Rattle.engine_reference.proofs.run_laws.Ordering.{runs_stay_in_order}
 use Rattle.engine_reference.proofs.run_laws.Shown.{RecordsApart, to-records}
 use Rattle.engine_reference.proofs.run_laws.Swept.{sent-one}
-use Rattle.cache_front.specs.Parts.{Part, Stored, service_answers, put, put_entry, nanos, taken_out}
+use Rattle.cache_front.specs.Parts.{Part, Stored, service_answers, value_put, put_entry, nanos, key_taken_out}
 use Rattle.engine_reference.specs.declared.data.Settings.{Settings}
 use Rattle.cache_front.proofs.parts.Joining.{fresh_is}
-use Rattle.cache_front.proofs.parts.Moving.{taking, read-moves, put-moves, removal-moves, IsSteady, never-comes, keys-here, weight-here, run-front, run-still, applied-rest}
+use Rattle.cache_front.proofs.parts.Moving.{taking, read-moves, value_put-moves, removal-moves, IsSteady, never-comes, keys-here, weight-here, run-front, run-still, applied-rest}
 use Rattle.cache_front.proofs.parts.Removing.{took_out}
 use Rattle.cache_front.proofs.parts.Writing.{Rec, all_units, wrote}
 
@@ -44,11 +44,6 @@ module _ {K V P S R : Type 0} where
   -- the state without its notices
   abbrev pub quiet : State K V P S R → State K V P S R
   quiet s = record s { notices = [] }
-
-  -- a choice between states
-  either-quiet : (b : Bool) (x y u v : State K V P S R) → quiet x ≡ quiet u → quiet y ≡ quiet v → quiet (cond b x y) ≡ quiet (cond b u v)
-  either-quiet true x y u v e f = e
-  either-quiet false x y u v e f = f
 
   -- a record leaves
   left-quiet : (why : RemovalCause) (n : ℕ) (s : State K V P S R) → quiet (left why n s) ≡ quiet (left why n (quiet s))
@@ -63,17 +58,17 @@ module _ {K V P S R : Type 0} where
   judged-quiet : (u : Upsert) (r : Record K V) (s : State K V P S R) (v : Verdict K V) → quiet (judged u r s v) ≡ quiet (judged u r (quiet s) v)
   judged-quiet u r s admit = refl
   judged-quiet u r s (displace vs) = ap (λ x. quiet (counting u x)) (all_left-quiet cause.Size vs s)
-  judged-quiet u r s refuse = either-quiet (is_overtaken u r) (put_off u s) (left cause.Size u.number s) (put_off u (quiet s)) (left cause.Size u.number (quiet s)) refl (left-quiet cause.Size u.number s)
+  judged-quiet u r s refuse = grind (arith, left-quiet cause.Size u.number s)
 
   -- a write is applied
   write-quiet : (w : Write) (s : State K V P S R) → quiet (after_write w s) ≡ quiet (after_write w (quiet s))
-  write-quiet (Put u) s = grind (arith, either-quiet, judged-quiet u)
-  write-quiet (Removed n) s = grind (arith, either-quiet)
+  write-quiet (Put u) s = grind (arith, judged-quiet u)
+  write-quiet (Removed n) s = grind arith
 
   -- a read is applied
   read-quiet : (r : Read) (s : State K V P S R) → quiet (after_read r s) ≡ quiet (after_read r (quiet s))
   read-quiet (Miss hash) s = refl
-  read-quiet (Hit n hash) s = grind (arith, either-quiet)
+  read-quiet (Hit n hash) s = grind arith
 
   -- reads are applied
   reads-quiet : (rs : List Read) (s : State K V P S R) → quiet (with_reads rs s) ≡ quiet (with_reads rs (quiet s))
@@ -112,7 +107,10 @@ module _ {S : Type 0} where
 
   -- A RUN TO ITS END KEEPS THE KEYS USED LAST, as many as the capacity
   pub run_keeps : (n now : ℕ) (s new : Part S) (settled : Bool) (keys : List (List ℕ)) → IsPlain n s → IsRecent n s settled keys → RunsToEnd service_answers now s new → IsRecent n new true (take (suc n) keys)
-  run_keeps n now s new settled keys p r run = grind (arith, run-front n now s new (steady n s settled keys p r) run.runs, steady n s settled keys p r, applied-rest new, runs_stay_in_order (List ℕ) Stored (List ℕ) S Weight service_answers now s new p.in_order.sound p.sent, ltb-false (suc n) (admitted_weight new.records), take_all (suc n) (keys_used new), weight-here n new)
+  run_keeps n now s new settled keys p r run =
+      let front = run-front n now s new (steady n s settled keys p r) run.runs in
+      let order = runs_stay_in_order (List ℕ) Stored (List ℕ) S Weight service_answers now s new p.in_order.sound p.sent in
+      grind (arith, front, steady n s settled keys p r, applied-rest new, order, ltb-false (suc n) (admitted_weight new.records), take_all (suc n) (keys_used new), weight-here n new)
 
   -- a run that may be cut keeps them too
   pub cut_run_keeps : (n now : ℕ) (s new : Part S) (settled : Bool) (keys : List (List ℕ)) → IsPlain n s → IsRecent n s settled keys → Runs service_answers now s new → IsRecent n new false keys
@@ -164,9 +162,9 @@ module _ {S : Type 0} where
     rules : t.rules ≡ s.rules
 
   -- a write leaves them so
-  put-leaves : (n now hash step : ℕ) (s : Part S) (key : List ℕ) (value : Stored) → IsPlain n s → IsFresh step s → value.milliseconds ≡ None → Each (IsUncovered s) s.records
-      → PutLeaves s (put key hash value now step s)
-  put-leaves n now hash step s key value p fresh brief uncovered = go (held_at same s.records key)
+  value_put-leaves : (n now hash step : ℕ) (s : Part S) (key : List ℕ) (value : Stored) → IsPlain n s → IsFresh step s → value.milliseconds ≡ None → Each (IsUncovered s) s.records
+      → PutLeaves s (value_put key hash value now step s)
+  value_put-leaves n now hash step s key value p fresh brief uncovered = go (held_at same s.records key)
     where
       e : Entry (List ℕ) Stored
       e = put_entry s key value now step
@@ -203,18 +201,21 @@ module _ {S : Type 0} where
           })
 
   -- a write puts its key first, where no other write waits
-  put-recent : (n now hash step : ℕ) (s : Part S) (key : List ℕ) (value : Stored) (keys : List (List ℕ)) → IsPlain n s → IsFresh step s → value.milliseconds ≡ None → IsSteady n s → s.writes ≡ [] → keys ≡ keys_used (applied s)
-      → IsPlain n (put key hash value now step s) × IsRecent n (put key hash value now step s) false (put_first key keys)
-  put-recent n now hash step s key value keys p fresh brief h none is = grind (arith, wrote key hash value now step s p.in_order p.apart p.tells p.sent, put-leaves n now hash step s key value p fresh brief h.uncovered, put-moves n s h (to-records same s.records p.apart) none p.policy p.rules key hash value now step, to-records same s.records p.apart, true≢false)
+  value_put-recent : (n now hash step : ℕ) (s : Part S) (key : List ℕ) (value : Stored) (keys : List (List ℕ)) → IsPlain n s → IsFresh step s → value.milliseconds ≡ None → IsSteady n s → s.writes ≡ [] → keys ≡ keys_used (applied s)
+      → IsPlain n (value_put key hash value now step s) × IsRecent n (value_put key hash value now step s) false (put_first key keys)
+  value_put-recent n now hash step s key value keys p fresh brief h none is =
+      let moves = value_put-moves n s h (to-records same s.records p.apart) none p.policy p.rules key hash value now step in
+      grind (arith, wrote key hash value now step s p.in_order p.apart p.tells p.sent, value_put-leaves n now hash step s key value p fresh brief h.uncovered, moves, to-records same s.records p.apart, true≢false)
 
   -- and so from a settled part
-  pub put_moves : (n now hash step : ℕ) (s : Part S) (key : List ℕ) (value : Stored) (keys : List (List ℕ)) → IsPlain n s → IsFresh step s → value.milliseconds ≡ None → IsRecent n s true keys → IsPlain n (put key hash value now step s) × IsRecent n (put key hash value now step s) false (put_first key keys)
-  put_moves n now hash step s key value keys p fresh brief r = put-recent n now hash step s key value keys p fresh brief (steady n s true keys p r) (rested n s keys r).writes (whole_is n s keys r)
+  pub put_moves : (n now hash step : ℕ) (s : Part S) (key : List ℕ) (value : Stored) (keys : List (List ℕ)) → IsPlain n s → IsFresh step s → value.milliseconds ≡ None → IsRecent n s true keys
+      → IsPlain n (value_put key hash value now step s) × IsRecent n (value_put key hash value now step s) false (put_first key keys)
+  put_moves n now hash step s key value keys p fresh brief r = value_put-recent n now hash step s key value keys p fresh brief (steady n s true keys p r) (rested n s keys r).writes (whole_is n s keys r)
 
   -- ---- a removal
 
   -- a removal takes its key out
-  pub removal_moves : (n now : ℕ) (s : Part S) (key : List ℕ) (keys : List (List ℕ)) → IsPlain n s → IsRecent n s true keys → IsPlain n (taken_out key now s) × IsRecent n (taken_out key now s) false (recent.keys_without key keys)
+  pub removal_moves : (n now : ℕ) (s : Part S) (key : List ℕ) (keys : List (List ℕ)) → IsPlain n s → IsRecent n s true keys → IsPlain n (key_taken_out key now s) × IsRecent n (key_taken_out key now s) false (recent.keys_without key keys)
   removal_moves n now s key keys p r =
       let h = steady n s true keys p r in
       let cut = ap (take (suc n)) (ap (recent.keys_without key) (whole_is n s keys r) ∙ sym (removal-moves n s h (to-records same s.records p.apart) (rested n s keys r).writes key now)) in
@@ -262,4 +263,4 @@ module _ {S : Type 0} where
 
   -- the keys of a settled part are those held
   pub held-steady : (n : ℕ) (s : Part S) (keys : List (List ℕ)) → IsSteady n s → IsRecent n s true keys → IsPermutation (map (λ (e : Entry (List ℕ) Stored). e.key) (held_entries s.records)) keys
-  held-steady n s keys h r = grind (arith, IsPermutation-trans (map (λ (e : Entry (List ℕ) Stored). e.key) (held_entries s.records)) (keys_in s.records s.access) (keys_used s), keys-here n s h, IsPermutation-reverse (keys_in s.records s.access))
+  held-steady n s keys h r = grind (arith, IsPermutation-trans (map (λ (e : Entry (List ℕ) Stored). e.key) (held_entries s.records)) (keys_numbered s.records s.access) (keys_used s), keys-here n s h, IsPermutation-reverse (keys_numbered s.records s.access))

@@ -1,6 +1,6 @@
 -- What a removal by key does.
 use Rattle.std.proofs.Common.{◌≡◌, ℕ, ◌+◌, Bool, cond, true, false, true≢false, not, ◌&&◌, ◌||◌, List, [], ◌∷◌, ◌++◌, map, Option, option_map, Some, None, slice_get, refl, sym, ap, ◌∙◌, subst, arith, inl, inr, ◌⊎◌, append-nil, if◌then◌else◌, slice_set}
-use Rattle.std.proofs.lemmas.Bool.{and_from, eqb-true, eq-eqb, and_left, or_left, false_from_ne_true}
+use Rattle.std.proofs.lemmas.Bool.{and_from, eqb-true, eq-eqb, and_left, or_left, false_from_ne_true, cases_Bool, cond_both}
 use Rattle.std.proofs.lemmas.Option.{none-some}
 use Rattle.audit_model.specs.Bytewise.{same}
 use Rattle.audit_model.specs.Changes.{all_held_after, held_after, left_held}
@@ -29,15 +29,15 @@ use Rattle.engine_reference.proofs.run_laws.Shown.{RecordsApart, entry-held, to-
 use Rattle.engine_reference.proofs.run_laws.Swept.{sent-one}
 use Rattle.cache_store.specs.Promises.{Done, deleting}
 use Rattle.cache_store.proofs.Steps.{after_plain, corresponds-as}
-use Rattle.cache_store.specs.Held.{value_at, without, plain, Corresponds, cause_of_deleted}
+use Rattle.cache_store.specs.Held.{value_at, items_without, plain, Corresponds, cause_of_deleted}
 use Rattle.cache_store.proofs.Keys.{equal_from_same, same_from_equal, same-flip_false}
-use Rattle.cache_store.proofs.Held.{key_from_some, absent-without, apart-without, value_at-map, value_at-without, left, first_of-map, without-map, deleted_truly}
+use Rattle.cache_store.proofs.Held.{key_from_some, absent-items_without, apart-items_without, value_at-map, value_at-items_without, left, first_with_key-map, items_without-map, deleted_truly}
 use Rattle.engine_reference.specs.RunLaws.Just.{IsJust}
-use Rattle.cache_front.specs.Parts.{Stored, Part, service_answers, cause_of, note_from, held_of, items_of, AreMarked, Stands, drained}
+use Rattle.cache_front.specs.Parts.{Stored, Part, service_answers, cause_of, note_from, as_held_value, items_of, AreMarked, Stands, drained}
 use Rattle.cache_front.proofs.parts.Accepting.{replaced-twice, all-untold}
 use Rattle.cache_front.proofs.parts.Items.{ArePlaced, AreParted, AreOf, of-removals, left-elsewhere, replaced-there, parted-at, corresponds-run, placed_changed, parted_changed, corresponds_changed, marks_everywhere, candidates_placed}
 use Rattle.cache_front.proofs.parts.Joining.{Knows, stands_for, dead_from, marked_from, none_deleted, Maintained, Ran, ran_from}
-use Rattle.cache_front.proofs.parts.Writing.{Judges, judged, PointsBack, itself, earlier, points_back, no_point, Kept, Fits, Fitting, notes_of, told_truly, Rec, same_laws, changed-from, unlike_other}
+use Rattle.cache_front.proofs.parts.Writing.{Judges, judged, PointsBack, itself, earlier, points_back, no_point, Kept, Fits, notes_of, told_truly, Rec, same_laws, changed-from, unlike_other}
 
 gone-at : (key : List ℕ) (f : Rec → Rec) (rs : List Rec) (r : Rec) → ((x : Rec) → (f x).is_held ≡ false) → RecordsApart same rs → AreNumbered rs → held_at same rs key ≡ Some r → held_at same (changed_at r.number f rs) key ≡ None
 gone-at key f [] r out apart numbered h = absurd (none-some r h)
@@ -67,7 +67,7 @@ module _ {S : Type 0} (key : List ℕ) (now : ℕ) (s : Part S) (rec : Rec) wher
         settings = refl;
         cover = λ x. refl;
         notices = ap (λ b. tell b (cause_of_removal service_answers s now rec.entry) rec.entry s.notices) tells;
-        found = λ q. entry-held same records q ∙ by_key q (same q key) refl;
+        found = λ q. entry-held same records q ∙ by_key q;
         owners = λ owner there held. elim (changed-from rec.number owner.number f s.records rec owner (λ x. refl) numbered at there) [
           | inl k ↦ absurd (true≢false (sym held ∙ ap (λ (y : Rec). y.is_held) k.1))
           | inr k ↦ (unlike_other key s.records rec owner (to-records same s.records apart) numbered some k.1 held k.0, k.1)
@@ -103,15 +103,15 @@ module _ {S : Type 0} (key : List ℕ) (now : ℕ) (s : Part S) (rec : Rec) wher
       at : record_at s.records rec.number ≡ Some rec
       at = held_at-only same s.records key rec numbered some
 
-      by_key : (q : List ℕ) (b : Bool) → same q key ≡ b → option_map (λ (y : Rec). y.entry) (held_at same records q) ≡ cond b None (entry_of same (held_entries s.records) q)
-      by_key q true t = ap (option_map (λ (y : Rec). y.entry)) (ap (held_at same records) (equal_from_same q key t) ∙ gone-at key f s.records rec (λ x. refl) (to-records same s.records apart) numbered some)
-      by_key q false t =
-          ap (option_map (λ (y : Rec). y.entry)) (unmatched-changed same rec.number f q s.records
+      by_key : (q : List ℕ) → option_map (λ (y : Rec). y.entry) (held_at same records q) ≡ cond (same q key) None (entry_of same (held_entries s.records) q)
+      by_key q = cond_both (same q key) _ _ (λ o. option_map (λ (y : Rec). y.entry) (held_at same records q) ≡ o)
+          (λ t. ap (option_map (λ (y : Rec). y.entry)) (ap (held_at same records) (equal_from_same q key t) ∙ gone-at key f s.records rec (λ x. refl) (to-records same s.records apart) numbered some))
+          (λ t. ap (option_map (λ (y : Rec). y.entry)) (unmatched-changed same rec.number f q s.records
           (each-map (λ (y : Rec). y.number ≡ rec.number → y ≡ rec) (λ (y : Rec). y.number ≡ rec.number → (same q y.entry.key ≡ false) × (same q (f y).entry.key ≡ false))
           (λ y k number.
           let y_key : y.entry.key ≡ key = ap (λ (z : Rec). z.entry.key) (k number) ∙ sym (equal_from_same key rec.entry.key (held_at-match same s.records key rec some)) in
           (ap (same q) y_key ∙ t, ap (same q) y_key ∙ t)) s.records (only_one rec.number rec s.records numbered at)))
-          ∙ sym (entry-held same s.records q)
+          ∙ sym (entry-held same s.records q))
 
 module _ {S : Type 0} (config : Config) (part_of : List ℕ → ℕ) (made now : ℕ) (part : ℕ) (s : Part S) (parts : List (Part S)) (held : List HeldValue)
     (k : Knows config part_of made now part s parts held) (stands : Stands parts held)
@@ -150,7 +150,7 @@ module _ {S : Type 0} (config : Config) (part_of : List ℕ → ℕ) (made now :
 
   -- the values held when the key's own is gone
   abbrev pub others : List HeldValue
-  others = without key held
+  others = items_without key held
 
   abbrev pub parts_t : List (Part S)
   parts_t = slice_set parts part t
@@ -165,43 +165,45 @@ module _ {S : Type 0} (config : Config) (part_of : List ℕ → ℕ) (made now :
   there_t = replaced-there part t s parts k.there
 
   corresponds_removed : Corresponds (items_of 0 parts_t) others
-  corresponds_removed = corresponds_changed part_of part s t parts held others key None None k.parted k.there c at_key w.apart w.found w.cover (apart-without key held c.apart) (λ q. value_at-without key q held c.apart) refl
+  corresponds_removed = corresponds_changed part_of part s t parts held others key None None k.parted k.there c at_key w.apart w.found w.cover (apart-items_without key held c.apart) (λ q. value_at-items_without key q held c.apart) refl
 
   -- a point after the removal was there before
   point_before : (owner : Rec) → HasPoint t.settings.capacity t.writes (map (λ u. u.write) t.unsent) owner.number → HasPoint s.settings.capacity s.writes (map (λ u. u.write) s.unsent) owner.number
-  point_before owner p = grind (arith, points_back t.settings.capacity s.writes (Removed rec.number) owner.number (subst (λ us. HasPoint t.settings.capacity (s.writes ++ Removed rec.number ∷ []) us owner.number) (ap (λ us. map (λ u. u.write) us) w.unsent) (subst (λ ws. HasPoint t.settings.capacity ws (map (λ u. u.write) t.unsent) owner.number) w.writes p)), PointsBack t.settings.capacity s.writes (Removed rec.number) owner.number, itself, earlier)
+  point_before owner p =
+      let back = points_back t.settings.capacity s.writes (Removed rec.number) owner.number
+      (subst (λ us. HasPoint t.settings.capacity (s.writes ++ Removed rec.number ∷ []) us owner.number) (ap (λ us. map (λ u. u.write) us) w.unsent)
+      (subst (λ ws. HasPoint t.settings.capacity ws (map (λ u. u.write) t.unsent) owner.number) w.writes p)) in
+      grind (arith, back, PointsBack t.settings.capacity s.writes (Removed rec.number) owner.number, itself, earlier)
 
   fits_removed : Fits (Judges config (deleting key) before now t) (map cand others) (held_entries t.records)
-  fits_removed q x there = go (same q key) refl (sym (w.found q) ∙ there)
-    where
-      go : (b : Bool) → same q key ≡ b → cond (same q key) None (entry_of same (held_entries s.records) q) ≡ Some x → Fitting (Judges config (deleting key) before now t) (map cand others) q x
-      go true f g = absurd (none-some x (sym (ap (λ b. cond b None (entry_of same (held_entries s.records) q)) f) ∙ g))
-      go false f g =
-          let in_s : entry_of same (held_entries s.records) q ≡ Some x = sym (ap (λ b. cond b None (entry_of same (held_entries s.records) q)) f) ∙ g in
-          let st = stands_for config part_of made now part s parts held k c marked q x in_s in
-          record {
-            candidate = cand st.value;
-            there = first_of-map cand (λ h. refl) q others ∙ ap (option_map cand) (value_at-without key q held c.apart ∙ ap (λ b. cond b None (value_at held q)) f ∙ st.found);
-            is = record {
-              bytes = ap (λ (h : HeldValue). h.value.bytes) st.is;
-              later = and_left (same key st.value.value.key) true (ap (same key) (key_from_some q held st.value st.found) ∙ same-flip_false q key f);
-              expired = λ past. sym (dead_from config part_of made now part s parts held k c marked q x st.value in_s st.is) ∙ ap (λ z. has_come z now x) (sym w.settings) ∙ past;
-              explicit = λ covered. ap (λ (h : HeldValue). h.covered) st.is ∙ sym (w.cover x) ∙ covered;
-              size = λ p. or_left st.value.evictable (overfills config before (deleting key) st.value.value.part)
-                  (let own = w.owners p.owner p.there p.held in
-                  marked_from config part_of made now part s parts held k c marked q x st.value in_s st.found (record { owner = p.owner; there = own.1; held = p.held; entry = p.entry; point = point_before p.owner p.point }));
-            };
-          }
+  fits_removed q x there = elim (cases_Bool (same q key)) [
+    | inl f ↦ absurd (none-some x (sym (ap (λ b. cond b None (entry_of same (held_entries s.records) q)) f) ∙ sym (w.found q) ∙ there))
+    | inr f ↦
+        let in_s : entry_of same (held_entries s.records) q ≡ Some x = sym (ap (λ b. cond b None (entry_of same (held_entries s.records) q)) f) ∙ sym (w.found q) ∙ there in
+        let st = stands_for config part_of made now part s parts held k c marked q x in_s in
+        record {
+          candidate = cand st.value;
+          there = first_with_key-map cand (λ h. refl) q others ∙ ap (option_map cand) (value_at-items_without key q held c.apart ∙ ap (λ b. cond b None (value_at held q)) f ∙ st.found);
+          is = record {
+            bytes = ap (λ (h : HeldValue). h.value.bytes) st.is;
+            later = and_left (same key st.value.value.key) true (ap (same key) (key_from_some q held st.value st.found) ∙ same-flip_false q key f);
+            expired = λ past. sym (dead_from config part_of made now part s parts held k c marked q x st.value in_s st.is) ∙ ap (λ z. has_come z now x) (sym w.settings) ∙ past;
+            explicit = λ covered. ap (λ (h : HeldValue). h.covered) st.is ∙ sym (w.cover x) ∙ covered;
+            size = λ p. or_left st.value.evictable (overfills config before (deleting key) st.value.value.part)
+                (let own = w.owners p.owner p.there p.held in
+                marked_from config part_of made now part s parts held k c marked q x st.value in_s st.found (record { owner = p.owner; there = own.1; held = p.held; entry = p.entry; point = point_before p.owner p.point }));
+          };
+        }
+  ]
 
-  st_key : record { value : HeldValue; found : value_at held key ≡ Some value; is : plain value ≡ held_of part s rec.entry }
+  st_key : record { value : HeldValue; found : value_at held key ≡ Some value; is : plain value ≡ as_held_value part s rec.entry }
   st_key = let st = stands_for config part_of made now part s parts held k c marked key rec.entry entry in record { value = st.value; found = st.found; is = st.is }
 
   rec_key : rec.entry.key ≡ key
   rec_key = ap (λ (g : HeldValue). g.value.key) (sym st_key.is) ∙ key_from_some key held st_key.value st_key.found
 
   causes : (dead : Bool) → cause_of (if dead then cause.Expired else cause.Explicit) ≡ cause_of_deleted dead
-  causes true = refl
-  causes false = refl
+  causes dead = grind arith
 
   note_is : own_note ≡ record { cause = cause_of_deleted (is_dead_at config now st_key.value); key = st_key.value.value.key; value = st_key.value.value.bytes }
   note_is =
@@ -213,14 +215,14 @@ module _ {S : Type 0} (config : Config) (part_of : List ℕ → ℕ) (made now :
   right =
       ap (λ cs. are_true_notes config before (deleting key) cs told) (append-nil before)
       ∙ and_from _ _
-      (ap (is_true_note config before (deleting key) own_note) (first_of-map cand (λ h. refl) rec.entry.key held ∙ ap (λ q. option_map cand (value_at held q)) rec_key ∙ ap (option_map cand) st_key.found)
+      (ap (is_true_note config before (deleting key) own_note) (first_with_key-map cand (λ h. refl) rec.entry.key held ∙ ap (λ q. option_map cand (value_at held q)) rec_key ∙ ap (option_map cand) st_key.found)
       ∙ ap (λ (m : Note). is_true_note config before (deleting key) m (Some (cand st_key.value))) note_is
       ∙ deleted_truly config before key st_key.value.value st_key.value.evictable (is_dead_at config now st_key.value) st_key.value.covered (same_from_equal st_key.value.value.key key (key_from_some key held st_key.value st_key.found)))
-      (ap (λ cs. are_true_notes config before (deleting key) cs (notes_of r.removals)) (without-map cand (λ h. refl) rec.entry.key held ∙ ap (λ q. map cand (without q held)) rec_key)
+      (ap (λ cs. are_true_notes config before (deleting key) cs (notes_of r.removals)) (items_without-map cand (λ h. refl) rec.entry.key held ∙ ap (λ q. map cand (items_without q held)) rec_key)
       ∙ ap (are_true_notes config before (deleting key) (map cand others)) (sym (append-nil (notes_of r.removals)))
       ∙ told_truly (Judges config (deleting key) before now t) config (deleting key) before (IsJust service_answers now t) (λ why x y j h. judged config (deleting key) before now t why x y j h)
       r.removals [] (map cand others) (held_entries t.records) (held_entries new.records) w.apart fits_removed r.just r.takes
-      (all-untold (λ x. not (is_succeeded (deleting key) x)) (notes_of r.removals) (map cand others) (none_deleted config now key others (absent-without key held c.apart))))
+      (all-untold (λ x. not (is_succeeded (deleting key) x)) (notes_of r.removals) (map cand others) (none_deleted config now key others (absent-items_without key held c.apart))))
 
   pub handed : told ≡ map note_from new.notices
   handed = sym (r.notices ∙ ap (λ ns. map note_from ns ++ notes_of r.removals) (w.notices ∙ ap (λ ns. ns ++ notice_of (cause_of_removal service_answers s now rec.entry) rec.entry ∷ []) taken))
@@ -232,7 +234,7 @@ module _ {S : Type 0} (config : Config) (part_of : List ℕ → ℕ) (made now :
   xs = left_held held (deleting key) told
 
   xs_are : xs ≡ left (notes_of r.removals) others
-  xs_are = ap (λ ys. left (notes_of r.removals) (without_key (λ (g : HeldValue). g.value.key) rec.entry.key ys)) (append-nil held) ∙ ap (λ q. left (notes_of r.removals) (without q held)) rec_key
+  xs_are = ap (λ ys. left (notes_of r.removals) (without_key (λ (g : HeldValue). g.value.key) rec.entry.key ys)) (append-nil held) ∙ ap (λ q. left (notes_of r.removals) (items_without q held)) rec_key
 
   same_after : Corresponds (items_of 0 parts_new) (all_held_after config now held (deleting key) told)
   same_after =
@@ -246,19 +248,16 @@ module _ {S : Type 0} (config : Config) (part_of : List ℕ → ℕ) (made now :
   of_told = (ap part_of rec_key ∙ at_key, of-removals part_of part r.removals (held_entries t.records) (held_entries new.records) w.apart (λ q x h. placed_t q x h ∙ zero_plus) r.takes)
 
   stays_other : (q : List ℕ) → same q key ≡ false → value_at others q ≡ value_at held q
-  stays_other q f = value_at-without key q held c.apart ∙ ap (λ b. cond b None (value_at held q)) f
+  stays_other q f = value_at-items_without key q held c.apart ∙ ap (λ b. cond b None (value_at held q)) f
 
   no_size_of : (dead : Bool) (j : ℕ) (vs : List Value) (x : Kept) → tells_size j vs (note_from (notice_of (if dead then cause.Expired else cause.Explicit) x) ∷ []) ≡ false
-  no_size_of true j vs x = refl
-  no_size_of false j vs x = refl
+  no_size_of dead j vs x = grind arith
 
   marked_here : AreMarked (drained new) (all_held_after config now held (deleting key) told)
   marked_here = by_run r.left
     where
       kept : (over anew evictable : Bool) → anew ≡ false → evictable ≡ true → (over || (not (false || anew) && evictable)) ≡ true
-      kept true anew evictable e f = refl
-      kept false true evictable e f = absurd (true≢false e)
-      kept false false evictable e f = f
+      kept over anew evictable e f = grind (arith, e, f)
 
       by_run : ((new ≡ t) × (r.removals ≡ [])) ⊎ (new.writes ≡ []) → AreMarked (drained new) (all_held_after config now held (deleting key) told)
       by_run (inr nothing) = λ owner at held_now p h found. absurd (no_point new.settings.capacity (map (λ u. u.write) new.unsent) owner.number (subst (λ ws. HasPoint new.settings.capacity ws (map (λ u. u.write) new.unsent) owner.number) nothing p))
@@ -290,7 +289,8 @@ module _ {S : Type 0} (config : Config) (part_of : List ℕ → ℕ) (made now :
       same = same_after;
       marked =
           marks_everywhere config part_of now parts held k.parted c (deleting key) told part s (drained new) xs (map (λ (h : HeldValue). h.value) xs) refl of_told k.there count (candidates_placed config part_of now parts held k.parted c count)
-          (λ q other. ap (λ ys. value_at ys q) xs_are ∙ left-elsewhere part_of part (notes_of r.removals) others q (apart-without key held c.apart) of_told.1 other ∙ stays_other q (false_from_ne_true (same q key) (λ f. other (ap part_of (equal_from_same q key f) ∙ at_key)))) stands.marked marked_here;
+          (λ q other. ap (λ ys. value_at ys q) xs_are ∙ left-elsewhere part_of part (notes_of r.removals) others q (apart-items_without key held c.apart) of_told.1 other ∙ stays_other q
+          (false_from_ne_true (same q key) (λ f. other (ap part_of (equal_from_same q key f) ∙ at_key)))) stands.marked marked_here;
     };
     handed = handed;
   }

@@ -5,9 +5,9 @@ use Rattle.std.proofs.lemmas.Option.{none-some}
 use Rattle.audit_model.specs.Bytewise.{same}
 use Rattle.audit_model.specs.Changes.{held_after, left_held, all_held_after}
 use Rattle.audit_model.specs.Commands.{Nothing}
-use Rattle.audit_model.specs.Notes.{are_true_notes, first_of, is_succeeded, is_over, is_within}
+use Rattle.audit_model.specs.Notes.{are_true_notes, first_with_key, is_succeeded, is_over, is_within}
 use Rattle.audit_model.specs.Situation.{HeldValue, candidate_at}
-use Rattle.audit_model.specs.Values.{untold, after_ms, has_come}
+use Rattle.audit_model.specs.Values.{untold, after_ms, deadline_has_come}
 use Rattle.audit_model.specs.View.{Candidate}
 use Rattle.audit_model.specs.declared.config.Config.{Config}
 use Rattle.audit_model.specs.declared.transcript.Note.{Note}
@@ -17,15 +17,15 @@ use Rattle.engine_reference.specs.Telling.{entry_of, AreApart}
 use Rattle.engine_reference.specs.RunLaws.Points.{HasPoint, IsInOrder, with_write, pending_of}
 use Rattle.cache_store.specs.Promises.{Done, syncing, no_deed}
 use Rattle.cache_store.proofs.Steps.{after_plain, corresponds-as, none_succeeded}
-use Rattle.cache_store.specs.Held.{value_at, without, are_apart, Corresponds, plain, is_absent}
+use Rattle.cache_store.specs.Held.{value_at, items_without, have_own_keys, Corresponds, plain, is_absent}
 use Rattle.cache_store.proofs.Keys.{equal_from_same, same-refl}
-use Rattle.cache_store.proofs.Held.{apart-without, none_from_absent, corresponds-left, apart-left, value_at-without, left, left-append, permutation}
+use Rattle.cache_store.proofs.Held.{apart-items_without, none_from_absent, corresponds-left, apart-left, value_at-items_without, left, left-append, permutation}
 use Rattle.engine_reference.specs.RunLaws.Just.{IsJust}
-use Rattle.cache_front.specs.Parts.{Part, service_answers, note_from, held_of, items_in, items_of, Stands, drained, Stored, settings_of, nanos, IsBrief, AreLight, write_weight, AreMarked}
+use Rattle.cache_front.specs.Parts.{Part, service_answers, note_from, as_held_value, items_in, items_of, Stands, drained, Stored, part_settings, nanos, IsBrief, AreLight, write_weight, AreMarked}
 use Rattle.cache_front.proofs.parts.Accepting.{all-untold}
 use Rattle.cache_front.proofs.parts.Items.{ArePlaced, AreParted, value_at-part, value_at-both, not_here, apart-of, corresponds_from, AreOf, of-removals, left-elsewhere, decides, parted-at, away, placed-away, found-away, weight-part, in_part, marks_elsewhere, candidates_placed}
 use Rattle.cache_front.proofs.parts.Joining.{Knows, above_is, fits_held, ran, Ran, ran_from}
-use Rattle.cache_front.proofs.parts.Writing.{Judges, judged, no_point, Kept, Fits, notes_of, told_truly, key_of, first_of-other, end_is, reached_is, Rec}
+use Rattle.cache_front.proofs.parts.Writing.{Judges, judged, no_point, Kept, Fits, notes_of, told_truly, key_of, first_with_key-other, end_is, reached_is, Rec}
 use Rattle.std.proofs.lemmas.List.{length-map}
 use Rattle.std.proofs.lemmas.List.Sums.{sum_by-cons, sum_by-append}
 use Rattle.std.proofs.lemmas.List.Sorted.{sum_by-IsPermutation}
@@ -36,12 +36,12 @@ use Rattle.std.proofs.lemmas.Bool.{and_from, and_parts, not_from_false, false_fr
 use Rattle.audit_model.specs.History.{share}
 use Rattle.engine_reference.specs.declared.data.Settings.{Settings}
 use Rattle.engine_reference.specs.Admission.{is_above}
-use Rattle.engine_reference.specs.Times.{is_reached, end_of, tick_of as ticks}
+use Rattle.engine_reference.specs.Times.{is_reached, end_of, tick_of}
 use Rattle.engine_reference.specs.Visible.{is_covered, is_covered_by}
 use Rattle.engine_reference.proofs.SoundCalls.{held_at-only}
 use Rattle.engine_reference.specs.RunLaws.Sweeping.{LeavesNoneDue, InOrderBy, IsUsedBefore}
 use Rattle.engine_reference.proofs.run_laws.Shown.{entry-held}
-use Rattle.cache_store.specs.Running.{weight_in, is_timely, is_of_earlier_tick, tick_of, is_bounded}
+use Rattle.cache_store.specs.Running.{weight_in, is_timely, is_of_earlier_tick, tick_since, is_bounded}
 use Rattle.cache_store.proofs.Weights.{over_is, same_weight}
 use Rattle.engine_reference.specs.declared.data.Record.{Record}
 use Rattle.engine_reference.specs.declared.data.Write.{Write}
@@ -68,13 +68,13 @@ from-later : (part_of : List ℕ → ℕ) (first : ℕ) (notes : List Note) → 
 from-later part_of first [] h = tt
 from-later part_of first (n ∷ notes) h = ((let e = h.0 in omega (arith, e)), from-later part_of first notes h.1)
 
-left-before : (part_of : List ℕ → ℕ) (first : ℕ) (notes : List Note) (xs : List HeldValue) (q : List ℕ) → are_apart xs ≡ true → AreFrom part_of first notes → part_of q < first → value_at (left notes xs) q ≡ value_at xs q
+left-before : (part_of : List ℕ → ℕ) (first : ℕ) (notes : List Note) (xs : List HeldValue) (q : List ℕ) → have_own_keys xs ≡ true → AreFrom part_of first notes → part_of q < first → value_at (left notes xs) q ≡ value_at xs q
 left-before part_of first [] xs q a of lt = refl
-left-before part_of first (n ∷ notes) xs q a of lt = grind (arith, left-before part_of first notes (without n.key xs) q (apart-without n.key xs a) of.1 lt, apart-without n.key xs a, value_at-without n.key q xs a, equal_from_same q n.key)
+left-before part_of first (n ∷ notes) xs q a of lt = grind (arith, left-before part_of first notes (items_without n.key xs) q (apart-items_without n.key xs a) of.1 lt, apart-items_without n.key xs a, value_at-items_without n.key q xs a, equal_from_same q n.key)
 
-first_of-elsewhere : (part_of : List ℕ → ℕ) (part : ℕ) (notes : List Note) (cs : List Candidate) (q : List ℕ) → AreOf part_of part notes → (part_of q ≡ part → ⊥) → first_of q (untold key_of notes cs) ≡ first_of q cs
-first_of-elsewhere part_of part [] cs q of other = refl
-first_of-elsewhere part_of part (n ∷ notes) cs q of other = grind (arith, key_of, equal_from_same, first_of-other, first_of-elsewhere part_of part notes)
+first_with_key-elsewhere : (part_of : List ℕ → ℕ) (part : ℕ) (notes : List Note) (cs : List Candidate) (q : List ℕ) → AreOf part_of part notes → (part_of q ≡ part → ⊥) → first_with_key q (untold key_of notes cs) ≡ first_with_key q cs
+first_with_key-elsewhere part_of part [] cs q of other = refl
+first_with_key-elsewhere part_of part (n ∷ notes) cs q of other = grind (arith, key_of, equal_from_same, first_with_key-other, first_with_key-elsewhere part_of part notes)
 
 module _ {S : Type 0} (now : ℕ) where
   -- each part ran to its end, and its notices were taken, part after part
@@ -118,7 +118,7 @@ module _ {S : Type 0} (now : ℕ) where
       )
 
   -- what is found when all parts ran
-  found-after : (part_of : List ℕ → ℕ) (first : ℕ) (parts news : List (Part S)) (notes : List Note) → AllRan parts news notes → EachPart IsReady parts → AreParted part_of first parts → (xs : List HeldValue) → are_apart xs ≡ true
+  found-after : (part_of : List ℕ → ℕ) (first : ℕ) (parts news : List (Part S)) (notes : List Note) → AllRan parts news notes → EachPart IsReady parts → AreParted part_of first parts → (xs : List HeldValue) → have_own_keys xs ≡ true
       → ((q : List ℕ) → first ≤ part_of q → value_at xs q ≡ value_at (items_of first parts) q) → (q : List ℕ) → first ≤ part_of q → value_at (left notes xs) q ≡ value_at (items_of first news) q
   found-after part_of first all news notes none ready p xs a e q le = e q le
   found-after part_of first all news notes (next {parts = parts} {news = after} {notes = rest} s new run later) ready p xs a e q le =
@@ -140,9 +140,9 @@ module _ {S : Type 0} (now : ℕ) where
           left-elsewhere part_of first (notes_of r.removals) xs q a of (λ is. omega (arith, is, lt)) ∙ e q (omega (arith, lt))
           ∙ value_at-both (items_in first s) (items_of (suc first) parts) q (not_here part_of first s q p.1 (λ is. omega (arith, is, lt)))
 
-      covers : (o : Option Kept) → entry_of same (held_entries new.records) q ≡ o → option_map (held_of first s) o ≡ option_map (held_of first new) o
+      covers : (o : Option Kept) → entry_of same (held_entries new.records) q ≡ o → option_map (as_held_value first s) o ≡ option_map (as_held_value first new) o
       covers None f = refl
-      covers (Some x) f = ap (λ b. Some (record (held_of first s x) { covered = b })) (sym (r.cover q x f))
+      covers (Some x) f = ap (λ b. Some (record (as_held_value first s x) { covered = b })) (sym (r.cover q x f))
 
       by_part : Dec (part_of q ≡ first) → (((q : List ℕ) → suc first ≤ part_of q → value_at (left (notes_of r.removals) xs) q ≡ value_at (items_of (suc first) parts) q)
           → (q : List ℕ) → suc first ≤ part_of q → value_at (left rest (left (notes_of r.removals) xs)) q ≡ value_at (items_of (suc first) after) q)
@@ -150,9 +150,9 @@ module _ {S : Type 0} (now : ℕ) where
       by_part (yes is) ih =
           left-before part_of (suc first) rest (left (notes_of r.removals) xs) q (apart-left (notes_of r.removals) xs a) (from-parts part_of (suc first) parts after rest later ready.1 p.2) (omega (arith, is))
           ∙ found-away first s r.removals (held_entries s.records) (held_entries new.records) xs p.0 a r.takes q
-          (e q le ∙ value_at-part part_of first 0 (s ∷ parts) s q p refl (is ∙ sym zero_plus) ∙ ap (λ m. option_map (held_of m s) (entry_of same (held_entries s.records) q)) zero_plus)
+          (e q le ∙ value_at-part part_of first 0 (s ∷ parts) s q p refl (is ∙ sym zero_plus) ∙ ap (λ m. option_map (as_held_value m s) (entry_of same (held_entries s.records) q)) zero_plus)
           ∙ covers (entry_of same (held_entries new.records) q) refl
-          ∙ ap (λ m. option_map (held_of m (drained new)) (entry_of same (held_entries new.records) q)) (sym zero_plus)
+          ∙ ap (λ m. option_map (as_held_value m (drained new)) (entry_of same (held_entries new.records) q)) (sym zero_plus)
           ∙ sym (value_at-part part_of first 0 (drained new ∷ after) (drained new) q
           (away r.removals (held_entries s.records) (held_entries new.records) p.0 r.takes, placed_new, parted-after part_of (suc first) parts after rest later ready.1 p.2) refl (is ∙ sym zero_plus))
         where
@@ -180,7 +180,7 @@ module _ {S : Type 0} (now : ℕ) where
         (λ x k there q e h.
         let f = fits x (suc k) there q e h in
         let at = placed_later p.2 x k there q e h in
-        record { candidate = f.candidate; there = first_of-elsewhere part_of first (notes_of r.removals) cs q of (λ is. omega (arith, is, at)) ∙ f.there; is = f.is })
+        record { candidate = f.candidate; there = first_with_key-elsewhere part_of first (notes_of r.removals) cs q of (λ is. omega (arith, is, at)) ∙ f.there; is = f.is })
         (all-untold (λ c. not (is_succeeded syncing c)) (notes_of r.removals) cs rest))
       where
         r : Ran now s new
@@ -220,7 +220,7 @@ module _ {S : Type 0} (now : ℕ) where
       handed = refl;
     }
       where
-        apart_items : are_apart (items_of 0 parts) ≡ true
+        apart_items : have_own_keys (items_of 0 parts) ≡ true
         apart_items = apart-of part_of 0 parts p
 
 -- ---- sums over all parts: how many values are held and what they weigh, and what the engine counts after a run of all
@@ -235,13 +235,13 @@ exact : (n : ℕ) → n ≤ 18446744073709551615 → min n 18446744073709551615 
 exact n le = omega arith
 
 module _ {S : Type 0} where
-  weight-here : (part : ℕ) (s : Part S) (es : List Kept) → sum_by (λ (h : HeldValue). h.value.weight) (map (held_of part s) es) ≡ sum_by (λ (e : Kept). e.weight) es
+  weight-here : (part : ℕ) (s : Part S) (es : List Kept) → sum_by (λ (h : HeldValue). h.value.weight) (map (as_held_value part s) es) ≡ sum_by (λ (e : Kept). e.weight) es
   weight-here part s [] = refl
-  weight-here part s (e ∷ es) = grind (arith, sum_by-cons (λ (g : HeldValue). g.value.weight) (held_of part s e) (map (held_of part s) es), weight-here part s es, sum_by-cons (λ (x : Kept). x.weight) e es, Kept)
+  weight-here part s (e ∷ es) = grind (arith, sum_by-cons (λ (g : HeldValue). g.value.weight) (as_held_value part s e) (map (as_held_value part s) es), weight-here part s es, sum_by-cons (λ (x : Kept). x.weight) e es, Kept)
 
   number-items : (first : ℕ) (parts : List (Part S)) → length (items_of first parts) ≡ sum_by (λ (s : Part S). length (held_entries s.records)) parts
   number-items first [] = refl
-  number-items first (s ∷ parts) = grind (arith, length-append (items_in first s) (items_of (suc first) parts), length-map (held_entries s.records) (held_of first s), number-items (suc first) parts, sum_by-cons (λ (s : Part S). length (held_entries s.records)) s parts)
+  number-items first (s ∷ parts) = grind (arith, length-append (items_in first s) (items_of (suc first) parts), length-map (held_entries s.records) (as_held_value first s), number-items (suc first) parts, sum_by-cons (λ (s : Part S). length (held_entries s.records)) s parts)
 
   weight-items : (first : ℕ) (parts : List (Part S)) → sum_by (λ (h : HeldValue). h.value.weight) (items_of first parts) ≡ sum_by (λ (s : Part S). held_weight s.records) parts
   weight-items first [] = refl
@@ -253,7 +253,9 @@ module _ {S : Type 0} where
 
   -- and so is their weight
   pub weight_is : (part_of : List ℕ → ℕ) (parts : List (Part S)) (held : List HeldValue) → AreParted part_of 0 parts → Stands parts held → sum_by (λ (h : HeldValue). h.value.weight) held ≡ sum_by (λ (s : Part S). held_weight s.records) parts
-  weight_is part_of parts held parted stands = grind (arith, weight-plain held, sum_by-IsPermutation (λ (h : HeldValue). h.value.weight) (map plain held) (items_of 0 parts) (permutation (items_of 0 parts) held (apart-of part_of 0 parts parted) stands.same), permutation (items_of 0 parts) held (apart-of part_of 0 parts parted) stands.same, apart-of part_of 0 parts parted, weight-items 0 parts)
+  weight_is part_of parts held parted stands =
+      let ispermutation = sum_by-IsPermutation (λ (h : HeldValue). h.value.weight) (map plain held) (items_of 0 parts) (permutation (items_of 0 parts) held (apart-of part_of 0 parts parted) stands.same) in
+      grind (arith, weight-plain held, ispermutation, permutation (items_of 0 parts) held (apart-of part_of 0 parts parted) stands.same, apart-of part_of 0 parts parted, weight-items 0 parts)
 
   -- ---- what the engine counts
 
@@ -294,35 +296,34 @@ module _ {S : Type 0} where
 -- ---- what a run of all parts leaves: within the shares, and timely
 
 -- what is so of each value that is found is so of all
-pub all_by_key : (p : HeldValue → Bool) (xs : List HeldValue) → are_apart xs ≡ true → ((q : List ℕ) (h : HeldValue) → value_at xs q ≡ Some h → p h ≡ true) → list_all p xs ≡ true
+pub all_by_key : (p : HeldValue → Bool) (xs : List HeldValue) → have_own_keys xs ≡ true → ((q : List ℕ) (h : HeldValue) → value_at xs q ≡ Some h → p h ≡ true) → list_all p xs ≡ true
 all_by_key p [] a each = refl
 all_by_key p (x ∷ xs) a each =
-    let parts = and_parts (is_absent x.value.key xs) (are_apart xs) a in
+    let parts = and_parts (is_absent x.value.key xs) (have_own_keys xs) a in
     and_from _ _ (each x.value.key x (ap (λ b. cond b (Some x) (value_at xs x.value.key)) (same-refl x.value.key)))
-    (all_by_key p xs parts.1 (λ q h found. each q h (behind q h found (same q x.value.key) refl parts.0)))
+    (all_by_key p xs parts.1 (λ q h found. each q h (behind q h found parts.0)))
   where
-    behind : (q : List ℕ) (h : HeldValue) → value_at xs q ≡ Some h → (b : Bool) → same q x.value.key ≡ b → is_absent x.value.key xs ≡ true → cond (same q x.value.key) (Some x) (value_at xs q) ≡ Some h
-    behind q h found true e absent = absurd (none-some h (sym (ap (value_at xs) (equal_from_same q x.value.key e) ∙ none_from_absent x.value.key xs absent) ∙ found))
-    behind q h found false e absent = ap (λ b. cond b (Some x) (value_at xs q)) e ∙ found
+    behind : (q : List ℕ) (h : HeldValue) → value_at xs q ≡ Some h → is_absent x.value.key xs ≡ true → value_at (x ∷ xs) q ≡ Some h
+    behind q h found absent = grind (arith, equal_from_same q x.value.key, none_from_absent x.value.key xs absent, none-some h)
 
 module _ {S : Type 0} (config : Config) (part_of : List ℕ → ℕ) (made : ℕ) (parts : List (Part S)) (held : List HeldValue) (parted : AreParted part_of 0 parts) (c : Corresponds (items_of 0 parts) held)
-    (count : (q : List ℕ) → (x : Part S) × (slice_get parts (part_of q) ≡ Some x)) (settings : (k : ℕ) (x : Part S) → slice_get parts k ≡ Some x → x.settings ≡ settings_of config made) where
+    (count : (q : List ℕ) → (x : Part S) × (slice_get parts (part_of q) ≡ Some x)) (settings : (k : ℕ) (x : Part S) → slice_get parts k ≡ Some x → x.settings ≡ part_settings config made) where
   -- the part and the entry of a value held
   pub record Lies (q : List ℕ) (h : HeldValue) : Type 0 where
     pub part : Part S
     pub there : slice_get parts (part_of q) ≡ Some part
     pub entry : Kept
     pub found : entry_of same (held_entries part.records) q ≡ Some entry
-    pub is : plain h ≡ held_of (part_of q) part entry
+    pub is : plain h ≡ as_held_value (part_of q) part entry
 
   pub lies : (q : List ℕ) (h : HeldValue) → value_at held q ≡ Some h → Lies q h
   lies q h e =
       let s = count q in
       let zero_plus : 0 + part_of q ≡ part_of q = omega arith in
       go s.0 s.1 (entry_of same (held_entries s.0.records) q) refl
-      (ap (option_map plain) (sym e) ∙ c.found q ∙ value_at-part part_of 0 (part_of q) parts s.0 q parted s.1 (sym zero_plus) ∙ ap (λ m. option_map (held_of m s.0) (entry_of same (held_entries s.0.records) q)) zero_plus)
+      (ap (option_map plain) (sym e) ∙ c.found q ∙ value_at-part part_of 0 (part_of q) parts s.0 q parted s.1 (sym zero_plus) ∙ ap (λ m. option_map (as_held_value m s.0) (entry_of same (held_entries s.0.records) q)) zero_plus)
     where
-      go : (s : Part S) → slice_get parts (part_of q) ≡ Some s → (o : Option Kept) → entry_of same (held_entries s.records) q ≡ o → Some (plain h) ≡ option_map (held_of (part_of q) s) o → Lies q h
+      go : (s : Part S) → slice_get parts (part_of q) ≡ Some s → (o : Option Kept) → entry_of same (held_entries s.records) q ≡ o → Some (plain h) ≡ option_map (as_held_value (part_of q) s) o → Lies q h
       go s there None f g = absurd (none-some (plain h) (sym g))
       go s there (Some x) f g = record { part = s; there = there; entry = x; found = f; is = cc }
 
@@ -376,7 +377,7 @@ module _ {S : Type 0} (config : Config) (part_of : List ℕ → ℕ) (made : ℕ
           rec : (r : Rec) × (record_at l.part.records r.number ≡ Some r) × (r.entry ≡ l.entry)
           rec = record-of l.part q l.entry t.numbered l.found
 
-          set : l.part.settings ≡ settings_of config made
+          set : l.part.settings ≡ part_settings config made
           set = settings (part_of q) l.part l.there
 
           uncovered : is_covered service_answers l.part x ≡ false
@@ -384,7 +385,7 @@ module _ {S : Type 0} (config : Config) (part_of : List ℕ → ℕ) (made : ℕ
               ap (λ ps. nat_lt x.step l.part.cleared || list_any (λ p. is_covered_by service_answers l.part.rules p x) ps) t.predicates
               ∙ ap (λ b. b || false) (ap (λ (y : Kept). nat_lt y.step l.part.cleared) (sym rec.2) ∙ t.due.clear rec.0 rec.1)
 
-          live : has_come (option_map (after_ms x.written) config.live_ms) now ≡ false
+          live : deadline_has_come (option_map (after_ms x.written) config.live_ms) now ≡ false
           live =
               sym (reached_is (option_map (after_ms x.written) config.live_ms) now)
               ∙ sym (ap (λ o. is_reached o now) (end_is x.written config.live_ms (t.early q x l.found).0 brief.live))
@@ -392,7 +393,7 @@ module _ {S : Type 0} (config : Config) (part_of : List ℕ → ℕ) (made : ℕ
               ∙ ap (λ (y : Kept). is_reached (end_of y.written l.part.settings.live) now) (sym rec.2)
               ∙ t.due.live rec.0 rec.1
 
-          idle : (ms : Option ℕ) → config.idle_ms ≡ ms → has_come (option_map (λ m. after_ms x.used m + 300000000) ms) now ≡ false
+          idle : (ms : Option ℕ) → config.idle_ms ≡ ms → deadline_has_come (option_map (λ m. after_ms x.used m + 300000000) ms) now ≡ false
           idle None is = refl
           idle (Some m) is =
               let less = t.due.idle t.in_order rec.0 rec.1 (nanos m) (ap (λ (z : Settings). z.idle) set ∙ ap (option_map nanos) is) in
@@ -406,8 +407,8 @@ module _ {S : Type 0} (config : Config) (part_of : List ℕ → ℕ) (made : ℕ
           own None is = refl
           own (Some m) is =
               let le = t.due.own rec.0 rec.1 m (ap (λ (y : Kept). y.expires) rec.2 ∙ is) in
-              let at : ((k : ℕ) → ticks l.part.settings k ≡ tick_of made k) = λ k. ap (λ (z : Settings). ticks z k) set ∙ ap (λ b. (k - b) / 1073741824) (rounds made) in
-              false_from_ne_true _ (λ e. (let lt = ltb-true (tick_of made m) (tick_of made now) e in let a = at now in let b = at m in omega (arith, lt, le, a, b)))
+              let at : ((k : ℕ) → tick_of l.part.settings k ≡ tick_since made k) = λ k. ap (λ (z : Settings). tick_of z k) set ∙ ap (λ b. (k - b) / 1073741824) (rounds made) in
+              false_from_ne_true _ (λ e. (let lt = ltb-true (tick_since made m) (tick_since made now) e in let a = at now in let b = at m in omega (arith, lt, le, a, b)))
 
 -- ---- how much a part may hold while writes wait
 
@@ -437,7 +438,7 @@ pub held_at_most : {K V P S R : Type 0} (s : State K V P S R) → IsInOrder s �
 held_at_most s order = let e = applied-weight s order.sound order.rising in let le = writes-more (pending_of s) s.records in omega (arith, e, le)
 
 module _ {S : Type 0} (config : Config) (part_of : List ℕ → ℕ) (made : ℕ) (parts : List (Part S)) (held : List HeldValue) (parted : AreParted part_of 0 parts) (c : Corresponds (items_of 0 parts) held)
-    (count : (q : List ℕ) → (x : Part S) × (slice_get parts (part_of q) ≡ Some x)) (settings : (k : ℕ) (x : Part S) → slice_get parts k ≡ Some x → x.settings ≡ settings_of config made) where
+    (count : (q : List ℕ) → (x : Part S) × (slice_get parts (part_of q) ≡ Some x)) (settings : (k : ℕ) (x : Part S) → slice_get parts k ≡ Some x → x.settings ≡ part_settings config made) where
   pub record IsLean (x : Part S) : Type 0 where
     pub in_order : IsInOrder x
     pub sent : x.unsent ≡ []

@@ -1,6 +1,6 @@
 -- What is told of a part's entries is true, if each is told for a cause that is true of the candidate of its key.
-use Rattle.std.proofs.Common.{◌≡◌, ℕ, zero, suc, Bool, cond, true, false, List, [], ◌∷◌, ◌++◌, map, Some, None, slice_get, remove, refl, sym, ap, ◌∙◌, arith, Option, subst, inl, inr, ◌⊎◌, append-nil, ◌<◌, ◌≤◌, true≢false, ◌||◌, option_map, ◌+◌}
-use Rattle.std.proofs.lemmas.Bool.{and_from, or_left, eqb-true, eq-eqb}
+use Rattle.std.proofs.Common.{◌≡◌, ℕ, zero, suc, cond, true, false, List, [], ◌∷◌, ◌++◌, map, Some, None, slice_get, remove, refl, sym, ap, ◌∙◌, arith, Option, subst, inl, inr, ◌⊎◌, append-nil, ◌<◌, ◌≤◌, true≢false, ◌||◌, option_map, ◌+◌}
+use Rattle.std.proofs.lemmas.Bool.{and_from, or_left, eqb-true, eq-eqb, cases_Bool, cond-false}
 use Rattle.std.proofs.lemmas.Option.{none-some}
 use Rattle.std.specs.Cmp.{IsEquivalence}
 use Rattle.engine_reference.proofs.Accounts.{each-map, only_one}
@@ -17,7 +17,7 @@ use Rattle.engine_reference.specs.RunLaws.Just.{EachRemoval, IsJust}
 use Rattle.engine_reference.specs.RunLaws.Points.{NoneOf, HasPoint, IsPointed, IsInOrder}
 use Rattle.engine_reference.specs.Soundness.{number_of, Each, AreNumbered}
 use Rattle.engine_reference.specs.Telling.{Removal, TakesAway, removed_entries, entry_of, AreApart}
-use Rattle.engine_reference.specs.Times.{end_of, is_reached, has_come as is_past, earlier_of as earliest}
+use Rattle.engine_reference.specs.Times.{end_of, is_reached, has_come, earlier_of}
 use Rattle.engine_reference.specs.Visible.{is_covered, told, notice_of, cause_of_write}
 use Rattle.engine_reference.specs.declared.data.Entry.{Entry}
 use Rattle.engine_reference.specs.declared.data.Notice.{Notice}
@@ -29,15 +29,15 @@ use Rattle.engine_reference.specs.declared.data.Write.TheVariants.{Put}
 use Rattle.engine_reference.specs.declared.rules.causes.RemovalCause.{RemovalCause}
 use Rattle.audit_model.specs.Bytewise.{same}
 use Rattle.audit_model.specs.Commands.{Deed}
-use Rattle.audit_model.specs.Notes.{are_true_notes, is_true_note, first_of, is_true_cause, is_told_first, overfills, same_cause, first_cause}
+use Rattle.audit_model.specs.Notes.{are_true_notes, is_true_note, first_with_key, is_true_cause, is_told_first, overfills, same_cause, first_cause}
 use Rattle.audit_model.specs.Situation.{is_dead_at}
-use Rattle.audit_model.specs.Values.{without_key, untold, earlier_of, after_ms, deadline, has_come}
+use Rattle.audit_model.specs.Values.{without_key, untold, earlier_deadline, after_ms, deadline, deadline_has_come}
 use Rattle.audit_model.specs.View.{Candidate}
 use Rattle.audit_model.specs.declared.config.Config.{Config}
 use Rattle.audit_model.specs.declared.config.Weight.{Weight}
 use Rattle.audit_model.specs.declared.transcript.Note.{Note}
 use Rattle.cache_store.proofs.Keys.{same-refl, equal_from_same, same_along, same_from_equal, same-flip_false}
-use Rattle.cache_front.specs.Parts.{Stored, note_of, Part, service_answers, settings_of, nanos, held_of, value_of, IsBrief, put, put_entry}
+use Rattle.cache_front.specs.Parts.{Stored, note_of, Part, service_answers, part_settings, nanos, as_held_value, as_value, IsBrief, value_put, put_entry}
 
 -- ---- entries by their keys
 
@@ -67,14 +67,14 @@ entry_of-gone (x ∷ es) (suc i) e a there = grind (arith, entry_of-gone es i e 
 abbrev pub key_of : Candidate → List ℕ
 key_of c = c.value.key
 
-pub first_of-other : (key q : List ℕ) (cs : List Candidate) → same q key ≡ false → first_of q (without_key key_of key cs) ≡ first_of q cs
-first_of-other key q [] other = refl
-first_of-other key q (c ∷ cs) other = grind (arith, first_of-other key q cs other, same_along q key c.value.key)
+pub first_with_key-other : (key q : List ℕ) (cs : List Candidate) → same q key ≡ false → first_with_key q (without_key key_of key cs) ≡ first_with_key q cs
+first_with_key-other key q [] other = refl
+first_with_key-other key q (c ∷ cs) other = grind (arith, first_with_key-other key q cs other, same_along q key c.value.key)
 
 -- the key's candidate, of which something holds together with the entry
 pub record Fitting (J : Candidate → Kept → Type 0) (cs : List Candidate) (key : List ℕ) (e : Kept) : Type 0 where
   pub candidate : Candidate
-  pub there : first_of key cs ≡ Some candidate
+  pub there : first_with_key key cs ≡ Some candidate
   pub is : J candidate e
 
 abbrev pub Fits : (Candidate → Kept → Type 0) → List Candidate → List Kept → Type 0
@@ -85,13 +85,12 @@ notes_of removals = map (λ (gone : Removal (List ℕ) Stored). note_of gone.cau
 
 module _ (J : Candidate → Kept → Type 0) where
   pub fits-remove : (cs : List Candidate) (es : List Kept) (i : ℕ) (e : Kept) → AreApart same es → slice_get es i ≡ Some e → Fits J cs es → Fits J (without_key key_of e.key cs) (remove es i)
-  fits-remove cs es i e a there f q x here = go (same q e.key) refl
-    where
-      go : (b : Bool) → same q e.key ≡ b → Fitting J (without_key key_of e.key cs) q x
-      go true t = absurd (none-some x (sym (ap (entry_of same (remove es i)) (equal_from_same q e.key t) ∙ entry_of-gone es i e a there) ∙ here))
-      go false t =
-          let k = f q x (sym (entry_of-other es i e q there t) ∙ here) in
-          record { candidate = k.candidate; there = first_of-other e.key q cs t ∙ k.there; is = k.is }
+  fits-remove cs es i e a there f q x here = elim (cases_Bool (same q e.key)) [
+    | inl t ↦ absurd (none-some x (sym (ap (entry_of same (remove es i)) (equal_from_same q e.key t) ∙ entry_of-gone es i e a there) ∙ here))
+    | inr t ↦
+        let k = f q x (sym (entry_of-other es i e q there t) ∙ here) in
+        record { candidate = k.candidate; there = first_with_key-other e.key q cs t ∙ k.there; is = k.is }
+  ]
 
   module _ (config : Config) (deed : Deed) (before : List Candidate) (Q : RemovalCause → Kept → Type 0)
       (ok : (why : RemovalCause) (e : Kept) (c : Candidate) → J c e → Q why e → is_true_note config before deed (note_of why e) (Some c) ≡ true) where
@@ -155,21 +154,17 @@ no_point capacity unsent number p = no_parts p.before (Put p.peak) p.after p.sta
 
 -- ---- causes
 
-otherwise : (b x y : Bool) → b ≡ false → y ≡ true → cond b x y ≡ true
-otherwise true x y e f = absurd (true≢false e)
-otherwise false x y e f = f
-
 module _ (config : Config) (deed : Deed) (before : List Candidate) {S : Type 0} (now : ℕ) (t : Part S) where
   -- what the candidate of an entry's key has to be, so that a run from this state tells it truly
   pub record Judges (c : Candidate) (e : Kept) : Type 0 where
     pub bytes : c.value.bytes ≡ e.value.bytes
     pub later : is_told_first deed c ≡ false
-    pub expired : is_past t.settings now e ≡ true → c.dead ≡ true
+    pub expired : has_come t.settings now e ≡ true → c.dead ≡ true
     pub explicit : is_covered service_answers t e ≡ true → c.covered ≡ true
     pub size : IsPointed t e → (c.evictable || overfills config before deed c.value.part) ≡ true
 
   pub judged : (why : RemovalCause) (e : Kept) (c : Candidate) → Judges c e → IsJust service_answers now t why e → is_true_note config before deed (note_of why e) (Some c) ≡ true
-  judged why e c j just = grind (arith, and_from, same_from_equal e.value.bytes c.value.bytes (sym j.bytes), otherwise (is_told_first deed c) (same_cause (note_of why e).cause (first_cause config before deed c)) (is_true_cause config before deed c (note_of why e).cause) j.later, or_left c.covered)
+  judged why e c j just = grind (arith, and_from, same_from_equal e.value.bytes c.value.bytes (sym j.bytes), cond-false (is_told_first deed c) (same_cause (note_of why e).cause (first_cause config before deed c)) (is_true_cause config before deed c (note_of why e).cause) j.later, or_left c.covered)
 
 -- ---- deadlines
 
@@ -177,20 +172,23 @@ pub end_is : (since : ℕ) (time : Option ℕ) → since < 9223372036854775808 �
 end_is since None lt brief = refl
 end_is since (Some ms) lt brief = ap Some (let b = brief ms refl in omega arith)
 
-earlier_is : (a b : Option ℕ) → earliest a b ≡ earlier_of a b
+earlier_is : (a b : Option ℕ) → earlier_of a b ≡ earlier_deadline a b
 earlier_is None b = refl
 earlier_is (Some a) None = refl
 earlier_is (Some a) (Some b) = refl
 
-pub reached_is : (o : Option ℕ) (now : ℕ) → is_reached o now ≡ has_come o now
+pub reached_is : (o : Option ℕ) (now : ℕ) → is_reached o now ≡ deadline_has_come o now
 reached_is None now = refl
 reached_is (Some moment) now = refl
 
 module _ {S : Type 0} where
   -- an entry is past its deadline where the value held is dead
-  pub dead_is : (config : Config) (made now part : ℕ) (s : Part S) (e : Kept) → IsBrief config → s.settings ≡ settings_of config made → e.written < 9223372036854775808 → e.used < 9223372036854775808
-      → is_past s.settings now e ≡ is_dead_at config now (held_of part s e)
-  dead_is config made now part s e brief settings written used = grind (arith, end_is e.written config.live_ms written brief.live, end_is e.used config.idle_ms used brief.idle, earlier_is (option_map (after_ms e.written) config.live_ms) (option_map (after_ms e.used) config.idle_ms), earlier_is e.expires (earlier_of (option_map (after_ms e.written) config.live_ms) (option_map (after_ms e.used) config.idle_ms)), reached_is (deadline config (value_of part e) e.used) now)
+  pub dead_is : (config : Config) (made now part : ℕ) (s : Part S) (e : Kept) → IsBrief config → s.settings ≡ part_settings config made → e.written < 9223372036854775808 → e.used < 9223372036854775808
+      → has_come s.settings now e ≡ is_dead_at config now (as_held_value part s e)
+  dead_is config made now part s e brief settings written used =
+      let earlier = earlier_is (option_map (after_ms e.written) config.live_ms) (option_map (after_ms e.used) config.idle_ms) in
+      let earlier2 = earlier_is e.expires (earlier_deadline (option_map (after_ms e.written) config.live_ms) (option_map (after_ms e.used) config.idle_ms)) in
+      grind (arith, end_is e.written config.live_ms written brief.live, end_is e.used config.idle_ms used brief.idle, earlier, earlier2, reached_is (deadline config (as_value part e) e.used) now)
 
 -- What a write leaves of a part.
 
@@ -292,7 +290,7 @@ module _ {S : Type 0} where
         → (q : List ℕ) → entry_of same (held_entries records) q ≡ cond (same q key) (Some (put_entry s key value now step)) (entry_of same (held_entries s.records) q)
     by_key records others x own is q = grind (arith, equal_from_same q key, entry-held same records key, entry-held same records q, entry-held same s.records q)
 
-    pub wrote : Wrote now key (put_entry s key value now step) s (put key hash value now step s)
+    pub wrote : Wrote now key (put_entry s key value now step) s (value_put key hash value now step s)
     wrote = go (held_at same s.records key) refl
       where
         go : (o : Option Rec) → held_at same s.records key ≡ o → Wrote now key (put_entry s key value now step) s (sent s.next_ticket (before_sent o))

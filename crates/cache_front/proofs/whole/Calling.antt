@@ -1,9 +1,9 @@
 -- The parts stand for a list of values, each of which may be evicted; and after a call for at most as many as before it, and one more.
-use Rattle.std.proofs.Common.{◌≡◌, refl, ap, ◌∙◌, sym, ℕ, suc, ◌+◌, ◌≤◌, arith, true, List, [], ◌∷◌, ◌++◌, map, length, Option, option_map, Some, None, slice_get, Bool, false, cond, not, ◌&&◌, is_some, option_to_list, subst, ◌<◌, ◌^◌, max, ◌||◌, is_none, slice_set, if◌then◌else◌, IfSome, IsSome, IsTrue, MatchOption}
+use Rattle.std.proofs.Common.{◌≡◌, refl, ap, ◌∙◌, sym, ℕ, suc, ◌+◌, ◌≤◌, arith, true, List, [], ◌∷◌, ◌++◌, map, length, Option, option_map, Some, None, slice_get, Bool, false, not, ◌&&◌, is_some, option_to_list, subst, ◌<◌, ◌^◌, max, ◌||◌, is_none, slice_set, if◌then◌else◌, IfSome, IsSome, IsTrue, MatchOption}
 use Rattle.std.proofs.Math.Bool.{and_comm, or-false}
-use Rattle.std.proofs.lemmas.Bool.{both_ways}
+use Rattle.std.proofs.lemmas.Bool.{both_ways, cond_both}
 use Rattle.std.proofs.lemmas.List.{length-append, length-map}
-use Rattle.std.proofs.lemmas.Option.{none-some}
+use Rattle.std.proofs.lemmas.Option.{cond_some, none-some}
 use Rattle.std.specs.Option.{option_map_or}
 use Rattle.engine_reference.proofs.SoundSteps.{runs_stay_sound}
 use Rattle.engine_reference.proofs.StayingVisible.{visible_by_entries}
@@ -15,7 +15,7 @@ use Rattle.engine_reference.specs.Soundness.{IsSound}
 use Rattle.engine_reference.specs.Telling.{entry_of}
 use Rattle.engine_reference.specs.Times.{has_come}
 use Rattle.engine_reference.specs.Visible.{is_covered, is_visible, passing, visible, visible_record, visible_value}
-use Rattle.front_reference.specs.Parts.{Inserts, TakesOut, taken_out as taken_out_whole, takes_nothing}
+use Rattle.front_reference.specs.Parts.{Inserts, TakesOut, taken_out, takes_nothing}
 use Rattle.audit_model.specs.Bytewise.{same}
 use Rattle.audit_model.specs.Changes.{all_held_after, newly_held}
 use Rattle.audit_model.specs.Commands.{Deed}
@@ -26,9 +26,9 @@ use Rattle.audit_model.specs.declared.config.Config.{Config}
 use Rattle.audit_model.specs.declared.transcript.Note.{Note}
 use Rattle.cache_store.proofs.Held.{apart-map, left, value_at-map, length-without_at_most}
 use Rattle.cache_store.proofs.LiveKeys.{live_keys_from, live_keys_are}
-use Rattle.cache_store.specs.Among.{has_live, are_distinct, is_among}
+use Rattle.cache_store.specs.Among.{has_live, are_distinct, is_among_keys}
 use Rattle.cache_store.specs.Handing.{AppendsNotes}
-use Rattle.cache_store.specs.Held.{plain, are_apart, value_at, without}
+use Rattle.cache_store.specs.Held.{plain, have_own_keys, value_at, items_without}
 use Rattle.cache_store.specs.Identifiers.{KeepsIdentifiers}
 use Rattle.cache_store.specs.Promises.{Done, accepting, deleting, using, value_for}
 use Rattle.cache_store.specs.Recency.{used_first}
@@ -42,13 +42,13 @@ use Rattle.cache_front.proofs.parts.Looking.{look_up_does, miss_does}
 use Rattle.cache_front.proofs.parts.Moving.{taking}
 use Rattle.cache_front.proofs.parts.Removing.{remove_does, removed, took_out}
 use Rattle.cache_front.proofs.parts.Writing.{Kept, dead_is, Rec, wrote}
-use Rattle.cache_front.proofs.whole.Changing.{AreTaken, DrawsTicket, all_drained-set, greatest-with, maintained-room, maintained-ticket, put-room, put-ticket, read-room, read-ticket, removal-is, removed-room, removed-ticket, unreserved-with, waiting-set}
+use Rattle.cache_front.proofs.whole.Changing.{AreTaken, DrawsTicket, all_drained-set, greatest-with, maintained-room, maintained-ticket, value_put-room, value_put-ticket, read-room, read-ticket, removal-is, removed-room, removed-ticket, unreserved-with, waiting-set}
 use Rattle.cache_front.proofs.whole.Ordered.{accepts, look_ups, removes}
 use Rattle.cache_front.specs.Keeping.{IsKeptPart, at_moment, IsStorable}
-use Rattle.cache_front.specs.Parts.{Part, Stands, held_of, items_of, service_answers, drained, Stored, note_from, put, put_entry}
+use Rattle.cache_front.specs.Parts.{Part, Stands, as_held_value, items_of, service_answers, drained, Stored, note_from, value_put, put_entry}
 use Rattle.cache_front.specs.Recent.{IsRecentOver}
 use Rattle.cache_front.specs.Registering.{HasNoMore, register_of}
-use Rattle.cache_front.specs.View.{IsWhole, StoreOfParts, view, stored, ComesTo, after, greatest_ticket}
+use Rattle.cache_front.specs.View.{IsWhole, StoreOfParts, view, kept_value, ComesTo, after_telling, greatest_ticket}
 
 abbrev evictable : HeldValue → HeldValue
 evictable h = record h { evictable = true }
@@ -57,7 +57,7 @@ evictable h = record h { evictable = true }
 
 left-few : (notes : List Note) (items : List HeldValue) → length (left notes items) ≤ length items
 left-few [] items = omega arith
-left-few (n ∷ notes) items = let l = left-few notes (without n.key items) in let w = length-without_at_most n.key items in omega (arith, l, w)
+left-few (n ∷ notes) items = let l = left-few notes (items_without n.key items) in let w = length-without_at_most n.key items in omega (arith, l, w)
 
 held-few : (config : Config) (now : ℕ) (held : List HeldValue) (deed : Deed) (told : List Note) → length (all_held_after config now held deed told) ≤ length held + length (option_to_list (option_map newly_held deed.value))
 held-few config now held deed told = grind (arith, length-map, left-few told (held ++ option_to_list (option_map newly_held deed.value)), length-append held (option_to_list (option_map newly_held deed.value)))
@@ -82,14 +82,14 @@ module _ {S : Type 0} (a : StoreOfParts S) (w : IsWhole a) where
     marked = λ part s there owner at held point h is. marked (value_at (items_of 0 a.parts) owner.entry.key) h (sym (value_at-map evictable (items_of 0 a.parts) owner.entry.key (λ h. refl)) ∙ is);
   }
     where
-      apart : are_apart (items_of 0 a.parts) ≡ true
+      apart : have_own_keys (items_of 0 a.parts) ≡ true
       apart = apart-of a.frame.part_of 0 a.parts parted
 
       marked : (o : Option HeldValue) (h : HeldValue) → option_map evictable o ≡ Some h → h.evictable ≡ true
       marked None h is = absurd (none-some h is)
       marked (Some x) h is = let e : evictable x ≡ h = cc in ap (λ (y : HeldValue). y.evictable) (sym e)
 
-      each : (part : ℕ) (s : Part S) (o : Option Kept) → option_map plain (option_map evictable (option_map (held_of part s) o)) ≡ option_map (held_of part s) o
+      each : (part : ℕ) (s : Part S) (o : Option Kept) → option_map plain (option_map evictable (option_map (as_held_value part s) o)) ≡ option_map (as_held_value part s) o
       each part s None = refl
       each part s (Some e) = refl
 
@@ -112,12 +112,9 @@ module _ {S : Type 0} (a : StoreOfParts S) (w : IsWhole a) where
 
 -- ---- the live keys of a store of parts
 
-some-if : (b : Bool) (e : Kept) → b ≡ is_some (cond b (Some e) None)
-some-if true e = refl
-some-if false e = refl
-
 -- of keys that are each there once, exactly those of which something is visible are the live keys, once in byte order
-pub live_keys : {S : Type 0} → (a : StoreOfParts S) (now : ℕ) (keys : List (List ℕ)) → IsWhole a → are_distinct keys ≡ true → ((key : List ℕ) (s : Part S) → slice_get a.parts (a.frame.part_of key) ≡ Some s → is_among key keys ≡ is_some (visible service_answers same s now key)) → AreLive (view a) now (λ live. live ≡ sorted keys)
+pub live_keys : {S : Type 0} → (a : StoreOfParts S) (now : ℕ) (keys : List (List ℕ)) → IsWhole a → are_distinct keys ≡ true
+    → ((key : List ℕ) (s : Part S) → slice_get a.parts (a.frame.part_of key) ≡ Some s → is_among_keys key keys ≡ is_some (visible service_answers same s now key)) → AreLive (view a) now (λ live. live ≡ sorted keys)
 live_keys {S} a now keys w distinct among = λ held stands.
     live_keys_are a.frame.config now (items_of 0 a.parts) held (apart-of a.frame.part_of 0 a.parts (parted a w)) stands.same
     ∙ live_keys_from a.frame.config now (items_of 0 a.parts) keys (apart-of a.frame.part_of 0 a.parts (parted a w)) distinct (λ q. (let x = parts_are a w q in among q x.0 x.1 ∙ sym (live-is q x.0 x.1)))
@@ -130,14 +127,14 @@ live_keys {S} a now keys w distinct among = λ held stands.
         ∙ ap (λ o. is_some o) (sym (visible_by_entries same service_answers s now q))
       where
         by_entry : (o : Option Kept) → entry_of same (held_entries s.records) q ≡ o
-            → option_map_or (is_live_at a.frame.config now) (option_map (held_of (0 + a.frame.part_of q) s) o) false ≡ is_some (passing (is_visible service_answers s now) o)
+            → option_map_or (is_live_at a.frame.config now) (option_map (as_held_value (0 + a.frame.part_of q) s) o) false ≡ is_some (passing (is_visible service_answers s now) o)
         by_entry None found = refl
         by_entry (Some e) found =
             let k = enough-knows a.frame a.step now (a.frame.part_of q) a.parts s [] w.kept there in
             let early = k.early q e found in
             ap (λ b. not (is_covered service_answers s e) && not b) (sym (dead_is a.frame.config a.frame.made now (0 + a.frame.part_of q) s e k.brief k.settings early.0 early.1))
             ∙ and_comm (not (is_covered service_answers s e)) (not (has_come s.settings now e))
-            ∙ some-if (is_visible service_answers s now e) e
+            ∙ cond_both (is_visible service_answers s now e) (Some e) None (λ o. is_visible service_answers s now e ≡ is_some o) (λ t. t) (λ t. t)
 
 -- The calls that come to one part: what is seen, used, accepted and removed.
 
@@ -162,8 +159,8 @@ module _ {S : Type 0} (a : StoreOfParts S) (w : IsWhole a) where
   abbrev pub changed : (now next k : ℕ) → Part S → StoreOfParts S
   changed now next k new = record a { frame = at_moment a.frame now; parts = slice_set a.parts k (drained new); queue = a.queue ++ map note_from new.notices; step = next }
 
-  pub after-is : (now next k : ℕ) (s new : Part S) → slice_get a.parts k ≡ Some s → after now next (slice_set a.parts k new) a ≡ changed now next k new
-  after-is now next k s new there = grind (arith, all_drained-set, taken, waiting-set)
+  pub after_telling-is : (now next k : ℕ) (s new : Part S) → slice_get a.parts k ≡ Some s → after_telling now next (slice_set a.parts k new) a ≡ changed now next k new
+  after_telling-is now next k s new there = grind (arith, all_drained-set, taken, waiting-set)
 
   -- the notes that were told are handed on
   pub handed : (now : ℕ) (deed : Deed) (held : List HeldValue) (New : List HeldValue → Type 0) (notes : List Note) → Done a.frame.config now deed held New (λ told. told ≡ notes) → Done a.frame.config now deed held New (AppendsNotes a.queue (a.queue ++ notes))
@@ -197,7 +194,14 @@ peek {S} a now key s w there = λ held stands.
 
 pub look_up : {S : Type 0} (a : StoreOfParts S) (w : IsWhole a) (now next hash : ℕ) (key : List ℕ) (s new : Part S) → ComesTo a now next → slice_get a.parts (a.frame.part_of key) ≡ Some s
     → NotesLookUp service_answers same key hash now false s new → Does now (using key) (view a) (view (changed a w now next (a.frame.part_of key) new)) × IsWhole (changed a w now next (a.frame.part_of key) new)
-look_up {S} a w now next hash key s new at there look = (does, record { kept = keeps-look_up a.frame a.step now next k a.parts s new key hash (comes a w now next at) w.kept there look; small = (let l = no_more-after a w now (using key) (changed a w now next k new) refl does in let small = w.small in omega (arith, l, small)); unreserved = unreserved-with k s new a.parts there w.unreserved room })
+look_up {S} a w now next hash key s new at there look = (
+  does,
+  record {
+    kept = keeps-look_up a.frame a.step now next k a.parts s new key hash (comes a w now next at) w.kept there look;
+    small = (let l = no_more-after a w now (using key) (changed a w now next k new) refl does in let small = w.small in omega (arith, l, small));
+    unreserved = unreserved-with k s new a.parts there w.unreserved room;
+  },
+)
   where
     k : ℕ
     k = a.frame.part_of key
@@ -244,28 +248,30 @@ look_up {S} a w now next hash key s new at there look = (does, record { kept = k
 
 -- ---- `accept`
 
-own_used : (key : List ℕ) (b : Bool) (x : List ℕ) → (if b then Some key else None) ≡ Some x → x ≡ key
-own_used key true x is = cc
-own_used key false x is = absurd (none-some x is)
-
 -- the milliseconds of a value are few, and stand where there are own deadlines
 brief-ms : (own : Bool) (ms : Option ℕ) → IfSome ms (λ n. (n ≤ 999999999999) × IsTrue own) → (n : ℕ) → ms ≡ Some n → n ≤ 999999999999
 brief-ms own None fits n e = absurd (none-some n e)
 brief-ms own (Some m) fits n e = let is : m ≡ n = cc in let f = fits.0 in omega (arith, is, f)
 
 timed-ms : (own : Bool) (ms : Option ℕ) → IfSome ms (λ n. (n ≤ 999999999999) × IsTrue own) → IsTrue (own || is_none ms)
-timed-ms true ms fits = refl
-timed-ms false None fits = refl
-timed-ms false (Some m) fits = fits.1
+timed-ms own ms fits = grind (arith, fits)
 
 own-ms : (own : Bool) (ms : Option ℕ) → IfSome ms (λ n. (n ≤ 999999999999) × IsTrue own) → IsSome ms → IsTrue own
 own-ms own None fits some = absurd (both_ways false refl some)
 own-ms own (Some m) fits some = fits.1
 
 pub accept : {S : Type 0} (a : StoreOfParts S) (w : IsWhole a) (now next hash : ℕ) (key bytes : List ℕ) (ms : Option ℕ) (looked_up : Bool) (s new : Part S) → ComesTo a now next → IsAcceptable a.frame.config bytes ms → length (items_of 0 a.parts) < 2 ^ 50
-    → slice_get a.parts (a.frame.part_of key) ≡ Some s → Inserts service_answers same key hash (stored bytes ms) now next s new
+    → slice_get a.parts (a.frame.part_of key) ≡ Some s → Inserts service_answers same key hash (kept_value bytes ms) now next s new
     → Does now (accepting (if looked_up then Some key else None) (value_for a.frame now key bytes ms)) (view a) (view (changed a w now next (a.frame.part_of key) new)) × IsWhole (changed a w now next (a.frame.part_of key) new)
-accept {S} a w now next hash key bytes ms looked_up s new at fits few there call = (does, record { kept = keeps-accept a.frame a.step now next k a.parts s new key hash (stored bytes ms) (comes a w now next at) w.kept there fits.takes acceptable call; small = (let l = one_more-after a w now deed (changed a w now next k new) does in omega (arith, l, few)); unreserved = unreserved-with k s new a.parts there w.unreserved (maintained-room now t new maintained ∙ put-room key hash (stored bytes ms) now next s) })
+accept {S} a w now next hash key bytes ms looked_up s new at fits few there call = (
+  does,
+  record {
+    kept = keeps-accept a.frame a.step now next k a.parts s new key hash (kept_value bytes ms) (comes a w now next at) w.kept there fits.takes acceptable call;
+    small = (let l = one_more-after a w now deed (changed a w now next k new) does in omega (arith, l, few));
+    unreserved = unreserved-with k s new a.parts there w.unreserved
+        (maintained-room now t new maintained ∙ value_put-room key hash (kept_value bytes ms) now next s);
+  },
+)
   where
     k : ℕ
     k = a.frame.part_of key
@@ -282,14 +288,14 @@ accept {S} a w now next hash key bytes ms looked_up s new at fits few there call
     deed : Deed
     deed = accepting used value
 
-    acceptable : IsStorable a.frame k key (stored bytes ms)
+    acceptable : IsStorable a.frame k key (kept_value bytes ms)
     acceptable = record { placed = refl; short = fits.short; timed = timed-ms a.frame.config.own_deadlines ms fits.own }
 
     on : takes_nothing s.settings.capacity ≡ false
     on = ap (λ c. takes_nothing c.settings.capacity) part.front.made ∙ takes_values a.frame a.step a.parts w.kept fits.takes
 
     t : Part S
-    t = put key hash (stored bytes ms) now next s
+    t = value_put key hash (kept_value bytes ms) now next s
 
     maintained : Maintained now t new
     maintained = maintained_from now t new (call.takes on)
@@ -299,19 +305,19 @@ accept {S} a w now next hash key bytes ms looked_up s new at fits few there call
         let known = knows a w now k s there held in
         let front = part.front in
         handed a w now deed held _ (map note_from new.notices)
-        (accept_does a.frame.config a.frame.part_of a.frame.made now k s a.parts held known stands (parts_are a w) (tells a w k s there) part.taken key (put_entry s key (stored bytes ms) now next) t value
-        (wrote key hash (stored bytes ms) now next s front.ordered front.apart (tells a w k s there) front.sent) used (own_used key looked_up)
-        (value-new a.frame a.step now next k a.parts s held key hash (stored bytes ms) known stands.same (stands.marked k s known.there) (comes a w now next at) part acceptable (brief-ms a.frame.config.own_deadlines ms fits.own)) new maintained)
+        (accept_does a.frame.config a.frame.part_of a.frame.made now k s a.parts held known stands (parts_are a w) (tells a w k s there) part.taken key (put_entry s key (kept_value bytes ms) now next) t value
+        (wrote key hash (kept_value bytes ms) now next s front.ordered front.apart (tells a w k s there) front.sent) used (λ x is. sym (cond_some looked_up key x is).1)
+        (value-new a.frame a.step now next k a.parts s held key hash (kept_value bytes ms) known stands.same (stands.marked k s known.there) (comes a w now next at) part acceptable (brief-ms a.frame.config.own_deadlines ms fits.own)) new maintained)
 
     ticket : DrawsTicket s new
-    ticket = let e = maintained-ticket now t new maintained ∙ put-ticket key hash (stored bytes ms) now next s in omega (arith, e)
+    ticket = let e = maintained-ticket now t new maintained ∙ value_put-ticket key hash (kept_value bytes ms) now next s in omega (arith, e)
 
     does : Does now deed (view a) (view (changed a w now next k new))
     does = record {
       done = done;
       frame = ap (λ b. record a.frame { dropped = b; latest = now }) (sym (or-false a.frame.dropped));
-      used = accepts a.frame a.step next a.parts k s new key (stored bytes ms) hash now w.kept there at.rises (own-ms a.frame.config.own_deadlines ms fits.own) maintained;
-      drawn = keeps-with a w k s new there (inserted-no_more key hash now next (stored bytes ms) s new call);
+      used = accepts a.frame a.step next a.parts k s new key (kept_value bytes ms) hash now w.kept there at.rises (own-ms a.frame.config.own_deadlines ms fits.own) maintained;
+      drawn = keeps-with a w k s new there (inserted-no_more key hash now next (kept_value bytes ms) s new call);
       spent = spent-with a w now next k s new at there ticket;
     }
 
@@ -319,7 +325,15 @@ accept {S} a w now next hash key bytes ms looked_up s new at fits few there call
 
 pub remove : {S : Type 0} (a : StoreOfParts S) (w : IsWhole a) (now next : ℕ) (key : List ℕ) (s new : Part S) → ComesTo a now next → slice_get a.parts (a.frame.part_of key) ≡ Some s → TakesOut service_answers same key now s new
     → Does now (deleting key) (view a) (view (changed a w now next (a.frame.part_of key) new)) × IsWhole (changed a w now next (a.frame.part_of key) new)
-remove {S} a w now next key s new at there call = (does, record { kept = keeps-remove a.frame a.step now next k a.parts s new key (comes a w now next at) w.kept there call; small = (let l = no_more-after a w now (deleting key) (changed a w now next k new) refl does in let small = w.small in omega (arith, l, small)); unreserved = unreserved-with k s new a.parts there w.unreserved (room (held_at same s.records key) call) })
+remove {S} a w now next key s new at there call = (
+  does,
+  record {
+    kept = keeps-remove a.frame a.step now next k a.parts s new key (comes a w now next at) w.kept there call;
+    small = (let l = no_more-after a w now (deleting key) (changed a w now next k new) refl does in let small = w.small in omega (arith, l, small));
+    unreserved = unreserved-with k s new a.parts there w.unreserved
+        (room (held_at same s.records key) call);
+  },
+)
   where
     k : ℕ
     k = a.frame.part_of key
@@ -328,10 +342,10 @@ remove {S} a w now next key s new at there call = (does, record { kept = keeps-r
     part = w.kept.each k s there
 
     Ends : Option Rec → Type 0
-    Ends o = MatchOption o (new ≡ s) (λ r. MaintainsIfDue service_answers now (taken_out_whole service_answers r now s) new)
+    Ends o = MatchOption o (new ≡ s) (λ r. MaintainsIfDue service_answers now (taken_out service_answers r now s) new)
 
     -- a run came where it was due, behind the removal
-    maintained_some : (r : Rec) → MaintainsIfDue service_answers now (taken_out_whole service_answers r now s) new → Maintained now (removed key now s r) new
+    maintained_some : (r : Rec) → MaintainsIfDue service_answers now (taken_out service_answers r now s) new → Maintained now (removed key now s r) new
     maintained_some r m = maintained_from now (removed key now s r) new (subst (λ x. MaintainsIfDue service_answers now x new) (removal-is key now s r) m)
 
     maintained : (o : Option Rec) → Ends o → Maintained now (taking s now o o) new
@@ -343,7 +357,9 @@ remove {S} a w now next key s new at there call = (does, record { kept = keeps-r
       where
         go : (o : Option Rec) → held_at same s.records key ≡ o → Ends o → Done a.frame.config now (deleting key) held (Stands (slice_set a.parts k (drained new))) (λ notes. notes ≡ map note_from new.notices)
         go None e is = miss_does a.frame.config a.frame.part_of a.frame.made now k s new a.parts held (knows a w now k s there held) stands (parts_are a w) (tells a w k s there) part.taken part.front.apart key refl e (idle is)
-        go (Some r) e m = remove_does a.frame.config a.frame.part_of a.frame.made now k s a.parts held (knows a w now k s there held) stands (parts_are a w) (tells a w k s there) part.taken key r e (removed key now s r) (took_out key now s r part.front.ordered part.front.apart (tells a w k s there) part.front.sent e) new (maintained_some r m)
+        go (Some r) e m =
+            remove_does a.frame.config a.frame.part_of a.frame.made now k s a.parts held (knows a w now k s there held) stands (parts_are a w) (tells a w k s there) part.taken key r e (removed key now s r)
+            (took_out key now s r part.front.ordered part.front.apart (tells a w k s there) part.front.sent e) new (maintained_some r m)
 
     room : (o : Option Rec) → Ends o → new.reserved ≡ s.reserved
     room None is = ap (λ (x : Part S). x.reserved) is

@@ -8,7 +8,7 @@ use Rattle.engine_reference.specs.Calls.{removal_told, sent, with_read, with_rem
 use Rattle.engine_reference.specs.Runs.{RunsToEnd}
 use Rattle.engine_reference.proofs.RestKept.{run-rest}
 use Rattle.front_reference.specs.Parts.{taken_out}
-use Rattle.cache_front.specs.Parts.{Part, Stored, note_from, put, service_answers, drained}
+use Rattle.cache_front.specs.Parts.{Part, Stored, note_from, value_put, service_answers, drained}
 use Rattle.cache_front.proofs.parts.Removing.{removed}
 use Rattle.cache_front.proofs.parts.Joining.{Maintained, idle, ran}
 use Rattle.cache_front.proofs.parts.Items.{replaced-other, replaced-there}
@@ -91,8 +91,8 @@ module _ {S : Type 0} where
   same-sent : (ticket : ℕ) (t : Part S) → (sent ticket t).next_ticket ≡ t.next_ticket
   same-sent ticket t = grind arith
 
-  pub put-ticket : (key : List ℕ) (hash : ℕ) (value : Stored) (now step : ℕ) (s : Part S) → (put key hash value now step s).next_ticket ≡ s.next_ticket + 1
-  put-ticket key hash value now step s = grind (arith, same-sent s.next_ticket (written service_answers same (with_room s) key hash value now step), Rec)
+  pub value_put-ticket : (key : List ℕ) (hash : ℕ) (value : Stored) (now step : ℕ) (s : Part S) → (value_put key hash value now step s).next_ticket ≡ s.next_ticket + 1
+  value_put-ticket key hash value now step s = grind (arith, same-sent s.next_ticket (written service_answers same (with_room s) key hash value now step), Rec)
 
   pub removed-ticket : (key : List ℕ) (now : ℕ) (s : Part S) (r : Rec) → (removed key now s r).next_ticket ≡ s.next_ticket + 1
   removed-ticket key now s r = same-sent s.next_ticket (removal_told service_answers r.entry now (with_removed (Some r) s))
@@ -133,8 +133,8 @@ module _ {S : Type 0} where
   sent-room ticket t = grind arith
 
   -- a write takes the room that was made for it
-  pub put-room : (key : List ℕ) (hash : ℕ) (value : Stored) (now step : ℕ) (s : Part S) → (put key hash value now step s).reserved ≡ s.reserved
-  put-room key hash value now step s = grind (arith, sent-room s.next_ticket (written service_answers same (with_room s) key hash value now step), Rec)
+  pub value_put-room : (key : List ℕ) (hash : ℕ) (value : Stored) (now step : ℕ) (s : Part S) → (value_put key hash value now step s).reserved ≡ s.reserved
+  value_put-room key hash value now step s = grind (arith, sent-room s.next_ticket (written service_answers same (with_room s) key hash value now step), Rec)
 
   -- so does a removal's notice
   pub removed-room : (key : List ℕ) (now : ℕ) (s : Part S) (r : Rec) → (removed key now s r).reserved ≡ s.reserved

@@ -19,7 +19,7 @@ use Rattle.engine_reference.specs.Visible.{visible_record}
 use Rattle.engine_reference.proofs.Accounts.{each-map}
 use Rattle.cache_store.specs.Held.{plain}
 use Rattle.cache_store.proofs.Held.{permutation}
-use Rattle.cache_front.specs.Parts.{Part, Stands, Stored, IsProper, service_answers, items_of, items_in, held_of, put, taken_out, drained}
+use Rattle.cache_front.specs.Parts.{Part, Stands, Stored, IsProper, service_answers, items_of, items_in, as_held_value, value_put, key_taken_out, drained}
 use Rattle.cache_front.specs.Recent.{IsLasting, IsPlain, IsRecent, IsFresh, IsRecentOver, MovesRecency}
 use Rattle.cache_front.proofs.parts.Items.{apart-of}
 use Rattle.cache_front.proofs.parts.Moving.{run-front}
@@ -91,39 +91,43 @@ module _ {S : Type 0} where
   -- ---- the clauses
 
   -- `look_up`
-  pub look_ups : (frame : Frame) (step : ℕ) (parts : List (Part S)) (part : ℕ) (s mid : Part S) (key : List ℕ) (hash now : ℕ) → AreKeptParts frame step parts → slice_get parts part ≡ Some s → Maintained now s mid → MovesRecency frame.config parts (slice_set parts part (drained (with_read service_answers (visible_record service_answers same s now key) hash now mid))) (used_first key)
+  pub look_ups : (frame : Frame) (step : ℕ) (parts : List (Part S)) (part : ℕ) (s mid : Part S) (key : List ℕ) (hash now : ℕ) → AreKeptParts frame step parts → slice_get parts part ≡ Some s → Maintained now s mid
+      → MovesRecency frame.config parts (slice_set parts part (drained (with_read service_answers (visible_record service_answers same s now key) hash now mid))) (used_first key)
   look_ups frame step parts part s mid key hash now kept there maintained =
       moves frame.config parts part s (with_read service_answers (visible_record service_answers same s now key) hash now mid) (used_first key) kept.number there
       (λ n keys p r. look-recent n now hash s mid key keys (plain_kept frame n part step s p (kept.each part s there)) r (may_run now s mid maintained))
 
   -- `accept`
-  pub accepts : (frame : Frame) (step next : ℕ) (parts : List (Part S)) (part : ℕ) (s new : Part S) (key : List ℕ) (value : Stored) (hash now : ℕ) → AreKeptParts frame step parts → slice_get parts part ≡ Some s → step ≤ next → (IsSome value.milliseconds → IsTrue frame.config.own_deadlines) → Maintained now (put key hash value now next s) new → MovesRecency frame.config parts (slice_set parts part (drained new)) (put_first key)
+  pub accepts : (frame : Frame) (step next : ℕ) (parts : List (Part S)) (part : ℕ) (s new : Part S) (key : List ℕ) (value : Stored) (hash now : ℕ) → AreKeptParts frame step parts → slice_get parts part ≡ Some s
+      → step ≤ next → (IsSome value.milliseconds → IsTrue frame.config.own_deadlines) → Maintained now (value_put key hash value now next s) new → MovesRecency frame.config parts (slice_set parts part (drained new)) (put_first key)
   accepts frame step next_step parts part s new key value hash now kept there later timed maintained =
       moves frame.config parts part s new (put_first key) kept.number there
       (λ n keys p r.
       let k = kept.each part s there in
-      let t = put key hash value now next_step s in
+      let t = value_put key hash value now next_step s in
       let m = put_moves n now hash next_step s key value keys (plain_kept frame n part step s p k) (fresh_kept frame part step next_step s k later) (brief_from value.milliseconds frame.config.own_deadlines p.own timed) r in
       after-run n now t new (put_first key keys) m.0 m.1 (may_run now t new maintained))
 
   -- `remove`
-  pub removes : (frame : Frame) (step : ℕ) (parts : List (Part S)) (part : ℕ) (s new : Part S) (key : List ℕ) (now : ℕ) → AreKeptParts frame step parts → slice_get parts part ≡ Some s → Maintained now (taken_out key now s) new → MovesRecency frame.config parts (slice_set parts part (drained new)) (keys_without key)
+  pub removes : (frame : Frame) (step : ℕ) (parts : List (Part S)) (part : ℕ) (s new : Part S) (key : List ℕ) (now : ℕ) → AreKeptParts frame step parts → slice_get parts part ≡ Some s
+      → Maintained now (key_taken_out key now s) new → MovesRecency frame.config parts (slice_set parts part (drained new)) (keys_without key)
   removes frame step parts part s new key now kept there maintained =
       moves frame.config parts part s new (keys_without key) kept.number there
       (λ n keys p r.
-      let t = taken_out key now s in
+      let t = key_taken_out key now s in
       let m = removal_moves n now s key keys (plain_kept frame n part step s p (kept.each part s there)) r in
       after-run n now t new (keys_without key keys) m.0 m.1 (may_run now t new maintained))
 
   -- ---- keys as values held
 
   -- the keys of the entries of a part
-  keys-items : (part : ℕ) (s : Part S) (es : List Kept) → map (λ (h : HeldValue). h.value.key) (map (held_of part s) es) ≡ map (λ (e : Kept). e.key) es
+  keys-items : (part : ℕ) (s : Part S) (es : List Kept) → map (λ (h : HeldValue). h.value.key) (map (as_held_value part s) es) ≡ map (λ (e : Kept). e.key) es
   keys-items part s [] = refl
   keys-items part s (e ∷ es) = ap (λ ks. e.key ∷ ks) (keys-items part s es)
 
   -- a run of the one part
-  pub runs_all : (frame : Frame) (step now : ℕ) (parts news : List (Part S)) (notes : List Note) → AreKeptParts frame step parts → AllRan now parts news notes → (n : ℕ) (settled : Bool) (keys : List (List ℕ)) → IsPlainLru frame.config n → IsRecentOver frame.config parts settled keys → IsRecentOver frame.config news true (take (suc n) keys)
+  pub runs_all : (frame : Frame) (step now : ℕ) (parts news : List (Part S)) (notes : List Note) → AreKeptParts frame step parts → AllRan now parts news notes → (n : ℕ) (settled : Bool) (keys : List (List ℕ))
+      → IsPlainLru frame.config n → IsRecentOver frame.config parts settled keys → IsRecentOver frame.config news true (take (suc n) keys)
   runs_all frame step now [] news notes kept all n settled keys p r = absurd (let one : 0 ≡ 1 = kept.number ∙ p.parts in omega (arith, one))
   runs_all frame step now (x ∷ y ∷ parts) news notes kept all n settled keys p r = absurd (let one : suc (suc (length parts)) ≡ 1 = kept.number ∙ p.parts in omega (arith, one))
   runs_all frame step now (x ∷ []) news notes kept (next s new run none) n settled keys p r = record {
@@ -160,7 +164,7 @@ module _ {S : Type 0} where
   -- where no part has a record no value is held
   pub none-yet : (first : ℕ) (parts : List (Part S)) → ((k : ℕ) (s : Part S) → slice_get parts k ≡ Some s → s.records ≡ []) → items_of first parts ≡ []
   none-yet first [] each = refl
-  none-yet first (s ∷ parts) each = ap (λ rs. map (held_of first s) (held_entries rs) ++ items_of (suc first) parts) (each 0 s refl) ∙ none-yet (suc first) parts (λ k x there. each (suc k) x there)
+  none-yet first (s ∷ parts) each = ap (λ rs. map (as_held_value first s) (held_entries rs) ++ items_of (suc first) parts) (each 0 s refl) ∙ none-yet (suc first) parts (λ k x there. each (suc k) x there)
 
   -- it has no keys
   pub made : (config : Config) (name : Option (List ℕ)) (settings : Settings) (hasher : S) (rules : Weight) (parts : List (Part S)) → ((part : ℕ) (s : Part S) → slice_get parts part ≡ Some s → IsNew name settings hasher rules s) → IsRecentOver config parts true []

@@ -1,7 +1,7 @@
 -- A clear of all parts, a predicate in all, and identifiers drawn in vain.
-use Rattle.std.proofs.Common.{◌≡◌, refl, ap, ◌∙◌, sym, subst, ℕ, zero, suc, ◌≤◌, ◌<◌, max, arith, Bool, true, false, nat_eq, nat_lt, List, [], ◌∷◌, length, Some, slice_get, ◌+◌, ◌^◌, ◌++◌, Option}
+use Rattle.std.proofs.Common.{◌≡◌, refl, ap, ◌∙◌, sym, subst, ℕ, zero, suc, ◌≤◌, ◌<◌, max, arith, true, nat_eq, nat_lt, List, [], ◌∷◌, length, Some, slice_get, ◌+◌, ◌^◌, ◌++◌, Option}
 use Rattle.std.proofs.Math.Bool.{or-false, or-true, or_assoc}
-use Rattle.std.proofs.lemmas.Bool.{lt-ltb}
+use Rattle.std.proofs.lemmas.Bool.{lt-ltb, true_from_ne_false}
 use Rattle.std.proofs.lemmas.List.Folds.{list_any-append}
 use Rattle.std.proofs.lemmas.Option.{none-some}
 use Rattle.std.specs.List.{sum_by}
@@ -31,10 +31,10 @@ use Rattle.cache_front.proofs.whole.Calling.{comes, no_more-after, parted, parts
 use Rattle.cache_front.proofs.whole.Changing.{greatest-same, all-ran, drained-at, drained-length, drained-sum, ran-room, ran-ticket, ticket_within}
 use Rattle.cache_front.proofs.whole.Ordered.{keys_held, made as made_recent, none-yet, runs_all}
 use Rattle.cache_front.specs.Keeping.{AreKeptParts, at_moment}
-use Rattle.cache_front.specs.Parts.{IsProper, Part, Stored, drained, IsBrief, Stands, service_answers, settings_of}
+use Rattle.cache_front.specs.Parts.{IsProper, Part, Stored, drained, IsBrief, Stands, service_answers, part_settings}
 use Rattle.cache_front.specs.Recent.{IsRecentOver}
 use Rattle.cache_front.specs.Registering.{HasNoMore, register_of}
-use Rattle.cache_front.specs.View.{AreUnreserved, ComesTo, IsWhole, StoreOfParts, greatest_ticket, passed, view, after, all_drained, total_number, total_weight, waiting}
+use Rattle.cache_front.specs.View.{AreUnreserved, ComesTo, IsWhole, StoreOfParts, greatest_ticket, after_silently, view, after_telling, all_drained, number_in_all, weight_in_all, waiting}
 
 less-later : (a b c n : ℕ) → a ≤ b → b < n → nat_lt a (max c n) ≡ true
 less-later a b c n le lt = lt-ltb a (max c n) (omega (arith, le, lt))
@@ -63,8 +63,16 @@ keeps-each {S} a Rel news calls more = grind (arith, keeps_identifiers a.stream 
 clear-covers : {S : Type 0} (step n : ℕ) (s : Part S) → step < n → ((q : List ℕ) (e : Kept) → entry_of same (held_entries s.records) q ≡ Some e → e.step ≤ step) → CoversToo Everything s (cleared_by n s)
 clear-covers step n s lt early = grind (arith, less-later, or-true, Kept)
 
-pub clear : {S : Type 0} → (a : StoreOfParts S) (now next : ℕ) (parts : List (Part S)) → IsWhole a → ComesTo a now next → a.step < next → CallsEach (λ s t. t ≡ cleared_by next s) a.parts parts → Does now (covering Everything) (view a) (view (passed now next parts a)) × IsWhole (passed now next parts a)
-clear {S} a now n parts w at lt calls = (does, record { kept = keeps-clear a.frame a.step now n a.parts parts (comes a w now n at) w.kept calls; small = (let l = no_more-after a w now (covering Everything) (passed now n parts a) refl does in let small = w.small in omega (arith, l, small)); unreserved = free })
+pub clear : {S : Type 0} → (a : StoreOfParts S) (now next : ℕ) (parts : List (Part S)) → IsWhole a → ComesTo a now next → a.step < next → CallsEach (λ s t. t ≡ cleared_by next s) a.parts parts
+    → Does now (covering Everything) (view a) (view (after_silently now next parts a)) × IsWhole (after_silently now next parts a)
+clear {S} a now n parts w at lt calls = (
+  does,
+  record {
+    kept = keeps-clear a.frame a.step now n a.parts parts (comes a w now n at) w.kept calls;
+    small = (let l = no_more-after a w now (covering Everything) (after_silently now n parts a) refl does in let small = w.small in omega (arith, l, small));
+    unreserved = free;
+  },
+)
   where
     cover : AllCover Everything a.parts parts
     cover = all-cover Everything a.parts parts calls.count (λ k s there.
@@ -86,7 +94,7 @@ clear {S} a now n parts w at lt calls = (does, record { kept = keeps-clear a.fra
         let one : x.0 ≡ t = cc in
         sym (ap (λ (y : Part S). y.next_ticket) one) ∙ ap (λ (y : Part S). y.next_ticket) x.2)
 
-    does : Does now (covering Everything) (view a) (view (passed now n parts a))
+    does : Does now (covering Everything) (view a) (view (after_silently now n parts a))
     does = record {
       done = λ held stands. cover_does Everything a.frame.config a.frame.part_of now a.parts parts held a.queue a.queue cover (parted a w) stands (parts_are a w) refl;
       frame = ap (λ b. record a.frame { dropped = b; latest = now }) (sym (or-false a.frame.dropped));
@@ -117,8 +125,16 @@ first-of : {S : Type 0} (parts : List (Part S)) → 0 < length parts → (x : Pa
 first-of [] lt = absurd (omega (arith, lt))
 first-of (x ∷ parts) lt = (x, refl)
 
-pub drop : {S : Type 0} → (a : StoreOfParts S) (now next : ℕ) (prefix : List ℕ) (stream : Stream) (ids : List ℕ) → IsWhole a → ComesTo a now next → a.step < next → DrawAll a.parts a.stream stream ids → let b = record a { frame = record a.frame { dropped = true; latest = now }; parts = registered_in prefix next ids a.parts; stream = stream; step = next } in Does now (covering (Prefixed prefix)) (view a) (view b) × IsWhole b
-drop {S} a now n prefix stream ids w at lt drawn = (does, record { kept = keeps-cover a.frame a.step now n a.parts news (comes a w now n at) w.kept (covers-all n prefix a.parts a.stream stream ids drawn); small = (let l = no_more-after a w now (covering (Prefixed prefix)) b refl does in let small = w.small in omega (arith, l, small)); unreserved = free })
+pub drop : {S : Type 0} → (a : StoreOfParts S) (now next : ℕ) (prefix : List ℕ) (stream : Stream) (ids : List ℕ) → IsWhole a → ComesTo a now next → a.step < next → DrawAll a.parts a.stream stream ids
+    → let b = record a { frame = record a.frame { dropped = true; latest = now }; parts = registered_in prefix next ids a.parts; stream = stream; step = next } in Does now (covering (Prefixed prefix)) (view a) (view b) × IsWhole b
+drop {S} a now n prefix stream ids w at lt drawn = (
+  does,
+  record {
+    kept = keeps-cover a.frame a.step now n a.parts news (comes a w now n at) w.kept (covers-all n prefix a.parts a.stream stream ids drawn);
+    small = (let l = no_more-after a w now (covering (Prefixed prefix)) b refl does in let small = w.small in omega (arith, l, small));
+    unreserved = free;
+  },
+)
   where
     news : List (Part S)
     news = registered_in prefix n ids a.parts
@@ -168,27 +184,23 @@ lacks {S} a stream w vain = (
     registered = λ part id e. e;
     stands = λ held stands. stands;
     frame = refl;
-    dropped = go a.frame.dropped refl;
+    dropped = true_from_ne_false _ (λ e. never_in_vain a.parts a.stream stream (λ part s there. (w.kept.each part s there).own.undropped e) vain);
     untaken = refl;
     spent = refl;
   },
   record { kept = w.kept; small = w.small; unreserved = w.unreserved },
 )
-  where
-    go : (b : Bool) → a.frame.dropped ≡ b → a.frame.dropped ≡ true
-    go true e = e
-    go false e = absurd (never_in_vain a.parts a.stream stream (λ part s there. (w.kept.each part s there).own.undropped e) vain)
 
 -- A run of all parts, and what is so of every store of parts.
 
-settings : {S : Type 0} (a : StoreOfParts S) → IsWhole a → (k : ℕ) (s : Part S) → slice_get a.parts k ≡ Some s → s.settings ≡ settings_of a.frame.config a.frame.made
+settings : {S : Type 0} (a : StoreOfParts S) → IsWhole a → (k : ℕ) (s : Part S) → slice_get a.parts k ≡ Some s → s.settings ≡ part_settings a.frame.config a.frame.made
 settings a w k s there = ap (λ c. c.settings) (w.kept.each k s there).front.made
 
 -- ---- `run_all`
 
 module _ {S : Type 0} (a : StoreOfParts S) (w : IsWhole a) (now n : ℕ) (at : ComesTo a now n) (parts : List (Part S)) (calls : CallsEach (RunsPart service_answers now) a.parts parts) where
   abbrev ran_to : StoreOfParts S
-  ran_to = after now n parts a
+  ran_to = after_telling now n parts a
 
   all : AllRan now a.parts (all_drained parts) (waiting parts)
   all = all-ran now a.parts parts calls.count (λ k s there. let x = calls.each k s there in (x.0, x.1, x.2.runs))
@@ -248,10 +260,10 @@ module _ {S : Type 0} (a : StoreOfParts S) (w : IsWhole a) (now n : ℕ) (at : C
   counts held stands =
       counts_are_told a.frame.part_of now a.parts (all_drained parts) (waiting parts) held all (all-ready a.frame a.step now a.parts w.kept).1 (parted ran_to ran-whole) stands (let l = weighs held stands in omega (arith, l))
 
-  counted : (held : List HeldValue) → Stands (all_drained parts) held → (total_number parts ≡ length held) × (total_weight parts ≡ sum_by (λ (h : HeldValue). h.value.weight) held)
+  counted : (held : List HeldValue) → Stands (all_drained parts) held → (number_in_all parts ≡ length held) × (weight_in_all parts ≡ sum_by (λ (h : HeldValue). h.value.weight) held)
   counted held stands = grind (arith, counts, drained-sum, weighs, ran-whole)
 
-  ran-settled : IsSettled (view ran_to) (total_number parts) (total_weight parts)
+  ran-settled : IsSettled (view ran_to) (number_in_all parts) (weight_in_all parts)
   ran-settled = record {
     held = counted;
     within = λ held stands. within_all a.frame.config a.frame.part_of a.frame.made (all_drained parts) held (parted ran_to ran-whole) stands.same (parts_are ran_to ran-whole) (settings ran_to ran-whole)
@@ -266,7 +278,8 @@ module _ {S : Type 0} (a : StoreOfParts S) (w : IsWhole a) (now n : ℕ) (at : C
         sym (ap (λ (y : Part S). y.predicates) one) ∙ ap (λ (y : Part S). y.predicates) x.2.is ∙ x.2.runs.done.ended);
   }
 
-pub run_all : {S : Type 0} → (a : StoreOfParts S) (now next : ℕ) (parts : List (Part S)) → IsWhole a → ComesTo a now next → CallsEach (RunsPart service_answers now) a.parts parts → Does now syncing (view a) (view (after now next parts a)) × IsWhole (after now next parts a) × IsSettled (view (after now next parts a)) (total_number parts) (total_weight parts)
+pub run_all : {S : Type 0} → (a : StoreOfParts S) (now next : ℕ) (parts : List (Part S)) → IsWhole a → ComesTo a now next → CallsEach (RunsPart service_answers now) a.parts parts
+    → Does now syncing (view a) (view (after_telling now next parts a)) × IsWhole (after_telling now next parts a) × IsSettled (view (after_telling now next parts a)) (number_in_all parts) (weight_in_all parts)
 run_all {S} a now n parts w at calls = (ran-does a w now n at parts calls, ran-whole a w now n at parts calls, ran-settled a w now n at parts calls)
 
 -- ---- `sound`
@@ -295,11 +308,14 @@ pub no_steps : {S : Type 0} (a : StoreOfParts S) → 2 ^ 64 ≤ suc a.step → I
 no_steps a lack = omega (arith, lack)
 
 -- a store that was just created holds nothing
-pub made : {S : Type 0} → (a : StoreOfParts S) (name : Option (List ℕ)) (hasher : S) → length a.parts ≡ part_count a.frame.config → ((key : List ℕ) → a.frame.part_of key < part_count a.frame.config) → IsBrief a.frame.config → a.frame.made < 2 ^ 63 → a.frame.latest ≡ a.frame.made → a.step ≡ 0 → ((part : ℕ) (s : Part S) → slice_get a.parts part ≡ Some s → IsNew name (settings_of a.frame.config a.frame.made) hasher a.frame.config.weight s) → IsWhole a × ((view a).count ≡ 0) × IsRecentOver a.frame.config a.parts true []
+pub made : {S : Type 0} → (a : StoreOfParts S) (name : Option (List ℕ)) (hasher : S) → length a.parts ≡ part_count a.frame.config → ((key : List ℕ) → a.frame.part_of key < part_count a.frame.config)
+    → IsBrief a.frame.config → a.frame.made < 2 ^ 63 → a.frame.latest ≡ a.frame.made → a.step ≡ 0
+    → ((part : ℕ) (s : Part S) → slice_get a.parts part ≡ Some s → IsNew name (part_settings a.frame.config a.frame.made) hasher a.frame.config.weight s)
+    → IsWhole a × ((view a).count ≡ 0) × IsRecentOver a.frame.config a.parts true []
 made {S} a name hasher number placed brief range first step new =
     let none = none-yet 0 a.parts (λ k s there. (new k s there).records) in
     let count = ap (λ xs. length xs) none in (
       record { kept = subst (λ m. AreKeptParts a.frame m a.parts) (sym step) (news-kept a.frame name hasher a.parts number placed brief range first new); small = (let c = count in omega (arith, c)); unreserved = λ k s there. (new k s there).reserved },
       count,
-      made_recent a.frame.config name (settings_of a.frame.config a.frame.made) hasher a.frame.config.weight a.parts new,
+      made_recent a.frame.config name (part_settings a.frame.config a.frame.made) hasher a.frame.config.weight a.parts new,
     )

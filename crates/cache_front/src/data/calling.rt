@@ -6,7 +6,7 @@ ghost use Rattle.engine_reference.specs.Calls.{cleared_by};
 ghost use Rattle.front_state.specs.Showing.{IsShown};
 ghost use Rattle.front_reference.specs.Fronts.{CallsAll, part_of};
 ghost use Rattle.front_reference.specs.Wholes.{DrawsInVain};
-ghost use Rattle.cache_front.specs.View.{stored};
+ghost use Rattle.cache_front.specs.View.{kept_value};
 ghost use Rattle.cache_front.specs.Data.{hash_with, CoversBy, InsertsBy, LackTickets, TakesOutBy};
 
 use crate::data::{Front, Notes};
@@ -32,7 +32,7 @@ pub fn prepare(
     milliseconds: Option<u64>,
 ) -> Result<StoredValue, AllocError>
     requires short { length bytes.now ≤ 8192 }
-    ensures value { IfOk result (λ value. value ≡ stored bytes.now milliseconds) }
+    ensures value { IfOk result (λ value. value ≡ kept_value bytes.now milliseconds) }
     ensures few { OnOk result (count < 2 ^ 50) }
     ensures room { OnOk result (length notes.new.items + suc count ≤ deque_capacity notes.new) }
     ensures same { notes.new.items ≡ notes.old.items }

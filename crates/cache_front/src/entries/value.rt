@@ -4,7 +4,7 @@ ghost use Rattle.std.specs.Duration.{as_nanos};
 ghost use Rattle.std.specs.Int.{to_le_bytes, w64};
 ghost use Rattle.audit_model.specs.History.{weight_of};
 ghost use Rattle.cache_front.specs.Parts.{nanos};
-ghost use Rattle.cache_front.specs.View.{stored};
+ghost use Rattle.cache_front.specs.View.{kept_value};
 ghost use Rattle.cache_front.specs.Blocks.{stored_in, tail_of, time_in_block};
 
 use audit_model::Weight;
@@ -47,7 +47,7 @@ impl StoredValue {
         milliseconds: Option<u64>,
     ) -> Result<StoredValue, AllocError>
         requires { length bytes.now ≤ 8192 }
-        ensures { IfOk result (λ made. made ≡ stored bytes.now milliseconds) }
+        ensures { IfOk result (λ made. made ≡ kept_value bytes.now milliseconds) }
     {
         let block = block_of(alloc, bytes, milliseconds)?;
         Ok(StoredValue { block })
@@ -107,7 +107,8 @@ fn block_of(alloc: Global, bytes: &[u8], milliseconds: Option<u64>) -> Result<Ve
     ensures ends { IfOk result (λ block. 1 ≤ tail_of block.items) }
     ensures fits { IfOk result (λ block. tail_of block.items ≤ length block.items) }
     ensures short { IfOk result (λ block. length block.items - tail_of block.items ≤ 8192) }
-    ensures shown { IfOk result (λ block. stored_in block.items ≡ stored bytes.now milliseconds) }
+    ensures shown { IfOk result
+        (λ block. stored_in block.items ≡ kept_value bytes.now milliseconds) }
 {
     match milliseconds {
         Some(milliseconds) => {

@@ -40,7 +40,7 @@ impl<R: Rng + Drop, S: BuildHasher + Drop> Model for FrontStore<R, S> {
     ghost use Rattle.std.specs.VecDeque.{deque_capacity};
     ghost use Rattle.cache_front.specs.declared.entries.hasher.WordBuilder.{WordBuilder};
     ghost use Rattle.cache_front.specs.Data.{StoreData, word_of};
-    ghost use Rattle.cache_front.specs.State.{IsFit, store_of};
+    ghost use Rattle.cache_front.specs.State.{IsFitStore, store_of};
 
     ghost Value = { StoreData R (WordBuilder S) };
 
@@ -53,7 +53,7 @@ impl<R: Rng + Drop, S: BuildHasher + Drop> Model for FrontStore<R, S> {
       front = s.front;
     } };
 
-    ghost invariant = { λ s. IsFit (store_of (word_of S.BuildHasher S.Hasher.Hasher)
+    ghost invariant = { λ s. IsFitStore (store_of (word_of S.BuildHasher S.Hasher.Hasher)
         s.config s.made s.dropped s.notes.items (R.stream s.generator) s.front) s.count
         (deque_capacity s.notes) };
 }

@@ -13,7 +13,7 @@ use Rattle.audit_model.specs.History.{Action, Running, Holding, Delivering, Aban
 use Rattle.audit_model.specs.Obeys.{has_right_own_value, is_numbered}
 use Rattle.audit_model.specs.Places.{due, left_after, tasks_to_answer, tasks_to_give_up, steps_of}
 use Rattle.audit_model.specs.Replies.{load_sent_by, outcome_text}
-use Rattle.audit_model.specs.Situation.{Situation, Connection, HeldValue, connection_in, is_waiting_now, key_in, live_at, may_run_in, view_in, waiting_in, with_connection}
+use Rattle.audit_model.specs.Situation.{Situation, Connection, HeldValue, connection_in, is_waiting_now, pending_key, live_at, may_run_in, view_in, waiting_in, with_connection}
 use Rattle.audit_model.specs.Steps.{Task, Deliver, RunAgain, RunLines, action_by, action_in, action_of_line, effect_in, is_right, Store}
 use Rattle.audit_model.specs.declared.config.Config.{Config}
 use Rattle.audit_model.specs.declared.event.Outcome.{Outcome}
@@ -65,7 +65,7 @@ told-waits n told s tidy =
     let c = counted (connection_in n s) waits in
     (c.0, c.1, found-number n s.connections c.0 c.1, c.2)
 
-pub answer-tidy : (load moment : ℕ) (outcome : Outcome) (s : Situation) → Tidy [] s → Tidy (still_told (tasks_to_answer (key_in load s) outcome (waiting_in load s))) (without_load load moment s)
+pub answer-tidy : (load moment : ℕ) (outcome : Outcome) (s : Situation) → Tidy [] s → Tidy (still_told (tasks_to_answer (pending_key load s) outcome (waiting_in load s))) (without_load load moment s)
 answer-tidy load moment outcome s tidy =
     let conns = waiting_in load s in
     subst (λ told. Tidy told (without_load load moment s)) (sym (told-delivers outcome conns (map RunLines conns) ∙ ap (λ ds. conns ++ ds) (told-lines conns) ∙ append-nil conns)) (settled-tidy load moment s tidy)
@@ -245,7 +245,7 @@ settled making places s t entry drawn drawing order behind admitted numbered own
 
 -- its value is stored, and then the steps of connections come
 pub answer : (making : Making) (places : ℕ) (s t : Situation) (load moment : ℕ) (key : List ℕ) (outcome : Outcome) (accepted : Option Accepted) (told : List Note) (ran : List Step) (drawn kept drawing : Identifiers) (order behind : Order)
-    → refusal_of making.config (known_in s) (event.Answer load outcome (record { nanos = moment })) ≡ None → key_in load s ≡ Some key
+    → refusal_of making.config (known_in s) (event.Answer load outcome (record { nanos = moment })) ≡ None → pending_key load s ≡ Some key
     → has_right_own_value (record_answered load outcome moment accepted told ran) ≡ true
     → DoesRight making.config (without_load load moment s) (Storing (Some key) outcome) (step_silent 0 [] None accepted told)
     → has_its_part making.part_of (effect_in making.config (view_in making.config (without_load load moment s)) (Storing (Some key) outcome) (step_silent 0 [] None accepted told)) ≡ true

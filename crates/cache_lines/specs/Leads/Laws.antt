@@ -7,7 +7,7 @@ use Rattle.audit_model.specs.Grammar.{reading}
 use Rattle.audit_model.specs.History.{Running, Delivering, Abandoning, Storing, Holding}
 use Rattle.audit_model.specs.Obeys.{has_right_own_value}
 use Rattle.audit_model.specs.Places.{tasks_to_answer, tasks_to_give_up}
-use Rattle.audit_model.specs.Situation.{Situation, Connection, connection_in, is_waiting_now, key_in, live_at, may_run_in, view_in, waiting_in}
+use Rattle.audit_model.specs.Situation.{Situation, Connection, connection_in, is_waiting_now, pending_key, live_at, may_run_in, view_in, waiting_in}
 use Rattle.audit_model.specs.Steps.{Task, Deliver, RunAgain, RunLines, effect_in}
 use Rattle.audit_model.specs.declared.config.Config.{Config}
 use Rattle.audit_model.specs.declared.event.Outcome.{Outcome}
@@ -64,7 +64,7 @@ ToldWaits =
 abbrev pub AnswerTidy : Type 0
 AnswerTidy =
     (load moment : ℕ) (outcome : Outcome) (s : Situation) → Tidy [] s
-    → Tidy (still_told (tasks_to_answer (key_in load s) outcome (waiting_in load s)))
+    → Tidy (still_told (tasks_to_answer (pending_key load s) outcome (waiting_in load s)))
     (without_load load moment s)
 
 -- or given up
@@ -197,7 +197,7 @@ AnswerSettles =
     (drawn kept drawing : Identifiers) (order behind : Order)
     → refusal_of making.config (known_in s) (event.Answer load outcome (record {
       nanos = moment;
-    })) ≡ None → key_in load s ≡ Some key
+    })) ≡ None → pending_key load s ≡ Some key
     → has_right_own_value (record_answered load outcome moment accepted told steps) ≡ true
     → DoesRight making.config (without_load load moment s) (Storing (Some key) outcome)
     (step_silent 0 [] None accepted told)

@@ -20,7 +20,7 @@ use Rattle.cache_run.specs.Devices.Watched.{device, failures}
 use Rattle.cache_run.specs.Driver.Causes.{Because, HasAsked, RunsFor, RunsOut, GoesOn, Reads}
 use Rattle.cache_run.specs.Driver.Driven.{MovesSession, Spot, EndsBroke, EndsOn, IsClosed, Settles, asks_nobody, HasReadNothing, Stopped, Underway, unfed, ComesToProgress, Finished, GoesForward, IsAnyFooting, Since, StandsAsLeft, beside}
 use Rattle.cache_run.specs.Driver.Drives.{IsLate, IsOfHand, LeftUndone, Outside, Talks, asked_of, late_of, lost_of, no_rest}
-use Rattle.cache_run.specs.Driver.Exchanges.{Doing, Exchange, Hands, asks_of, bytes_fed, readings_of, AreDone, Fed, HaveClosed, HoldsNothing, Keeps, LeavesNothing, Outs, EachOut, IsLastInHand, LeavesInHand, Looked, Settled, load_number, settling_asking, Chain, askings_in, moments_in, pieces_in, replies_in}
+use Rattle.cache_run.specs.Driver.Exchanges.{Doing, Exchange, Hands, asks_of, bytes_fed, readings_of, AreDone, Fed, HaveClosed, HoldsNothing, ComeIntoHand, LeavesNothing, Outs, EachOut, IsLastInHand, LeavesInHand, Looked, Settled, load_number, settling_asking, Chain, askings_in, moments_in, pieces_in, replies_in}
 use Rattle.cache_run.specs.Driver.Hosting.{Stops, WereSent, footing_by, SettlesBy, SuitsRequest, exchange_of, text_of}
 use Rattle.cache_run.specs.declared.devices.errors.RunError.{RunError}
 use Rattle.cache_run.specs.declared.devices.errors.RunError.TheVariants.{Moment, Read, Write, OutOfMemory, UsedUp}
@@ -125,7 +125,7 @@ holds-none piece moment false None is = tt
 holds-none piece moment true None is = let no : true ≡ false = is in cc
 
 -- loads that are wanted and kept where none was in hand
-pub keeps-none : (loads : Option Outs) (before after : Outs) → Keeps loads before after → is_some loads ≡ true → after ≡ [] → loads ≡ Some []
+pub keeps-none : (loads : Option Outs) (before after : Outs) → ComeIntoHand loads before after → is_some loads ≡ true → after ≡ [] → loads ≡ Some []
 keeps-none None before after keeps some none = let no : false ≡ true = some in cc
 keeps-none (Some l) before after keeps some none = ap Some (sym keeps.1 ∙ none)
 
@@ -193,7 +193,7 @@ module _ (Fact : ℕ → List ℕ → Type 0) where
   each-rest Looked hand rest leaves all = subst (EachOut Fact) (sym leaves) all
 
   -- and of those that are taken
-  pub each-kept : (loads : Option Outs) (rest after : Outs) → Keeps loads rest after → IfSome loads (EachOut Fact) → EachOut Fact rest → EachOut Fact after
+  pub each-kept : (loads : Option Outs) (rest after : Outs) → ComeIntoHand loads rest after → IfSome loads (EachOut Fact) → EachOut Fact rest → EachOut Fact after
   each-kept None rest after keeps given all = subst (EachOut Fact) (sym keeps) all
   each-kept (Some loads) rest after keeps given all = subst (EachOut Fact) (sym keeps.1) given
 
@@ -229,14 +229,14 @@ pub wanted-by : (n count : ℕ) → count ≡ n → n ≤ 1 → nat_le count 1 �
 wanted-by n count counted few = le-leb count 1 (omega (arith, counted, few))
 
 -- where loads are wanted behind the last in hand, and none is in hand then, they were taken and there was none
-settled-none : (wants : Bool) (loads : Option Outs) (hand rest after : Outs) (load : ℕ) (key : List ℕ) → IsLastInHand hand load key rest → (length hand ≤ 1 → wants ≡ true) → (wants ≡ true → is_some loads ≡ true) → Keeps loads rest after → after ≡ [] → loads ≡ Some []
+settled-none : (wants : Bool) (loads : Option Outs) (hand rest after : Outs) (load : ℕ) (key : List ℕ) → IsLastInHand hand load key rest → (length hand ≤ 1 → wants ≡ true) → (wants ≡ true → is_some loads ≡ true) → ComeIntoHand loads rest after → after ≡ [] → loads ≡ Some []
 settled-none wants (Some l) hand rest after load key last wanted given keeps none = keeps-none (Some l) rest after keeps refl none
 settled-none wants None hand rest after load key last wanted given keeps none = grind arith
 
 module _ {H K D : Type 0} {Came : Conn → H → Exchange → H → Type 0} {Closes : Conn → H → H → Type 0} {reads : K → ℕ → K → Type 0} {loads : D → List ℕ → Option Outcome → D → Type 0} (lent : Bool) (s t : Session) (p q : Spot H K D) (load moment : ℕ) (key : List ℕ) (said : Option Outcome) (rest : Outs)
     (last : IsLastInHand s.taken.items load key rest) (told : reads p.clock moment q.clock) (asked : loads p.loader key said q.loader) (inbox : t.inbox ≡ s.inbox) where
   -- the last load in hand was settled, and what came of it is handed out
-  pub settle-goes : (wants : Bool) (one : Given) (doing : Doing) → SettlesBy load moment (record { key = key; answer = said }) doing → Came s.conn p.place (exchange_of doing one) q.place → Keeps (option_map (λ loads. loads.items) one.owed.loads) rest t.taken.items → t.footing ≡ footing_by one.owed.closing one.owed.waits
+  pub settle-goes : (wants : Bool) (one : Given) (doing : Doing) → SettlesBy load moment (record { key = key; answer = said }) doing → Came s.conn p.place (exchange_of doing one) q.place → ComeIntoHand (option_map (λ loads. loads.items) one.owed.loads) rest t.taken.items → t.footing ≡ footing_by one.owed.closing one.owed.waits
       → SuitsRequest lent wants one → (length s.taken.items ≤ 1 → wants ≡ true) → (w : Type 0) (o : Result (Unit {0}) RunError) → WereSent o (text_of one) p.contents q.contents → IfErr o (Because ⊥ w ⊥ ⊥) → Settles Came Closes reads loads lent o s t p q
   settle-goes wants one doing by came keeps footing suits wanted =
       let asking : Asking = record { key = key; answer = said } in

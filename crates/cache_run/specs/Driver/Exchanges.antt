@@ -97,15 +97,15 @@ LeavesInHand (Settled settling moment) hand rest =
 LeavesInHand Looked hand rest = rest ≡ hand
 
 -- loads that are taken come into the hand, if none was left there
-abbrev pub Keeps : Option Outs → Outs → Outs → Type 0
-Keeps None rest after = after ≡ rest
-Keeps (Some loads) rest after = (rest ≡ []) × (after ≡ loads)
+abbrev pub ComeIntoHand : Option Outs → Outs → Outs → Type 0
+ComeIntoHand None rest after = after ≡ rest
+ComeIntoHand (Some loads) rest after = (rest ≡ []) × (after ≡ loads)
 
 -- from one hand to the other
 pub record Hands (exchange : Exchange) (before after : Outs) : Type 0 where
   pub rest : Outs
   pub leaves : LeavesInHand exchange.doing before rest
-  pub keeps : Keeps exchange.loads rest after
+  pub keeps : ComeIntoHand exchange.loads rest after
 
 -- ---- one after another
 

@@ -3,7 +3,7 @@ ghost use Rattle.std.specs.Prelude.{◌≡◌, ◌≢◌, ◌≤◌, ℕ, [], Li
 ghost use Rattle.std.specs.Option.{option_map};
 ghost use Rattle.cache_run.specs.Devices.Sent.{SentBut};
 ghost use Rattle.cache_run.specs.Devices.Watched.{device, failures};
-ghost use Rattle.cache_run.specs.Driver.Exchanges.{Keeps};
+ghost use Rattle.cache_run.specs.Driver.Exchanges.{ComeIntoHand};
 ghost use Rattle.cache_run.specs.Driver.Causes.{Because, Fails};
 ghost use Rattle.cache_run.specs.Driver.Hosting.{WereSent, footing_by, text_of};
 
@@ -40,7 +40,7 @@ pub fn hand_out<W: Write>(
     writer: &mut Watched<W>,
 ) -> Result<(), RunError>
     requires empty { given.owed.loads ≢ None → session.old.taken.items ≡ [] }
-    ensures keeps { Keeps (option_map (λ loads. loads.items) given.owed.loads)
+    ensures keeps { ComeIntoHand (option_map (λ loads. loads.items) given.owed.loads)
         session.old.taken.items session.new.taken.items }
     ensures same { (session.new.conn ≡ session.old.conn) × (session.new.inbox ≡ session.old.inbox) }
     ensures footing { session.new.footing ≡ footing_by given.owed.closing given.owed.waits }

@@ -2,7 +2,7 @@
 use Rattle.std.proofs.Common.{◌≡◌, ◌≢◌, refl, ap, sym, ◌∙◌, subst, ℕ, ◌+◌, ◌<◌, ◌≤◌, inl, inr, arith, List, length, set, length-set}
 use Rattle.std.proofs.lemmas.Bool.{cases_lt, cases_eq}
 use Rattle.engine_cells.specs.declared.keys.Slot.{Slot}
-use Rattle.engine_cells.specs.Keys.Slots.{nowhere, vacant, slot_at, IsTaken, taken_in, home_of, steps_to, IsOnWay, AreFound, AreFoundIn, IsHoled, LeavesOut, Loses}
+use Rattle.engine_cells.specs.Keys.Slots.{nowhere, vacant_slot, slot_at, HoldsPlace, taken_in, home_of, steps_to, IsOnWay, AreFound, AreFoundIn, IsHoled, LeavesOut, Loses}
 use Rattle.engine_cells.proofs.keys.Around.{home-below, to-below, one_to, passes, ahead, around}
 use Rattle.engine_cells.proofs.keys.Tables.{at-set, off-set, taken-within, along, still-taken, taken-same, taken-less, all-taken}
 
@@ -10,7 +10,7 @@ use Rattle.engine_cells.proofs.keys.Tables.{at-set, off-set, taken-within, along
 pub record AreMoved (old now : List Slot) (from hole steps : ℕ) : Type 0 where
   pub holed : IsHoled old now from hole
   pub before : steps_to (length old) from hole < steps
-  pub seen : (k : ℕ) → k < length old → steps_to (length old) from k < steps → IsTaken now k
+  pub seen : (k : ℕ) → k < length old → steps_to (length old) from k < steps → HoldsPlace now k
   pub behind : (k : ℕ) → k < length old → steps_to (length old) from hole < steps_to (length old) from k → steps_to (length old) from k < steps
       → IsOnWay (length old) (slot_at now k).tag k hole → ⊥
 
@@ -22,12 +22,12 @@ module _ (old now : List Slot) (from hole steps at : ℕ) (f : from < length old
   ]
 
   -- the place of the next slot stays where it is
-  pub moved-stays : IsTaken now at → (IsOnWay (length old) (slot_at now at).tag at hole → ⊥) → AreMoved old now from hole (steps + 1)
+  pub moved-stays : HoldsPlace now at → (IsOnWay (length old) (slot_at now at).tag at hole → ⊥) → AreMoved old now from hole (steps + 1)
   moved-stays taken off = record {
     holed = moved.holed;
     before = omega (arith, moved.before);
     seen = λ k less near. elim (cases_eq k at) [
-      | inl e ↦ subst (λ i. IsTaken now i) (sym e) taken
+      | inl e ↦ subst (λ i. HoldsPlace now i) (sym e) taken
       | inr ne ↦ moved.seen k less (other-slot k less near ne)
     ];
     behind = λ k less far near way. elim (cases_eq k at) [
@@ -40,7 +40,7 @@ module _ (old now : List Slot) (from hole steps at : ℕ) (f : from < length old
   apart e = absurd (omega (arith, moved.before, ap (λ k. steps_to (length old) from k) e))
 
   -- or moves up into the free one, and its own is the free one then
-  module _ (taken : IsTaken now at) (way : IsOnWay (length old) (slot_at now at).tag at hole) where
+  module _ (taken : HoldsPlace now at) (way : IsOnWay (length old) (slot_at now at).tag at hole) where
     inside : hole < length now
     inside = omega (arith, moved.holed.long, moved.holed.within)
 
@@ -50,7 +50,7 @@ module _ (old now : List Slot) (from hole steps at : ℕ) (f : from < length old
     off : (k : ℕ) → k ≢ hole → slot_at (set now hole (slot_at now at)) k ≡ slot_at now k
     off k ne = off-set now hole k (slot_at now at) ne
 
-    stays : (x : ℕ) → IsTaken now x → IsTaken (set now hole (slot_at now at)) x
+    stays : (x : ℕ) → HoldsPlace now x → HoldsPlace (set now hole (slot_at now at)) x
     stays x t = still-taken now hole (slot_at now at) inside taken x t
 
     -- where each slot's place stood before
@@ -100,7 +100,7 @@ module _ (old now : List Slot) (from hole steps at : ℕ) (f : from < length old
       before = omega arith;
       seen = λ k less near. stays k (
           elim (cases_eq k at) [
-            | inl e ↦ subst (λ i. IsTaken now i) (sym e) taken
+            | inl e ↦ subst (λ i. HoldsPlace now i) (sym e) taken
             | inr ne ↦ moved.seen k less (other-slot k less near ne)
           ]
           );
@@ -109,7 +109,7 @@ module _ (old now : List Slot) (from hole steps at : ℕ) (f : from < length old
 
   -- the same, of what is read of the next slot
   module _ (x : Slot) (n : ℕ) (is_read : x ≡ slot_at now at) (place : x.place < nowhere) (many : n ≡ length old) where
-    next-taken : IsTaken now at
+    next-taken : HoldsPlace now at
     next-taken = omega (arith, ap (λ s. s.place) is_read)
 
     pub moved-yes : IsOnWay n x.tag at hole → AreMoved old (set now hole x) from at (steps + 1)
@@ -136,7 +136,7 @@ module _ (old now : List Slot) (from hole steps at : ℕ) (f : from < length old
       let in_hole = moved.holed.within in
       let before = moved.before in
       let reached : steps_to (length old) hole at ≤ steps_to (length old) hole k → ⊥ = λ le.
-      let t' : IsTaken now at = moved.holed.reached k at ne t within (passes (length old) h hole at k hb in_hole within less w le) in
+      let t' : HoldsPlace now at = moved.holed.reached k at ne t within (passes (length old) h hole at k hb in_hole within less w le) in
       omega arith
       in
       let to_at = ahead (length old) from hole at f in_hole within (omega arith) in
@@ -160,39 +160,39 @@ moved-never old now from hole steps f loose all moved =
     omega (arith, moved.holed.long, moved.holed.count)
 
 -- the free slot is made vacant
-module _ (old now : List Slot) (from hole : ℕ) (there : IsTaken old from) (found : AreFound old) (holed : IsHoled old now from hole) (leaves : LeavesOut now hole) where
+module _ (old now : List Slot) (from hole : ℕ) (there : HoldsPlace old from) (found : AreFound old) (holed : IsHoled old now from hole) (leaves : LeavesOut now hole) where
   room : hole < length now
   room = omega (arith, holed.long, holed.within)
 
   -- what is still taken
-  stood : (k : ℕ) → IsTaken (set now hole vacant) k → (k ≢ hole) × (slot_at (set now hole vacant) k ≡ slot_at now k)
+  stood : (k : ℕ) → HoldsPlace (set now hole vacant_slot) k → (k ≢ hole) × (slot_at (set now hole vacant_slot) k ≡ slot_at now k)
   stood k t = elim (cases_eq k hole) [
-    | inl e ↦ absurd (omega (arith, ap (λ i. (slot_at (set now hole vacant) i).place) e, ap (λ s. s.place) (at-set now hole vacant room)))
-    | inr ne ↦ (ne, off-set now hole k vacant ne)
+    | inl e ↦ absurd (omega (arith, ap (λ i. (slot_at (set now hole vacant_slot) i).place) e, ap (λ s. s.place) (at-set now hole vacant_slot room)))
+    | inr ne ↦ (ne, off-set now hole k vacant_slot ne)
   ]
 
-  pub taken-found : AreFound (set now hole vacant)
-  taken-found = subst (λ n. AreFoundIn n (set now hole vacant)) (sym (length-set now hole vacant)) (record {
+  pub taken-found : AreFound (set now hole vacant_slot)
+  taken-found = subst (λ n. AreFoundIn n (set now hole vacant_slot)) (sym (length-set now hole vacant_slot)) (record {
     reached = λ k x t less w.
         let s = stood k t in
-        let t' = along now (set now hole vacant) k k (sym s.1) t in
+        let t' = along now (set now hole vacant_slot) k k (sym s.1) t in
         let w' : IsOnWay (length now) (slot_at now k).tag k x = subst (λ h. IsOnWay (length now) h k x) (ap (λ q. q.tag) s.1) w in
         let r = holed.reached k x s.0 t' (omega (arith, holed.long)) (subst (λ n. IsOnWay n (slot_at now k).tag k x) holed.long w') in
         let ne : x ≢ hole = λ e. leaves k s.0 t' (subst (λ i. IsOnWay (length now) (slot_at now k).tag k i) e w') in
-        along (set now hole vacant) now x x (off-set now hole x vacant ne) r;
+        along (set now hole vacant_slot) now x x (off-set now hole x vacant_slot ne) r;
     once = λ k j t same.
         let a = stood k t in
-        let b = stood j (along (set now hole vacant) (set now hole vacant) j k same t) in
-        holed.once k j a.0 b.0 (along now (set now hole vacant) k k (sym a.1) t) (sym b.1 ∙ same ∙ a.1);
+        let b = stood j (along (set now hole vacant_slot) (set now hole vacant_slot) j k same t) in
+        holed.once k j a.0 b.0 (along now (set now hole vacant_slot) k k (sym a.1) t) (sym b.1 ∙ same ∙ a.1);
   })
 
-  pub taken-lost : Loses old (set now hole vacant) from
+  pub taken-lost : Loses old (set now hole vacant_slot) from
   taken-lost = record {
-    long = length-set now hole vacant ∙ holed.long;
+    long = length-set now hole vacant_slot ∙ holed.long;
     count = omega (arith, taken-less now hole room holed.full, holed.count);
-    others = λ k t ne. let o = holed.others k t ne in (o.0, off-set now hole o.0 vacant o.1 ∙ o.2);
+    others = λ k t ne. let o = holed.others k t ne in (o.0, off-set now hole o.0 vacant_slot o.1 ∙ o.2);
     only = λ j t.
         let s = stood j t in
-        let o = holed.only j s.0 (along now (set now hole vacant) j j (sym s.1) t) in
+        let o = holed.only j s.0 (along now (set now hole vacant_slot) j j (sym s.1) t) in
         (o.0, o.1, o.2 ∙ sym s.1);
   }

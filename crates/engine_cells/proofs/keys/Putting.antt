@@ -6,7 +6,7 @@ use Rattle.std.proofs.lemmas.List.{take_all}
 use Rattle.std.specs.Prelude.{nat_lt, Option, Some, None, IfNone}
 use Rattle.engine_cells.specs.declared.keys.Slot.{Slot}
 use Rattle.engine_cells.specs.Keys.Spots.{tag_of, ComesUnder, LeavesFrom, OnlyGainsSpace}
-use Rattle.engine_cells.specs.Keys.Slots.{entries_in, nowhere, vacant, slot_at, IsTaken, taken_in, home_of, steps_on, steps_to, IsOnWay, Has, HasAll, AreFound, IsFirstVacant, Adds, Loses}
+use Rattle.engine_cells.specs.Keys.Slots.{entries_in, nowhere, vacant_slot, slot_at, HoldsPlace, taken_in, home_of, steps_on, steps_to, IsOnWay, Has, HasAll, AreFound, IsFirstVacant, Adds, Loses}
 use Rattle.engine_cells.proofs.keys.Around.{home-below, to-below, on-to, reaches}
 use Rattle.engine_cells.proofs.keys.Tables.{at-set, off-set, taken-within, taken-more, all-taken, has-among, among-has, both}
 
@@ -16,7 +16,7 @@ all-seen many home P within each k less = subst P (on-to many home k within less
 
 -- the first vacant slot of a walk
 pub first-vacant : (xs : List Slot) (tag n home steps at : ℕ) → n ≡ length xs → home ≡ home_of tag n → steps < length xs → at ≡ steps_on n home steps
-    → ((t : ℕ) → t < steps → IsTaken xs (steps_on n home t)) → nowhere ≤ (slot_at xs at).place → IsFirstVacant xs tag at
+    → ((t : ℕ) → t < steps → HoldsPlace xs (steps_on n home t)) → nowhere ≤ (slot_at xs at).place → IsFirstVacant xs tag at
 first-vacant xs tag n home steps at many is less on before none =
     let home_is : home ≡ home_of tag (length xs) = is ∙ ap (λ k. home_of tag k) many in
     let f : home < length xs = omega (arith, home_is, home-below tag (length xs) (omega arith)) in
@@ -27,14 +27,14 @@ first-vacant xs tag n home steps at many is less on before none =
       before = λ k within nearer.
           let e : steps_to (length xs) (home_of tag (length xs)) k ≡ steps_to (length xs) home k = ap (λ h. steps_to (length xs) h k) (sym home_is) in
           let e' : steps_to (length xs) (home_of tag (length xs)) at ≡ steps_to (length xs) home at = ap (λ h. steps_to (length xs) h at) (sym home_is) in
-          subst (λ i. IsTaken xs i) (ap (λ m. steps_on m home (steps_to (length xs) home k)) many ∙ on-to (length xs) home k f within) (before (steps_to (length xs) home k) (omega (arith, here.0)));
+          subst (λ i. HoldsPlace xs i) (ap (λ m. steps_on m home (steps_to (length xs) home k)) many ∙ on-to (length xs) home k f within) (before (steps_to (length xs) home k) (omega (arith, here.0)));
     }
 
 -- there is a vacant slot
-pub never-full : (xs : List Slot) (tag n home steps : ℕ) → n ≡ length xs → home ≡ home_of tag n → taken_in xs < length xs → length xs ≤ steps → ((t : ℕ) → t < steps → IsTaken xs (steps_on n home t)) → ⊥
+pub never-full : (xs : List Slot) (tag n home steps : ℕ) → n ≡ length xs → home ≡ home_of tag n → taken_in xs < length xs → length xs ≤ steps → ((t : ℕ) → t < steps → HoldsPlace xs (steps_on n home t)) → ⊥
 never-full xs tag n home steps many is loose all seen =
     let f : home < length xs = omega (arith, is ∙ ap (λ k. home_of tag k) many, home-below tag (length xs) (omega arith)) in
-    let full = all-taken xs (all-seen (length xs) home (λ k. IsTaken xs k) f (λ t less. subst (λ k. IsTaken xs (steps_on k home t)) many (seen t (omega arith)))) in
+    let full = all-taken xs (all-seen (length xs) home (λ k. HoldsPlace xs k) f (λ t less. subst (λ k. HoldsPlace xs (steps_on k home t)) many (seen t (omega arith)))) in
     omega arith
 
 -- what is so of the places under a tag that come before a vacant slot is so of all
@@ -44,7 +44,7 @@ before-vacant xs tag n home steps at many is less on found none P each place (k,
     let home_is : home ≡ home_of tag (length xs) = is ∙ ap (λ i. home_of tag i) many in
     let f : home < length xs = omega (arith, home_is, home-below tag (length xs) (omega arith)) in
     let here = reaches n (length xs) home steps at many f less on in
-    let taken : IsTaken xs k = omega (arith, ap (λ s. s.place) there) in
+    let taken : HoldsPlace xs k = omega (arith, ap (λ s. s.place) there) in
     let within = taken-within xs k taken in
     let stop : steps_on n home (steps_to (length xs) home k) ≡ k = ap (λ m. steps_on m home (steps_to (length xs) home k)) many ∙ on-to (length xs) home k f within in
     elim (cases_lt (steps_to (length xs) home k) steps) [
@@ -60,7 +60,7 @@ before-vacant xs tag n home steps at many is less on found none P each place (k,
 pub before-end : (xs : List Slot) (tag n home steps : ℕ) → n ≡ length xs → (0 < n → home < n) → length xs ≤ steps
     → (P : ℕ → Type 0) → ((t : ℕ) → t < steps → (slot_at xs (steps_on n home t)).tag ≡ tag → P (slot_at xs (steps_on n home t)).place) → (place : ℕ) → Has xs tag place → P place
 before-end xs tag n home steps many f all P each place (k, there, fits) =
-    let taken : IsTaken xs k = omega (arith, ap (λ s. s.place) there) in
+    let taken : HoldsPlace xs k = omega (arith, ap (λ s. s.place) there) in
     let within = taken-within xs k taken in
     let inside : home < length xs = omega (arith, many, f) in
     let slot : slot_at xs (steps_on n home (steps_to (length xs) home k)) ≡ record { tag = tag; place = place } = ap (slot_at xs) (ap (λ m. steps_on m home (steps_to (length xs) home k)) many ∙ on-to (length xs) home k inside within) ∙ there in
@@ -153,11 +153,11 @@ pub record HasFirst (others now : List Slot) (many k : ℕ) : Type 0 where
   pub found : AreFound now
   pub long : length now ≡ many
   pub count : taken_in now ≡ taken_in (take k others)
-  pub has : (j : ℕ) → j < k → IsTaken others j → Has now (slot_at others j).tag (slot_at others j).place
+  pub has : (j : ℕ) → j < k → HoldsPlace others j → Has now (slot_at others j).tag (slot_at others j).place
   pub only : (h p : ℕ) → Has now h p → (j : ℕ) × (j < k) × (slot_at others j ≡ record { tag = h; place = p })
 
 module _ (others now : List Slot) (many k : ℕ) (whole : AreFound others) (first : HasFirst others now many k) (within : k < length others) where
-  pub first-absent : IsTaken others k → Has now (slot_at others k).tag (slot_at others k).place → ⊥
+  pub first-absent : HoldsPlace others k → Has now (slot_at others k).tag (slot_at others k).place → ⊥
   first-absent t u =
       let o = first.only (slot_at others k).tag (slot_at others k).place u in
       let e : o.0 ≡ k = whole.once k o.0 t o.2 in
@@ -168,7 +168,7 @@ module _ (others now : List Slot) (many k : ℕ) (whole : AreFound others) (firs
   first-no none = record {
     found = first.found;
     long = first.long;
-    count = first.count ∙ sym (count_by_more_no (λ q. nat_lt q.place nowhere) others k vacant within (le-ltb (slot_at others k).place nowhere none));
+    count = first.count ∙ sym (count_by_more_no (λ q. nat_lt q.place nowhere) others k vacant_slot within (le-ltb (slot_at others k).place nowhere none));
     has = λ j less t. elim (cases_eq j k) [
       | inl e ↦ absurd (omega (arith, ap (λ i. (slot_at others i).place) e))
       | inr ne ↦ first.has j (omega (arith, ne)) t
@@ -176,7 +176,7 @@ module _ (others now : List Slot) (many k : ℕ) (whole : AreFound others) (firs
     only = λ h p u. let o = first.only h p u in let less = o.1 in (o.0, omega arith, o.2);
   }
 
-  pub first-yes : (new : List Slot) → IsTaken others k → AreFound new → Adds now new (slot_at others k).tag (slot_at others k).place → HasFirst others new many (k + 1)
+  pub first-yes : (new : List Slot) → HoldsPlace others k → AreFound new → Adds now new (slot_at others k).tag (slot_at others k).place → HasFirst others new many (k + 1)
   first-yes new t found adds = record {
     found = found;
     long = added-length now new (slot_at others k).tag (slot_at others k).place t adds ∙ first.long;
@@ -184,7 +184,7 @@ module _ (others now : List Slot) (many k : ℕ) (whole : AreFound others) (firs
       arith,
       added-count now new (slot_at others k).tag (slot_at others k).place t adds,
       first.count,
-      count_by_more_yes (λ q. nat_lt q.place nowhere) others k vacant within (lt-ltb (slot_at others k).place nowhere t),
+      count_by_more_yes (λ q. nat_lt q.place nowhere) others k vacant_slot within (lt-ltb (slot_at others k).place nowhere t),
     );
     has = λ j less u. elim (cases_eq j k) [
       | inl e ↦ subst (λ i. Has new (slot_at others i).tag (slot_at others i).place) (sym e) (added-there now new (slot_at others k).tag (slot_at others k).place t adds)
@@ -211,7 +211,7 @@ pub first-end : (others now : List Slot) (many k : ℕ) → length others ≤ k 
 first-end others now many k all first = (
   record {
     others = λ h p u.
-        let t : IsTaken others u.0 = (let at = u.1 in let less = u.2 in omega (arith, ap (λ s. s.place) at)) in
+        let t : HoldsPlace others u.0 = (let at = u.1 in let less = u.2 in omega (arith, ap (λ s. s.place) at)) in
         let e : slot_at others u.0 ≡ record { tag = h; place = p } = u.1 in
         subst (λ (s : Slot). Has now s.tag s.place) e (first.has u.0 (omega (arith, taken-within others u.0 t)) t);
     only = λ h p u. let o = first.only h p u in (o.0, o.2, u.2);

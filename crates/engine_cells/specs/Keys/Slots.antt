@@ -7,16 +7,16 @@ use Rattle.engine_cells.specs.declared.keys.Slot.{Slot}
 abbrev pub nowhere : ℕ
 nowhere = 4294967295
 
-abbrev pub vacant : Slot
-vacant = record { tag = 0; place = nowhere }
+abbrev pub vacant_slot : Slot
+vacant_slot = record { tag = 0; place = nowhere }
 
 -- the content of a slot
 abbrev pub slot_at : List Slot → ℕ → Slot
-slot_at slots k = slice_index_or slots k vacant
+slot_at slots k = slice_index_or slots k vacant_slot
 
 -- a place is in a slot
-abbrev pub IsTaken : List Slot → ℕ → Type 0
-IsTaken slots k = (slot_at slots k).place < nowhere
+abbrev pub HoldsPlace : List Slot → ℕ → Type 0
+HoldsPlace slots k = (slot_at slots k).place < nowhere
 
 -- how many slots are taken
 abbrev pub taken_in : List Slot → ℕ
@@ -61,9 +61,9 @@ pub record HasAll (old new : List Slot) : Type 0 where
 
 -- of this many slots, each that is on a place's way is taken, and no place is in two
 pub record AreFoundIn (many : ℕ) (slots : List Slot) : Type 0 where
-  pub reached : (k at : ℕ) → IsTaken slots k → at < many → IsOnWay many (slot_at slots k).tag k at
-      → IsTaken slots at
-  pub once : (k at : ℕ) → IsTaken slots k → slot_at slots at ≡ slot_at slots k → at ≡ k
+  pub reached : (k at : ℕ) → HoldsPlace slots k → at < many → IsOnWay many (slot_at slots k).tag k at
+      → HoldsPlace slots at
+  pub once : (k at : ℕ) → HoldsPlace slots k → slot_at slots at ≡ slot_at slots k → at ≡ k
 
 -- each place is found from its tag's home on
 abbrev pub AreFound : List Slot → Type 0
@@ -74,7 +74,7 @@ pub record IsFirstVacant (slots : List Slot) (tag result : ℕ) : Type 0 where
   pub within : result < length slots
   pub vacant : nowhere ≤ (slot_at slots result).place
   pub before : (at : ℕ) → at < length slots → steps_to (length slots) (home_of tag (length slots))
-      at < steps_to (length slots) (home_of tag (length slots)) result → IsTaken slots at
+      at < steps_to (length slots) (home_of tag (length slots)) result → HoldsPlace slots at
 
 -- a place was put into a slot that was vacant
 pub record Adds (old new : List Slot) (tag place : ℕ) : Type 0 where
@@ -87,24 +87,24 @@ pub record Adds (old new : List Slot) (tag place : ℕ) : Type 0 where
 pub record IsHoled (old new : List Slot) (from hole : ℕ) : Type 0 where
   pub long : length new ≡ length old
   pub within : hole < length old
-  pub full : IsTaken new hole
+  pub full : HoldsPlace new hole
   pub count : taken_in new ≡ taken_in old
-  pub others : (k : ℕ) → IsTaken old k → k ≢ from → (j : ℕ) × (j ≢ hole)
+  pub others : (k : ℕ) → HoldsPlace old k → k ≢ from → (j : ℕ) × (j ≢ hole)
       × (slot_at new j ≡ slot_at old k)
-  pub only : (j : ℕ) → j ≢ hole → IsTaken new j → (k : ℕ) × (k ≢ from)
+  pub only : (j : ℕ) → j ≢ hole → HoldsPlace new j → (k : ℕ) × (k ≢ from)
       × (slot_at old k ≡ slot_at new j)
-  pub once : (k j : ℕ) → k ≢ hole → j ≢ hole → IsTaken new k → slot_at new j ≡ slot_at new k → j ≡ k
-  pub reached : (k at : ℕ) → k ≢ hole → IsTaken new k → at < length old
-      → IsOnWay (length old) (slot_at new k).tag k at → IsTaken new at
+  pub once : (k j : ℕ) → k ≢ hole → j ≢ hole → HoldsPlace new k → slot_at new j ≡ slot_at new k → j ≡ k
+  pub reached : (k at : ℕ) → k ≢ hole → HoldsPlace new k → at < length old
+      → IsOnWay (length old) (slot_at new k).tag k at → HoldsPlace new at
 
 -- a slot is on no other place's way
 abbrev pub LeavesOut : List Slot → ℕ → Type 0
 LeavesOut slots hole =
-    (k : ℕ) → k ≢ hole → IsTaken slots k → IsOnWay (length slots) (slot_at slots k).tag k hole → ⊥
+    (k : ℕ) → k ≢ hole → HoldsPlace slots k → IsOnWay (length slots) (slot_at slots k).tag k hole → ⊥
 
 -- the place of a slot was removed, and the others may be in other slots
 pub record Loses (old new : List Slot) (from : ℕ) : Type 0 where
   pub long : length new ≡ length old
   pub count : taken_in new + 1 ≡ taken_in old
-  pub others : (k : ℕ) → IsTaken old k → k ≢ from → (j : ℕ) × (slot_at new j ≡ slot_at old k)
-  pub only : (j : ℕ) → IsTaken new j → (k : ℕ) × (k ≢ from) × (slot_at old k ≡ slot_at new j)
+  pub others : (k : ℕ) → HoldsPlace old k → k ≢ from → (j : ℕ) × (slot_at new j ≡ slot_at old k)
+  pub only : (j : ℕ) → HoldsPlace new j → (k : ℕ) × (k ≢ from) × (slot_at old k ≡ slot_at new j)

@@ -11,13 +11,13 @@ pub record Spots : Type 0 where
   pub space : ℕ
 
 -- one of the entries has this tag and this place
-abbrev pub IsAmong : List (ℕ × ℕ) → ℕ → ℕ → Type 0
-IsAmong [] tag place = ⊥
-IsAmong (entry ∷ rest) tag place = ((entry.0 ≡ tag) × (entry.1 ≡ place)) ⊎ IsAmong rest tag place
+abbrev pub HasEntry : List (ℕ × ℕ) → ℕ → ℕ → Type 0
+HasEntry [] tag place = ⊥
+HasEntry (entry ∷ rest) tag place = ((entry.0 ≡ tag) × (entry.1 ≡ place)) ⊎ HasEntry rest tag place
 
 -- a place is under a hash: under its tag
 abbrev pub IsUnder : Spots → ℕ → ℕ → Type 0
-IsUnder spots hash place = IsAmong spots.entries (tag_of hash) place
+IsUnder spots hash place = HasEntry spots.entries (tag_of hash) place
 
 -- each place is where it was and no other is, and there may be more room
 pub record OnlyGainsSpace (old new : Spots) : Type 0 where

@@ -10,7 +10,7 @@ use Rattle.policy_base.specs.declared.name.NodeId.{NodeId}
 use Rattle.policy_queue.specs.declared.timers.array.Due.{Due}
 use Rattle.policy_queue.specs.declared.timers.array.Timer.{Timer}
 use Rattle.policy_queue.specs.declared.timers.array.TimerNode.{TimerNode}
-use Rattle.policy_queue.specs.Timers.Timers.{Timers, Keeps, OnlyGainsRoom, Schedules, Replaces, TimerLeaves, moved}
+use Rattle.policy_queue.specs.Timers.Timers.{Timers, KeepsAllButTimers, OnlyGainsRoom, Schedules, Replaces, TimerLeaves, moved}
 use Rattle.engine_pending.specs.Timers.Awaited.{Awaited, IsTimed, IsAwaited, IsSet, KeepsOthers, name_at, LacksPlace, IsOwned}
 
 pub longer : (names : List (Option NodeId)) (i : ℕ) → name_at (names ++ None ∷ []) i ≡ name_at names i
@@ -59,7 +59,7 @@ own-place wheel names place id t h named there same = h.single t.node.entry_info
 -- ---- a timer goes
 
 module _ (old new : Timers) (names : List (Option NodeId)) (place : ℕ) (id : NodeId) (node : TimerNode) (h : IsOwned old names) (named : name_at names place ≡ Some id)
-    (leaves : TimerLeaves old.timers new.timers id node) (keeps : Keeps old new) where
+    (leaves : TimerLeaves old.timers new.timers id node) (keeps : KeepsAllButTimers old new) where
   stayed : (t : Timer) → Contains new.timers t → Contains old.timers t
   stayed t there = Contains-permutation (leaves.timer ∷ new.timers) old.timers t (IsPermutation-sym _ _ leaves.timers) (Contains-cons leaves.timer t new.timers there)
 
@@ -85,7 +85,7 @@ module _ (old new : Timers) (names : List (Option NodeId)) (place : ℕ) (id : N
 -- ---- a timer moves
 
 module _ (old new : Timers) (names : List (Option NodeId)) (place time : ℕ) (id : NodeId) (due : Due) (h : IsOwned old names) (named : name_at names place ≡ Some id)
-    (at : due.time ≡ time) (moves : Replaces old.timers new.timers id due) (keeps : Keeps old new) where
+    (at : due.time ≡ time) (moves : Replaces old.timers new.timers id due) (keeps : KeepsAllButTimers old new) where
   abbrev there-after : Timer
   there-after = moved moves.timer due.time due.expiry_gen
 
@@ -201,6 +201,6 @@ pub record Stops (new : Timers) (names : List (Option NodeId)) (place : ℕ) (ol
   pub others : KeepsOthers place old new.timers
 
 pub stops : {E : Type 0} (old new : Timers) (names : List (Option NodeId)) (place : ℕ) (id : NodeId) → IsOwned old names → name_at names place ≡ Some id → (r : Result TimerNode E)
-    → IfOk r (λ node. TimerLeaves old.timers new.timers id node) → OnOk r (Keeps old new) → OnErr r (new ≡ old) → Stops new names place old.timers
+    → IfOk r (λ node. TimerLeaves old.timers new.timers id node) → OnOk r (KeepsAllButTimers old new) → OnErr r (new ≡ old) → Stops new names place old.timers
 stops old new names place id h named (Ok node) leaves keeps same = record { owned = owned-left old new names place id node h named leaves keeps; others = others-left old new names place id node h named leaves keeps }
 stops old new names place id h named (Err e) leaves keeps same = record { owned = subst (λ w. IsOwned w names) (sym same) h; others = others-same place old.timers new.timers (ap (λ (w : Timers). w.timers) same) }

@@ -9,7 +9,7 @@ use Rattle.engine_reference.specs.declared.data.Write.TheVariants.{Put, Removed}
 use Rattle.engine_reference.specs.Records.{record_at, without_record, changed_at, weight_at, admitted_weight}
 use Rattle.engine_reference.specs.Soundness.{AreNumbered}
 use Rattle.engine_reference.proofs.Evicting.{weight_from}
-use Rattle.engine_reference.proofs.Accounts.{numbered-changed, numbered-without}
+use Rattle.engine_reference.proofs.Accounts.{cond_none, numbered-changed, numbered-without}
 use Rattle.engine_reference.specs.RunLaws.Points.{with_write, IsKeptBy, AreKept}
 
 kept-less : (w : Write) (a b : ℕ) → a ≤ b → IsKeptBy w b → IsKeptBy w a
@@ -50,13 +50,8 @@ module _ {K V : Type 0} where
 
   head-number : (x : Record K V) (xs rs : List (Record K V)) → Fewer (x ∷ xs) rs → (n : ℕ) → record_at rs n ≡ None → (x.number ≡ n → ⊥) × Fewer xs rs
   head-number x xs [] h n none = elim h [ ]
-  head-number x xs (r ∷ rs) h n none = go (eqb r.number n) refl none h (λ k e. head-number x xs rs k n e)
-    where
-      go : (b : Bool) → eqb r.number n ≡ b → cond b (Some r) (record_at rs n) ≡ None → ((x.number ≡ r.number) × (weight_at x ≤ weight_at r) × Fewer xs rs) ⊎ Fewer (x ∷ xs) rs
-          → (Fewer (x ∷ xs) rs → record_at rs n ≡ None → (x.number ≡ n → ⊥) × Fewer xs rs) → (x.number ≡ n → ⊥) × Fewer xs (r ∷ rs)
-      go true t none k later = absurd (cc)
-      go false t none (inl k) later = ((λ e. eqb-false r.number n t (sym k.0 ∙ e)), fewer-more r xs rs k.2)
-      go false t none (inr k) later = let l = later k none in (l.0, fewer-more r xs rs l.1)
+  head-number x xs (r ∷ rs) (inl k) n none = let other = (cond_none (eqb r.number n) r (record_at rs n) none).0 in ((λ e. eqb-false r.number n other (sym k.0 ∙ e)), fewer-more r xs rs k.2)
+  head-number x xs (r ∷ rs) (inr k) n none = let l = head-number x xs rs k n (cond_none (eqb r.number n) r (record_at rs n) none).1 in (l.0, fewer-more r xs rs l.1)
 
   pub changed-none : (n : ℕ) (change : Record K V → Record K V) (xs rs : List (Record K V)) → Fewer xs rs → record_at rs n ≡ None → changed_at n change xs ≡ xs
   changed-none n change [] rs h none = refl
@@ -104,17 +99,19 @@ module _ {K V : Type 0} where
       both true false s t k later = absurd (eqb-false r.number u.number t (sym k.0 ∙ eqb-true x.number u.number s))
       both false true s t k later = absurd (eqb-false x.number u.number s (k.0 ∙ eqb-true r.number u.number t))
 
-      past : (c : Bool) → eqb r.number u.number ≡ c → Fewer (x ∷ xs) rs → Fewer (with_write (Put u) (x ∷ xs)) (with_write (Put u) rs) → Fewer (with_write (Put u) (x ∷ xs)) (cond c (change r ∷ rs) (r ∷ changed_at u.number change rs))
-      past true t k later =
+      past : Fewer (x ∷ xs) rs → Fewer (with_write (Put u) (x ∷ xs)) (with_write (Put u) rs) → Fewer (with_write (Put u) (x ∷ xs)) (with_write (Put u) (r ∷ rs))
+      past k later =
+          cond_both (eqb r.number u.number) _ _ (λ l. Fewer (with_write (Put u) (x ∷ xs)) l)
+          (λ t.
           let none : record_at rs u.number ≡ None = ap (λ n. record_at rs n) (sym (eqb-true r.number u.number t)) ∙ numbered.0 in
-          fewer-more (change r) (with_write (Put u) (x ∷ xs)) rs (subst (λ l. Fewer l rs) (sym (changed-none u.number change (x ∷ xs) rs k none)) k)
-      past false t k later = fewer-more r (with_write (Put u) (x ∷ xs)) (changed_at u.number change rs) later
+          fewer-more (change r) (with_write (Put u) (x ∷ xs)) rs (subst (λ l. Fewer l rs) (sym (changed-none u.number change (x ∷ xs) rs k none)) k))
+          (λ _. fewer-more r (with_write (Put u) (x ∷ xs)) (changed_at u.number change rs) later)
 
       go : ((x.number ≡ r.number) × (weight_at x ≤ weight_at r) × Fewer xs rs) ⊎ Fewer (x ∷ xs) rs
           → (Fewer xs rs → Fewer (with_write (Put u) xs) (with_write (Put u) rs)) → (Fewer (x ∷ xs) rs → Fewer (with_write (Put u) (x ∷ xs)) (with_write (Put u) rs))
           → Fewer (with_write (Put u) (x ∷ xs)) (with_write (Put u) (r ∷ rs))
       go (inl k) one two = both (eqb x.number u.number) (eqb r.number u.number) refl refl k (one k.2)
-      go (inr k) one two = past (eqb r.number u.number) refl k (two k)
+      go (inr k) one two = past k (two k)
 
   pub fewer-removed : (n : ℕ) (xs rs : List (Record K V)) → AreNumbered rs → Fewer xs rs → Fewer (without_record n xs) (without_record n rs)
   fewer-removed n [] rs numbered h = tt
@@ -128,17 +125,19 @@ module _ {K V : Type 0} where
       both true false s t k later = absurd (eqb-false r.number n t (sym k.0 ∙ eqb-true x.number n s))
       both false true s t k later = absurd (eqb-false x.number n s (k.0 ∙ eqb-true r.number n t))
 
-      past : (c : Bool) → eqb r.number n ≡ c → Fewer (x ∷ xs) rs → Fewer (without_record n (x ∷ xs)) (without_record n rs) → Fewer (without_record n (x ∷ xs)) (cond c rs (r ∷ without_record n rs))
-      past true t k later =
+      past : Fewer (x ∷ xs) rs → Fewer (without_record n (x ∷ xs)) (without_record n rs) → Fewer (without_record n (x ∷ xs)) (without_record n (r ∷ rs))
+      past k later =
+          cond_both (eqb r.number n) _ _ (λ l. Fewer (without_record n (x ∷ xs)) l)
+          (λ t.
           let none : record_at rs n ≡ None = ap (λ m. record_at rs m) (sym (eqb-true r.number n t)) ∙ numbered.0 in
-          subst (λ l. Fewer l rs) (sym (without-none_of n (x ∷ xs) rs k none)) k
-      past false t k later = fewer-more r (without_record n (x ∷ xs)) (without_record n rs) later
+          subst (λ l. Fewer l rs) (sym (without-none_of n (x ∷ xs) rs k none)) k)
+          (λ _. fewer-more r (without_record n (x ∷ xs)) (without_record n rs) later)
 
       go : ((x.number ≡ r.number) × (weight_at x ≤ weight_at r) × Fewer xs rs) ⊎ Fewer (x ∷ xs) rs
           → (Fewer xs rs → Fewer (without_record n xs) (without_record n rs)) → (Fewer (x ∷ xs) rs → Fewer (without_record n (x ∷ xs)) (without_record n rs))
           → Fewer (without_record n (x ∷ xs)) (without_record n (r ∷ rs))
       go (inl k) one two = both (eqb x.number n) (eqb r.number n) refl refl k (one k.2)
-      go (inr k) one two = past (eqb r.number n) refl k (two k)
+      go (inr k) one two = past k (two k)
 
   pub fewer-write : (w : Write) (xs rs : List (Record K V)) → AreNumbered rs → Fewer xs rs → Fewer (with_write w xs) (with_write w rs)
   fewer-write (Put u) xs rs numbered h = fewer-put u xs rs numbered h

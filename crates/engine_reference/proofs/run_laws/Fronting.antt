@@ -1,8 +1,8 @@
 -- Evictions within a run take the shortest front that reaches the excess.
-use Rattle.std.proofs.Common.{◌≡◌, refl, ap, sym, ◌∙◌, subst, ℕ, zero, suc, ◌+◌, ◌-◌, ◌<◌, ◌≤◌, ◌||◌, arith, Bool, true, false, true≢false, cond, List, [], ◌∷◌, ◌++◌, Some, None, append_assoc, append-nil, inl, inr, eqb}
+use Rattle.std.proofs.Common.{◌≡◌, refl, ap, sym, ◌∙◌, subst, ℕ, zero, suc, ◌+◌, ◌-◌, ◌<◌, ◌≤◌, ◌||◌, arith, Bool, true, false, true≢false, cond, List, [], ◌∷◌, ◌++◌, Some, append_assoc, append-nil, inl, inr}
 use Rattle.std.specs.Prelude.{remove, nat_lt}
 use Rattle.std.specs.List.{list_any}
-use Rattle.std.proofs.lemmas.Bool.{eqb-true, ne_eqb, ltb-true, cases_eq}
+use Rattle.std.proofs.lemmas.Bool.{or_parts, eqb-true, ne_eqb, ltb-true, cases_eq}
 use Rattle.engine_reference.specs.declared.rules.causes.RemovalCause.{RemovalCause}
 use Rattle.engine_reference.specs.declared.rules.causes.RemovalCause.TheVariants as cause
 use Rattle.engine_reference.specs.declared.data.Record.{Record}
@@ -25,12 +25,8 @@ use Rattle.std.proofs.lemmas.Bool.Decides.{nat_tests}
 list_any-remove_false : {X : Type 0} (test : X → Bool) (xs : List X) (i : ℕ) → list_any test xs ≡ false → list_any test (remove xs i) ≡ false
 list_any-remove_false test [] zero h = h
 list_any-remove_false test [] (suc i) h = h
-list_any-remove_false test (x ∷ xs) i h = go i (test x) refl h (λ j k. list_any-remove_false test xs j k)
-  where
-    go : (i : ℕ) (b : Bool) → test x ≡ b → (b || list_any test xs) ≡ false → ((j : ℕ) → list_any test xs ≡ false → list_any test (remove xs j) ≡ false) → list_any test (remove (x ∷ xs) i) ≡ false
-    go i true t h later = absurd (true≢false h)
-    go zero false t h later = h
-    go (suc i) false t h later = ap (λ b. b || list_any test (remove xs i)) t ∙ later i h
+list_any-remove_false test (x ∷ xs) zero h = (or_parts (test x) (list_any test xs) h).1
+list_any-remove_false test (x ∷ xs) (suc i) h = let p = or_parts (test x) (list_any test xs) h in ap (λ b. b || list_any test (remove xs i)) p.0 ∙ list_any-remove_false test xs i p.1
 
 pub or_right : (a b : Bool) → (a || b) ≡ false → (a ≡ false) × (b ≡ false)
 or_right true b h = absurd (true≢false h)

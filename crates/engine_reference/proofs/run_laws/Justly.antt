@@ -1,7 +1,7 @@
 -- What a run takes away it takes for a just cause.
-use Rattle.std.proofs.Common.{◌≡◌, refl, ap, sym, ◌∙◌, subst, ℕ, ◌+◌, ◌<◌, ◌≤◌, ◌||◌, arith, Bool, true, false, true≢false, not, cond, List, [], ◌∷◌, ◌++◌, Option, Some, None, map, is_some, append_assoc, append-nil, inl, inr, ◌⊎◌}
+use Rattle.std.proofs.Common.{◌≡◌, refl, ap, sym, ◌∙◌, subst, ℕ, ◌+◌, ◌<◌, ◌≤◌, arith, Bool, true, false, true≢false, not, cond, List, [], ◌∷◌, ◌++◌, Option, Some, None, map, is_some, append_assoc, append-nil, inl, inr, ◌⊎◌}
 use Rattle.std.specs.Prelude.{nat_lt, slice_get}
-use Rattle.std.proofs.lemmas.Bool.{cond_both, eqb-true, ltb-true, ltb-false, lt-ltb}
+use Rattle.std.proofs.lemmas.Bool.{or_parts, cases_Bool, cond_both, eqb-true, ltb-true, ltb-false, lt-ltb}
 use Rattle.policy_base.specs.Counts.{incremented, frequency_of}
 use Rattle.engine_reference.specs.declared.rules.causes.RemovalCause.{RemovalCause}
 use Rattle.engine_reference.specs.declared.rules.causes.RemovalCause.TheVariants as cause
@@ -15,7 +15,7 @@ use Rattle.engine_reference.specs.declared.data.Upsert.{Upsert}
 use Rattle.engine_reference.specs.declared.data.Write.{Write}
 use Rattle.engine_reference.specs.declared.data.Write.TheVariants.{Put, Removed}
 use Rattle.engine_reference.specs.Admission.{Verdict, admit, displace, refuse, verdict, verdict_of_full, contest, shortest_front, frequencies, is_above}
-use Rattle.engine_reference.specs.Records.{record_at, held_entries, admitted_weight, settled_in, without, without_record, changed_at, moved_to_back, is_settled}
+use Rattle.engine_reference.specs.Records.{record_at, held_entries, admitted_weight, settled_in, without, without_record, changed_at, is_settled}
 use Rattle.engine_reference.specs.Runs.{is_due_for, Step, reads, writes, grows, leaves, evicts, ends, Steps, with_left, left, all_left, after_read, after_hit, after_write, after_put, after_removal, counting, put_off, judged, is_overtaken}
 use Rattle.engine_reference.specs.Soundness.{IsIn, Each, AreNumbered, Fits, IsAccounted, IsSound}
 use Rattle.engine_reference.specs.State.{State, Answers}
@@ -64,23 +64,22 @@ module _ {K V P S R : Type 0} where
   takes-left : (Q : RemovalCause → Entry K V → Type 0) (why : RemovalCause) (s : State K V P S R) (n : ℕ) (o : Option (Record K V)) → record_at s.records n ≡ o
       → ((r : Record K V) → o ≡ Some r → r.is_held ≡ true → Q why r.entry) → Takes Q s (with_left why s o)
   takes-left Q why s n None there just = takes-nothing Q s s refl refl refl
-  takes-left Q why s n (Some r) there just = go r.is_held refl
+  takes-left Q why s n (Some r) there just = elim (cases_Bool r.is_held) [
+    | inl held ↦ record {
+      removals = (record { cause = why; entry = r.entry }) ∷ [];
+      tells = record {
+        notices = ap (λ h. cond h (told s.settings.tells why r.entry s.notices) s.notices) held ∙ told_once s.settings.tells why r.entry s.notices;
+        entries = let h = held-without s.records r.number r here held in (h.place, h.there, h.after);
+      };
+      each = (just r refl held, tt);
+      settings = refl;
+    }
+    | inr out ↦ takes-nothing Q s (with_left why s (Some r)) refl
+        (ap (λ h. cond h (told s.settings.tells why r.entry s.notices) s.notices) out) (held-without_other s.records r.number r here out)
+  ]
     where
       here : record_at s.records r.number ≡ Some r
       here = ap (λ n. record_at s.records n) (record_at-number s.records n r there) ∙ there
-
-      go : (b : Bool) → r.is_held ≡ b → Takes Q s (with_left why s (Some r))
-      go true held = record {
-        removals = (record { cause = why; entry = r.entry }) ∷ [];
-        tells = record {
-          notices = ap (λ h. cond h (told s.settings.tells why r.entry s.notices) s.notices) held ∙ told_once s.settings.tells why r.entry s.notices;
-          entries = let h = held-without s.records r.number r here held in (h.place, h.there, h.after);
-        };
-        each = (just r refl held, tt);
-        settings = refl;
-      }
-      go false out = takes-nothing Q s (with_left why s (Some r)) refl
-          (ap (λ h. cond h (told s.settings.tells why r.entry s.notices) s.notices) out) (held-without_other s.records r.number r here out)
 
   -- records that stand in the list `base` under their numbers, and are settled
   all_left-takes : (Q : RemovalCause → Entry K V → Type 0) (base vs : List (Record K V)) → ((y : Record K V) → is_settled y ≡ true → record_at base y.number ≡ Some y → y.is_held ≡ true → Q cause.Size y.entry)
@@ -214,7 +213,14 @@ module _ {K V P S R : Type 0} (base : List (Record K V)) (rest us : List Write) 
             one (Some r) = (numbered-without r.number t.records n, fewer-without r.number t.records s.records f)
 
     put-refuse : (x : Record K V) → record_at s.records u.number ≡ Some x → x.counts ≡ None → (x.is_held ≡ true → is_overtaken u x ≡ false → Q cause.Size x.entry) → WriteGoes Q (Put u) s (judged u x s refuse)
-    put-refuse x here uncounted just = go (is_overtaken u x) refl
+    put-refuse x here uncounted just =
+        cond_both (is_overtaken u x) _ _ (WriteGoes Q (Put u) s)
+        (λ _. record {
+          takes = takes-nothing Q s (put_off u s) refl refl (held-changed u.number (λ r. record r { applied = u.write }) (λ r. refl) (λ r. refl) s.records);
+          fewer = fewer-put_off u s.records x here uncounted;
+          each = next-put_off base rest us u s.records numbered each;
+        })
+        (λ e. leaving e (record_at s.records u.number) refl)
       where
         leaving : is_overtaken u x ≡ false → (o : Option (Record K V)) → record_at s.records u.number ≡ o → WriteGoes Q (Put u) s (with_left cause.Size s o)
         leaving e None there = absurd (let both : Some x ≡ None = sym here ∙ there in cc)
@@ -227,14 +233,6 @@ module _ {K V P S R : Type 0} (base : List (Record K V)) (rest us : List Write) 
               fewer = subst (λ n. Fewer (without_record n s.records) (with_write (Put u) s.records)) (sym number) (fewer-refused u s.records);
               each = subst (λ n. Each (Next base rest us) (without_record n s.records)) (sym number) (next-gone base rest us u s.records numbered each);
             }
-
-        go : (b : Bool) → is_overtaken u x ≡ b → WriteGoes Q (Put u) s (cond b (put_off u s) (left cause.Size u.number s))
-        go true e = record {
-          takes = takes-nothing Q s (put_off u s) refl refl (held-changed u.number (λ r. record r { applied = u.write }) (λ r. refl) (λ r. refl) s.records);
-          fewer = fewer-put_off u s.records x here uncounted;
-          each = next-put_off base rest us u s.records numbered each;
-        }
-        go false e = leaving e (record_at s.records u.number) refl
 
     put-judged : (x : Record K V) → record_at s.records u.number ≡ Some x → x.counts ≡ None
         → ((y : Record K V) → is_settled y ≡ true → record_at s.records y.number ≡ Some y → y.is_held ≡ true → Q cause.Size y.entry)
@@ -255,13 +253,14 @@ module _ {K V P S R : Type 0} (base : List (Record K V)) (rest us : List Write) 
         full : Verdict K V
         full = cond (is_above s.settings.capacity u.weight) refuse (verdict_of_full s.settings.policy s.sketch u (settled_in s.records s.access))
 
-        by_room : x.counts ≡ None → (b : Bool) → is_above s.settings.capacity (admitted_weight s.records + u.weight) ≡ b → Justified s (cond b full admit) → WriteGoes Q (Put u) s (judged u x s (cond b full admit))
-        by_room uncounted true above h = let k = just x here uncounted above in put-judged x here uncounted k.0 k.1 full h
-        by_room uncounted false below h = put-counting
+        by_room : x.counts ≡ None → Justified s (verdict s u) → WriteGoes Q (Put u) s (judged u x s (verdict s u))
+        by_room uncounted =
+            cond_both (is_above s.settings.capacity (admitted_weight s.records + u.weight)) full admit (λ v. Justified s v → WriteGoes Q (Put u) s (judged u x s v))
+            (λ above h. let k = just x here uncounted above in put-judged x here uncounted k.0 k.1 full h) (λ _ h. put-counting)
 
         by_counts : (o : Option ℕ) → x.counts ≡ o → WriteGoes Q (Put u) s (cond (is_some o) (counting u s) (judged u x s (verdict s u)))
         by_counts (Some w) e = put-counting
-        by_counts None e = by_room e (is_above s.settings.capacity (admitted_weight s.records + u.weight)) refl (verdict-justified s u)
+        by_counts None e = by_room e (verdict-justified s u)
 
         -- its writes rise
         newer : x.applied < u.write
@@ -274,21 +273,19 @@ module _ {K V P S R : Type 0} (base : List (Record K V)) (rest us : List Write) 
       fewer = subst (λ l. Fewer s.records l) (sym (without-none_of n s.records s.records (fewer-refl s.records) there)) (fewer-refl s.records);
       each = each;
     }
-    removal-goes out (Some r) there = go r.is_held (out r there)
+    removal-goes out (Some r) there =
+        cond_both r.is_held _ _ (WriteGoes Q (Removed n) s) (λ e. absurd (true≢false (sym e ∙ out r there)))
+        (λ _. record {
+          takes = takes-nothing Q s gone refl refl (held-without_other s.records r.number r here (out r there));
+          fewer = subst (λ m. Fewer (without_record m s.records) (without_record n s.records)) (sym (record_at-number s.records n r there)) (fewer-refl (without_record n s.records));
+          each = each-without r.number (Now base rest us (Removed n)) (Next base rest us) (λ x other k. k) s.records numbered each;
+        })
       where
         gone : State K V P S R
         gone = record s { records = without_record r.number s.records; access = without r.number s.access; order = without r.number s.order }
 
         here : record_at s.records r.number ≡ Some r
         here = ap (λ n. record_at s.records n) (record_at-number s.records n r there) ∙ there
-
-        go : (b : Bool) → b ≡ false → WriteGoes Q (Removed n) s (cond b s gone)
-        go true e = absurd (true≢false e)
-        go false e = record {
-          takes = takes-nothing Q s gone refl refl (held-without_other s.records r.number r here (out r there));
-          fewer = subst (λ m. Fewer (without_record m s.records) (without_record n s.records)) (sym (record_at-number s.records n r there)) (fewer-refl (without_record n s.records));
-          each = each-without r.number (Now base rest us (Removed n)) (Next base rest us) (λ x other k. k) s.records numbered each;
-        }
 
 -- ---- the chain
 
@@ -527,14 +524,10 @@ module _ {K V P S R : Type 0} (old : State K V P S R) (us : List Write) (us_are 
           (λ held newest.
               let number = record_at-number s.records u.number x here in
               let rising = (each-at (Now old.records rest us (Put u)) s.records u.number x each here).0 in
-              let parts = last_write (not x.is_held) (nat_lt u.write x.writes) newest in
+              let parts = (or_parts (not x.is_held) (nat_lt u.write x.writes) newest).1 in
               let none = none_later x u.write (rest ++ us) (rising-own x.number x.applied u (rest ++ us) rising (sym number)) (λ w i. fits x u.number here w (inr i)) (ltb-false u.write x.writes parts) held in
               pointed done s x u.number g here held (point-write done s u rest x g some over none)),
         )))
-      where
-        last_write : (a b : Bool) → (a || b) ≡ false → b ≡ false
-        last_write true b h = absurd (true≢false h)
-        last_write false b h = h
     write-goes done s t (Removed n) rest g sound some after =
         let p = record s { writes = rest } in
         let each : Each (Now old.records rest us (Removed n)) s.records = subst (λ ws. Each (Next old.records ws us) s.records) some g.each in

@@ -1,7 +1,7 @@
 -- Calls and uncut runs keep a state in order.
 use Rattle.std.proofs.Common.{zero, suc, ◌≡◌, refl, ap, sym, ◌∙◌, subst, ℕ, ◌+◌, ◌<◌, ◌≤◌, arith, Bool, true, false, true≢false, cond, List, [], ◌∷◌, ◌++◌, Option, Some, None, map, append_assoc, inl, inr, eqb, ◌==◌}
 use Rattle.std.specs.Prelude.{nat_lt, unwrap_or, sum_by}
-use Rattle.std.proofs.lemmas.Bool.{cond_both, cases_Bool, eqb-true, eq-eqb, ne_eqb, ltb-true}
+use Rattle.std.proofs.lemmas.Bool.{false_from_ne_true, cond_both, cases_Bool, eqb-true, eq-eqb, ne_eqb, ltb-true}
 use Rattle.std.proofs.lemmas.List.{map-append}
 use Rattle.engine_reference.specs.declared.data.Entry.{Entry}
 use Rattle.engine_reference.specs.declared.data.Record.{Record}
@@ -62,11 +62,7 @@ pending-from : (us : List Unsent) (ws : List Write) (w : Write) → IsIn w (ws +
 pending-from us ws w h = elim (in_either w ws (map (λ x. x.write) us) h) [ inl k ↦ inr k | inr k ↦ inl k ]
 
 not_above : (capacity : Option ℕ) (a b : ℕ) → a ≤ b → is_above capacity b ≡ false → is_above capacity a ≡ false
-not_above capacity a b less h = go (is_above capacity a) refl
-  where
-    go : (c : Bool) → is_above capacity a ≡ c → c ≡ false
-    go true e = absurd (true≢false (sym (above-more capacity a b less e) ∙ h))
-    go false e = refl
+not_above capacity a b less h = false_from_ne_true _ (λ e. true≢false (sym (above-more capacity a b less e) ∙ h))
 
 not_above-within : (capacity : Option ℕ) (a : ℕ) → ((c : ℕ) → capacity ≡ Some c → a ≤ c) → is_above capacity a ≡ false
 not_above-within None a h = refl

@@ -1,5 +1,5 @@
 -- The state's own write list is in order after each run, where the pending writes of a record rise.
-use Rattle.std.proofs.Common.{◌≡◌, refl, ap, sym, ◌∙◌, subst, ℕ, ◌+◌, ◌<◌, arith, Bool, true, false, true≢false, not, cond, List, [], ◌∷◌, ◌++◌, Option, Some, None, is_some, inl, inr, ◌⊎◌, eqb, ◌==◌}
+use Rattle.std.proofs.Common.{◌≡◌, refl, ap, sym, ◌∙◌, subst, ℕ, ◌+◌, ◌<◌, arith, Bool, true, false, true≢false, List, [], ◌∷◌, ◌++◌, Option, Some, None, is_some, inl, inr, ◌⊎◌, ◌==◌}
 use Rattle.std.specs.Prelude.{nat_lt}
 use Rattle.std.proofs.lemmas.Bool.{cond_both, cases_Bool, eqb-true, ltb-false}
 use Rattle.policy_base.specs.Counts.{incremented}
@@ -14,9 +14,9 @@ use Rattle.engine_reference.specs.declared.data.Upsert.{Upsert}
 use Rattle.engine_reference.specs.declared.data.Write.{Write}
 use Rattle.engine_reference.specs.declared.data.Write.TheVariants.{Put, Removed}
 use Rattle.engine_reference.specs.Admission.{Verdict, admit, displace, refuse, verdict}
-use Rattle.engine_reference.specs.Calls.{with_written, first_entry, next_entry, with_sent, sent, unsent_at, with_removed, removal_told, with_read, used_entry, cleared_by, with_predicate, with_room, without_notice}
+use Rattle.engine_reference.specs.Calls.{with_written, first_entry, next_entry, with_sent, sent, unsent_at, with_removed, with_read, used_entry}
 use Rattle.engine_reference.specs.Records.{admitted_in, held_at, held_weight, record_at, without_record, changed_at, without, moved_to_back}
-use Rattle.engine_reference.specs.Runs.{Step, reads, writes, grows, leaves, evicts, ends, Steps, Runs, with_left, left, all_left, after_read, after_hit, after_write, after_put, after_removal, counting, put_off, judged, is_overtaken, first_of, IsSwept}
+use Rattle.engine_reference.specs.Runs.{Step, reads, writes, grows, leaves, evicts, ends, Steps, Runs, with_left, left, all_left, after_read, after_hit, after_write, after_put, after_removal, judged, is_overtaken, first_of, IsSwept}
 use Rattle.engine_reference.specs.Soundness.{AreOnce, IsIn, number_of, IsPending, Each, AreNumbered, Fits, IsAccounted, IsSound}
 use Rattle.engine_reference.specs.State.{State, Answers}
 use Rattle.engine_reference.proofs.Accounts.{IsIn-without, IsIn-without_from, IsIn-moved, IsIn-append_left, IsIn-append_right, in_pushed, not_in-without, once-without, once-moved, each-map, each-both, none_there, only_one, numbered-changed, numbered-without, each-changed, each-without}
@@ -41,22 +41,15 @@ Before n m (k ∷ ks) = ((k ≡ n) × IsIn m ks) ⊎ Before n m ks
 
 before-without : (k n m : ℕ) (ns : List ℕ) → (n ≡ k → ⊥) → (m ≡ k → ⊥) → Before n m ns → Before n m (without k ns)
 before-without k n m [] a b h = h
-before-without k n m (x ∷ ns) a b h = go (x == k) refl h (before-without k n m ns a b)
-  where
-    go : (c : Bool) → eqb x k ≡ c → ((x ≡ n) × IsIn m ns) ⊎ Before n m ns → (Before n m ns → Before n m (without k ns)) → Before n m (cond (not c) (x ∷ without k ns) (without k ns))
-    go true t (inl p) later = absurd (a (sym p.0 ∙ eqb-true x k t))
-    go true t (inr p) later = later p
-    go false t (inl p) later = inl (p.0, IsIn-without k m ns b p.1)
-    go false t (inr p) later = inr (later p)
+before-without k n m (x ∷ ns) a b (inl p) = elim (cases_Bool (x == k)) [ inl t ↦ absurd (a (sym p.0 ∙ eqb-true x k t)) | inr t ↦ rw t (inl (p.0, IsIn-without k m ns b p.1)) ]
+before-without k n m (x ∷ ns) a b (inr p) = elim (cases_Bool (x == k)) [ inl t ↦ rw t (before-without k n m ns a b p) | inr t ↦ rw t (inr (before-without k n m ns a b p)) ]
 
 before-without_from : (k n m : ℕ) (ns : List ℕ) → Before n m (without k ns) → Before n m ns
 before-without_from k n m [] h = h
-before-without_from k n m (x ∷ ns) h = go (x == k) h (before-without_from k n m ns)
-  where
-    go : (c : Bool) → Before n m (cond (not c) (x ∷ without k ns) (without k ns)) → (Before n m (without k ns) → Before n m ns) → ((x ≡ n) × IsIn m ns) ⊎ Before n m ns
-    go true p later = inr (later p)
-    go false (inl p) later = inl (p.0, IsIn-without_from k m ns p.1)
-    go false (inr p) later = inr (later p)
+before-without_from k n m (x ∷ ns) h = elim (cases_Bool (x == k)) [
+  | inl t ↦ inr (before-without_from k n m ns (rw t at h))
+  | inr t ↦ let kept = rw t at h in elim kept [ inl p ↦ inl (p.0, IsIn-without_from k m ns p.1) | inr p ↦ inr (before-without_from k n m ns p) ]
+]
 
 before-left : (n m : ℕ) (ns : List ℕ) → Before n m ns → IsIn n ns
 before-left n m [] h = h
@@ -279,15 +272,13 @@ module _ {K V P S R : Type 0} where
 
     front-put : (o : Option (Record K V)) → record_at s.records u.number ≡ o → InFront next rest (after_put u o s).records (after_put u o s).order
     front-put None here = front-absent next rest s.records s.order u (none_there u.number s.records here) h
-    front-put (Some x) here = by_generation (nat_lt x.applied u.write) refl
-      where
-        by_generation : (b : Bool) → nat_lt x.applied u.write ≡ b
-            → InFront next rest (cond b (cond (is_some x.counts) (counting u s) (judged u x s (verdict s u))) s).records (cond b (cond (is_some x.counts) (counting u s) (judged u x s (verdict s u))) s).order
-        by_generation true t = elim (cases_Bool (is_some x.counts)) [ inl is ↦ rw is (front-counting next rest s.records s.order u low h) | inr is ↦ rw is (front-judged x here is (verdict s u)) ]
-        by_generation false t = absurd (
-            let newer = (each-at (λ r. AreRising r.number r.applied (Put u ∷ rest)) s.records u.number x h.rising here).0 (sym (record_at-number s.records u.number x here)) in
-            let older = ltb-false x.applied u.write t in
-            omega arith)
+    front-put (Some x) here =
+        cond_both (nat_lt x.applied u.write) _ _ (λ (t : State K V P S R). InFront next rest t.records t.order)
+        (λ _. cond_both (is_some x.counts) _ _ (λ (t : State K V P S R). InFront next rest t.records t.order) (λ _. front-counting next rest s.records s.order u low h) (λ is. front-judged x here is (verdict s u)))
+        (λ t. absurd (
+        let newer = (each-at (λ r. AreRising r.number r.applied (Put u ∷ rest)) s.records u.number x h.rising here).0 (sym (record_at-number s.records u.number x here)) in
+        let older = ltb-false x.applied u.write t in
+        omega arith))
 
   front-removal : (next : ℕ) (rest : List Write) (n : ℕ) (s : State K V P S R) → InFront next (Removed n ∷ rest) s.records s.order → (o : Option (Record K V)) → InFront next rest (after_removal o s).records (after_removal o s).order
   front-removal next rest n s h None = front-removed next rest s.records s.order n h

@@ -11,23 +11,14 @@ use Rattle.engine_reference.specs.Soundness.{Each, IsSound}
 use Rattle.engine_reference.specs.State.{State, Answers}
 use Rattle.engine_reference.specs.Telling.{AreApart, entry_of}
 use Rattle.engine_reference.specs.Visible.{visible, visible_record, visible_value, is_visible, passing}
-use Rattle.engine_reference.proofs.Accounts.{each-map, only_one}
+use Rattle.engine_reference.proofs.Accounts.{cond_none, each-map, only_one}
 use Rattle.engine_reference.proofs.SoundCalls.{held_at-only}
 use Rattle.engine_reference.specs.RunLaws.Showing.{OnlyWritesShow, CallsKeepApart}
 use Rattle.std.proofs.lemmas.Bool.Decides.{nat_tests}
 
--- what a choice gives that is none
-cond_none : {A : Type 0} (b : Bool) (x : A) (o : Option A) → cond b (Some x) o ≡ None → (b ≡ false) × (o ≡ None)
-cond_none true x o h = absurd (cc)
-cond_none false x o h = (refl, h)
-
 none_from : {X Y : Type 0} (f : X → Y) (o : Option X) → option_map f o ≡ None → o ≡ None
 none_from f None h = refl
 none_from f (Some x) h = absurd (cc)
-
-and_left_false : (a b : Bool) → b ≡ false → (a && b) ≡ false
-and_left_false true b h = h
-and_left_false false b h = refl
 
 module _ {K V : Type 0} (eq : K → K → Bool) where
   -- no other record that is held has a key alike
@@ -41,11 +32,10 @@ module _ {K V : Type 0} (eq : K → K → Bool) where
 
   pub to-records : (rs : List (Record K V)) → AreApart eq (held_entries rs) → RecordsApart rs
   to-records [] h = tt
-  to-records (x ∷ rs) h = go x.is_held refl h (λ k. to-records rs k)
-    where
-      go : (b : Bool) → x.is_held ≡ b → AreApart eq (cond b (x.entry ∷ held_entries rs) (held_entries rs)) → (AreApart eq (held_entries rs) → RecordsApart rs) → (x.is_held ≡ true → held_at eq rs x.entry.key ≡ None) × RecordsApart rs
-      go true t h later = ((λ held. none_from (λ r. r.entry) (held_at eq rs x.entry.key) (sym (entry-held rs x.entry.key) ∙ h.0)), later h.1)
-      go false t h later = ((λ held. absurd (true≢false (sym held ∙ t))), later h)
+  to-records (x ∷ rs) h = elim (cases_Bool x.is_held) [
+    | inl t ↦ let k = rw t at h in ((λ held. none_from (λ r. r.entry) (held_at eq rs x.entry.key) (sym (entry-held rs x.entry.key) ∙ k.0)), to-records rs k.1)
+    | inr t ↦ ((λ held. absurd (true≢false (sym held ∙ t))), to-records rs (rw t at h))
+  ]
 
   pub from-records : (rs : List (Record K V)) → RecordsApart rs → AreApart eq (held_entries rs)
   from-records [] h = tt
@@ -60,11 +50,10 @@ module _ {K V : Type 0} (eq : K → K → Bool) where
   still_none n change [] mild key h = refl
   still_none n change (x ∷ rs) mild key h =
       let p = cond_none (x.is_held && eq key x.entry.key) x (held_at eq rs key) h in
-      cond_both (eqb x.number n) _ _ (λ z. held_at eq z key ≡ None) (λ e. ap (λ c. cond c (Some (change x)) (held_at eq rs key)) (unmatched (change x).is_held refl (mild.0 (eqb-true x.number n e)) p.0) ∙ p.1) (λ _. ap (λ c. cond c (Some x) (held_at eq (changed_at n change rs) key)) p.0 ∙ (still_none n change rs mild.1 key p.1))
+      cond_both (eqb x.number n) _ _ (λ z. held_at eq z key ≡ None) (λ e. ap (λ c. cond c (Some (change x)) (held_at eq rs key)) (unmatched (mild.0 (eqb-true x.number n e)) p.0) ∙ p.1) (λ _. ap (λ c. cond c (Some x) (held_at eq (changed_at n change rs) key)) p.0 ∙ (still_none n change rs mild.1 key p.1))
     where
-      unmatched : (b : Bool) → (change x).is_held ≡ b → (((change x).is_held ≡ true → x.is_held ≡ true) × ((key : K) → eq key (change x).entry.key ≡ eq key x.entry.key)) → (x.is_held && eq key x.entry.key) ≡ false → (b && eq key (change x).entry.key) ≡ false
-      unmatched false t m unlike = refl
-      unmatched true t m unlike = m.1 key ∙ sym (ap (λ c. c && eq key x.entry.key) (m.0 t)) ∙ unlike
+      unmatched : ((change x).is_held ≡ true → x.is_held ≡ true) × ((key : K) → eq key (change x).entry.key ≡ eq key x.entry.key) → (x.is_held && eq key x.entry.key) ≡ false → ((change x).is_held && eq key (change x).entry.key) ≡ false
+      unmatched m unlike = let kept = m.0 in let same = m.1 key in grind (arith, nat_tests, kept, same, unlike)
 
   module _ (alike : (a b : K) → ((key : K) → eq key a ≡ eq key b) → (rs : List (Record K V)) → held_at eq rs a ≡ None → held_at eq rs b ≡ None) where
     apart-changed : (n : ℕ) (change : Record K V → Record K V) (rs : List (Record K V)) → Each (IsMild n change) rs → RecordsApart rs → RecordsApart (changed_at n change rs)
@@ -81,7 +70,7 @@ module _ {K V : Type 0} (eq : K → K → Bool) where
   unmatched-changed n change key (x ∷ rs) h = let next = unmatched-changed n change key rs h.1 in grind (arith, nat_tests, next)
 
   pub held-push : (rs : List (Record K V)) (x : Record K V) (key : K) → eq key x.entry.key ≡ false → held_at eq (rs ++ x ∷ []) key ≡ held_at eq rs key
-  held-push [] x key unlike = ap (λ c. cond c (Some x) None) (and_left_false x.is_held (eq key x.entry.key) unlike)
+  held-push [] x key unlike = grind (arith, nat_tests, unlike)
   held-push (r ∷ rs) x key unlike = ap (λ o. cond (r.is_held && eq key r.entry.key) (Some r) o) (held-push rs x key unlike)
 
   -- a change that keeps key and holding is found where the record was
@@ -170,7 +159,7 @@ module _ {K V P S R : Type 0} where
   read-shows eq answers s key hash now other sound None e = inl refl
   read-shows eq answers s key hash now other sound (Some r) e = elim (found-changed eq r.number f (λ x. refl) (λ x. refl) s.records other) [
     | inl same ↦ inl (ap (λ o. value_of o) same)
-    | inr k ↦ by_visible k.0 k.1 k.2 k.3 (is_visible answers s now (f r).entry) refl
+    | inr k ↦ by_visible k.0 k.1 k.2 k.3
   ]
     where
       f : Record K V → Record K V
@@ -182,12 +171,12 @@ module _ {K V P S R : Type 0} where
       found : (held_at eq s.records key ≡ Some r) × (is_visible answers s now r.entry ≡ true)
       found = passed (λ x. is_visible answers s now x.entry) (held_at eq s.records key) r e
 
-      by_visible : (x : Record K V) → held_at eq s.records other ≡ Some x → x.number ≡ r.number → held_at eq (changed_at r.number f s.records) other ≡ Some (f x) → (b : Bool) → is_visible answers s now (f r).entry ≡ b
+      by_visible : (x : Record K V) → held_at eq s.records other ≡ Some x → x.number ≡ r.number → held_at eq (changed_at r.number f s.records) other ≡ Some (f x)
           → (value_of (held_at eq (changed_at r.number f s.records) other) ≡ value_of (held_at eq s.records other)) ⊎ (value_of (held_at eq (changed_at r.number f s.records) other) ≡ None)
-      by_visible x there number after b t =
-          elim (cases_Bool b) [
-            | inl e ↦ let t = rw e at t in inl (now_is ∙ ap (λ c. option_map (λ x. x.value) (option_map (λ x. x.entry) (cond c (Some (f r)) None))) t ∙ sym was)
-            | inr e ↦ let t = rw e at t in inr (now_is ∙ ap (λ c. option_map (λ x. x.value) (option_map (λ x. x.entry) (cond c (Some (f r)) None))) t)
+      by_visible x there number after =
+          elim (cases_Bool (is_visible answers s now (f r).entry)) [
+            | inl t ↦ inl (now_is ∙ ap (λ c. option_map (λ x. x.value) (option_map (λ x. x.entry) (cond c (Some (f r)) None))) t ∙ sym was)
+            | inr t ↦ inr (now_is ∙ ap (λ c. option_map (λ x. x.value) (option_map (λ x. x.entry) (cond c (Some (f r)) None))) t)
           ]
         where
           is_r : x ≡ r

@@ -1,7 +1,7 @@
 -- What an uncut run leaves of times and clears.
-use Rattle.std.proofs.Common.{◌≡◌, refl, ap, sym, ◌∙◌, subst, ℕ, ◌+◌, ◌<◌, ◌≤◌, arith, Bool, true, false, true≢false, not, cond, List, [], ◌∷◌, ◌++◌, Option, Some, None, is_some, inl, inr, ◌⊎◌, eqb, ◌==◌}
+use Rattle.std.proofs.Common.{◌≡◌, refl, ap, sym, ◌∙◌, subst, ℕ, ◌+◌, ◌<◌, ◌≤◌, arith, Bool, true, false, true≢false, cond, List, [], ◌∷◌, ◌++◌, Option, Some, None, is_some, inl, inr, ◌⊎◌, eqb, ◌==◌}
 use Rattle.std.specs.Prelude.{nat_lt}
-use Rattle.std.proofs.lemmas.Bool.{cases_Bool, eqb-true, eqb-false, eq-eqb, ne_eqb, ltb-false}
+use Rattle.std.proofs.lemmas.Bool.{cases_Bool, cond_both, eqb-false, eq-eqb, ne_eqb, ltb-false}
 use Rattle.policy_base.specs.Counts.{incremented}
 use Rattle.engine_reference.specs.declared.rules.causes.RemovalCause.TheVariants as cause
 use Rattle.std.specs.List.{list_any}
@@ -16,8 +16,8 @@ use Rattle.engine_reference.specs.declared.data.Write.{Write}
 use Rattle.engine_reference.specs.declared.data.Write.TheVariants.{Put, Removed}
 use Rattle.engine_reference.specs.Admission.{Verdict, admit, displace, refuse, verdict}
 use Rattle.engine_reference.specs.Calls.{with_written, first_entry, next_entry, with_sent, sent, unsent_at, without_ticket, with_removed, removal_told, with_read, used_entry}
-use Rattle.engine_reference.specs.Records.{record_at, held_at, without_record, changed_at, without, moved_to_back, held_weight, with_admitted, admitted_in}
-use Rattle.engine_reference.specs.Runs.{Step, reads, writes, grows, leaves, evicts, ends, Steps, Runs, left, all_left, after_read, after_hit, after_write, after_put, after_removal, counting, put_off, judged, is_overtaken, first_of}
+use Rattle.engine_reference.specs.Records.{record_at, held_at, changed_at, without, moved_to_back, held_weight, with_admitted, admitted_in}
+use Rattle.engine_reference.specs.Runs.{Step, reads, writes, grows, leaves, evicts, ends, Steps, Runs, all_left, after_read, after_hit, after_write, after_put, after_removal, counting, judged, is_overtaken, first_of}
 use Rattle.engine_reference.specs.Soundness.{IsIn, Each, AreNumbered, IsAccounted, IsSound}
 use Rattle.engine_reference.specs.State.{State, Answers}
 use Rattle.engine_reference.specs.Times.{tick_of, end_of, is_reached, earlier_of}
@@ -41,19 +41,15 @@ module _ {K V P S R : Type 0} (Q : Record K V → Type 0) (stable : (r : Record 
   each-counting : (u : Upsert) (s : State K V P S R) → AreNumbered s.records → Each Q s.records → Each Q (counting u s).records
   each-counting u s numbered h = each-changed u.number (λ r. record r { applied = u.write; counts = Some u.weight }) Q Q (λ r same k. stable r u.write (Some u.weight) k) (λ r other k. k) s.records numbered h
 
-  each-either : (b : Bool) (s t : State K V P S R) → Each Q s.records → Each Q t.records → Each Q (cond b s t).records
-  each-either true s t h k = h
-  each-either false s t h k = k
-
   each-judged : (s : State K V P S R) (ws : List Write) (u : Upsert) (r : Record K V) (v : Verdict K V) → IsSound (record s { writes = ws }) → Each Q s.records → Each Q (judged u r s v).records
   each-judged s ws u r admit sound h = each-counting u s sound.records.numbered h
   each-judged s ws u r (displace vs) sound h =
       let k = all_left-sound s.unsent ws s.next_number Q cause.Size vs s sound.records h in
       each-counting u (all_left cause.Size vs s) k.0.numbered k.1
   each-judged s ws u r refuse sound h =
-      each-either (is_overtaken u r) (put_off u s) (left cause.Size u.number s)
-      (each-changed u.number (λ r. record r { applied = u.write }) Q Q (λ r same k. stable r u.write r.counts k) (λ r other k. k) s.records sound.records.numbered h)
-      (left-each Q cause.Size u.number s sound.records.numbered h)
+      cond_both (is_overtaken u r) _ _ (λ (t : State K V P S R). Each Q t.records)
+      (λ _. each-changed u.number (λ r. record r { applied = u.write }) Q Q (λ r same k. stable r u.write r.counts k) (λ r other k. k) s.records sound.records.numbered h)
+      (λ _. left-each Q cause.Size u.number s sound.records.numbered h)
 
   each-write : (w : Write) (s : State K V P S R) (ws : List Write) → IsSound (record s { writes = ws }) → Each Q s.records → Each Q (after_write w s).records
   each-write (Put u) s ws sound h = go (record_at s.records u.number)
@@ -61,15 +57,14 @@ module _ {K V P S R : Type 0} (Q : Record K V → Type 0) (stable : (r : Record 
       go : (o : Option (Record K V)) → Each Q (after_put u o s).records
       go None = h
       go (Some r) =
-          each-either (nat_lt r.applied u.write) (cond (is_some r.counts) (counting u s) (judged u r s (verdict s u))) s
-          (each-either (is_some r.counts) (counting u s) (judged u r s (verdict s u)) (each-counting u s sound.records.numbered h) (each-judged s ws u r (verdict s u) sound h)) h
+          cond_both (nat_lt r.applied u.write) _ _ (λ (t : State K V P S R). Each Q t.records)
+          (λ _. cond_both (is_some r.counts) _ _ (λ (t : State K V P S R). Each Q t.records) (λ _. each-counting u s sound.records.numbered h) (λ _. each-judged s ws u r (verdict s u) sound h)) (λ _. h)
   each-write (Removed n) s ws sound h = go (record_at s.records n)
     where
       go : (o : Option (Record K V)) → Each Q (after_removal o s).records
       go None = h
       go (Some r) =
-          each-either r.is_held s (record s { records = without_record r.number s.records; access = without r.number s.access; order = without r.number s.order }) h
-          (each-without r.number Q Q (λ x other k. k) s.records sound.records.numbered h)
+          cond_both r.is_held _ _ (λ (t : State K V P S R). Each Q t.records) (λ _. h) (λ _. each-without r.number Q Q (λ x other k. k) s.records sound.records.numbered h)
 
   pub read-records : (r : Read) (s : State K V P S R) → (after_read r s).records ≡ s.records
   read-records (Miss hash) s = refl

@@ -5,7 +5,7 @@ use Rattle.engine_reference.specs.declared.data.Record.{Record}
 use Rattle.engine_reference.specs.declared.data.Registered.{Registered}
 use Rattle.engine_reference.specs.declared.data.Write.{Write}
 use Rattle.engine_reference.specs.declared.data.Write.TheVariants.{Put, Removed}
-use Rattle.engine_reference.specs.Calls.{written, sent, removed_by, removal_told, with_read, cleared_by, with_predicate, with_room, without_room, registered, without_notice}
+use Rattle.engine_reference.specs.Calls.{written, sent, removed_by, removal_told, with_read, cleared_by, with_predicate, with_room, without_room, without_notice}
 use Rattle.engine_reference.specs.Records.{record_at, moved_to_back}
 use Rattle.engine_reference.specs.Runs.{Runs, RunsToEnd, IsSwept}
 use Rattle.engine_reference.specs.Soundness.{AreOnce, Each, IsIn, IsSound}

@@ -9,7 +9,7 @@ use Rattle.front_reference.specs.Wholes.{DrawAll, DrawsInVain, registered_in}
 use Rattle.front_reference.specs.Parts.{IsCause}
 use Rattle.front_reference.specs.declared.errors.CacheError.{CacheError}
 use Rattle.front_reference.specs.declared.errors.CacheError.TheVariants as errors
-use Rattle.front_parts.specs.Wholes.Covering.{AreAll, IsCoverCause, IsRoomCause, commits}
+use Rattle.front_parts.specs.Wholes.Covering.{AreOnly, IsCoverCause, IsRoomCause, commits}
 use Rattle.front_parts.specs.Wholes.Firsts.{changed_first}
 
 module _ {K V P S R : Type 0} where
@@ -74,15 +74,15 @@ module _ {K V P S R : Type 0} where
   vain-later s ss a b c id d later = inr (id, b, d, later)
 
 -- one more of a list whose items are all this one
-pub all-append : {X : Type 0} (x y : X) (xs : List X) → AreAll x xs → y ≡ x → AreAll x (xs ++ y ∷ [])
+pub all-append : {X : Type 0} (x y : X) (xs : List X) → AreOnly x xs → y ≡ x → AreOnly x (xs ++ y ∷ [])
 all-append x y [] h is = (is, tt)
 all-append x y (z ∷ xs) h is = (h.0, all-append x y xs h.1 is)
 
 -- the last of them, and the others
-pub all-last : {X : Type 0} (x y : X) (old xs : List X) → old ≡ xs ++ y ∷ [] → AreAll x old → AreAll x xs × (y ≡ x)
-all-last {X = X} x y old xs e h = parts xs (subst (λ l. AreAll x l) e h)
+pub all-last : {X : Type 0} (x y : X) (old xs : List X) → old ≡ xs ++ y ∷ [] → AreOnly x old → AreOnly x xs × (y ≡ x)
+all-last {X = X} x y old xs e h = parts xs (subst (λ l. AreOnly x l) e h)
   where
-    parts : (xs : List X) → AreAll x (xs ++ y ∷ []) → AreAll x xs × (y ≡ x)
+    parts : (xs : List X) → AreOnly x (xs ++ y ∷ []) → AreOnly x xs × (y ≡ x)
     parts [] h = (tt, h.0)
     parts (z ∷ xs) h = let k = parts xs h.1 in ((h.0, k.0), k.1)
 

@@ -45,7 +45,3 @@ module _ {K V : Type 0} where
   abbrev pub seen_entry : K → Option V → Option (Entry K V)
   seen_entry key None = None
   seen_entry key (Some v) = Some (found_entry key v)
-
-  -- an entry of a value that was put
-  abbrev pub IsPutEntry : K → Entry K V → Computed V → Type 0
-  IsPutEntry key e done = entry_in (shown_as key done) ≡ Some e

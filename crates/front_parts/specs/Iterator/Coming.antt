@@ -84,7 +84,7 @@ module _ {K V : Type 0} where
   LeavesKeys (Some pair) keys = Unit {0}
 
 -- an iterator: what it goes over, at which moment, and the pairs that are still to come
-pub record Walk (C K V : Type 0) : Type 0 where
+pub record Iteration (C K V : Type 0) : Type 0 where
   pub source : C
   pub now : ℕ
   pub coming : List (K × V)
@@ -97,7 +97,7 @@ module _ {K V : Type 0} where
 
   -- the first of what is to come is returned, and nothing if nothing is to come
   pub record GivesNext {
-      C : Type 0} (old : Walk C K V) (given : Option (Result (K × V) CacheError)) (new : Walk C K V) : Type 0 where
+      C : Type 0} (old : Iteration C K V) (given : Option (Result (K × V) CacheError)) (new : Iteration C K V) : Type 0 where
     pub source : new.source ≡ old.source
     pub now : new.now ≡ old.now
     pub gives : MatchOption given ((old.coming ≡ []) × (new.coming ≡ []))

@@ -76,12 +76,12 @@ module _ {K V P S R : Type 0} (ways : Ways K V P S R) where
   seen_of o now key ignored = past ignored (visible_of o now key)
 
   -- the one that is held, visible or not
-  abbrev pub held_of : Option (State K V P S R) → K → Option V
-  held_of None key = None
-  held_of (Some s) key = held_value ways.eq s key
+  abbrev pub held_in_part : Option (State K V P S R) → K → Option V
+  held_in_part None key = None
+  held_in_part (Some s) key = held_value ways.eq s key
 
   abbrev pub held_value_in : Front K V P S R → K → Option V
-  held_value_in f key = held_of (part_with f key) key
+  held_value_in f key = held_in_part (part_with f key) key
 
   -- the key that is held and equal to a key, whether its value is visible or not
   abbrev pub held_key_of : Option (State K V P S R) → K → Option K

@@ -10,9 +10,9 @@ use Rattle.front_reference.specs.declared.errors.CacheError.{CacheError}
 use Rattle.front_reference.specs.declared.errors.CacheError.TheVariants as errors
 
 -- each of a list is this one
-abbrev pub AreAll : {X : Type 0} → X → List X → Type 0
-AreAll x [] = Unit {0}
-AreAll x (y ∷ ys) = (y ≡ x) × AreAll x ys
+abbrev pub AreOnly : {X : Type 0} → X → List X → Type 0
+AreOnly x [] = Unit {0}
+AreOnly x (y ∷ ys) = (y ≡ x) × AreOnly x ys
 
 -- the text of an identifier: the hyphenated form of its 16 bytes, in lower case
 unfoldable pub id_text : ℕ → List ℕ

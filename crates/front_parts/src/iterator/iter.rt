@@ -23,9 +23,9 @@ pub struct Iter<'a, K, V, C: ScanningGet<K, V>> {
 }
 
 impl<'a, K, V, C: ScanningGet<K, V>> Model for Iter<'a, K, V, C> {
-    ghost use Rattle.front_parts.specs.Iterator.Coming.{Walk, coming_of, source_at};
+    ghost use Rattle.front_parts.specs.Iterator.Coming.{Iteration, coming_of, source_at};
 
-    ghost Value = { Walk C K V };
+    ghost Value = { Iteration C K V };
 
     ghost view = { λ it. record {
       source = it.source.now;

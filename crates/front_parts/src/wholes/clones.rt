@@ -1,7 +1,7 @@
 //! A predicate for each part, and the text of an identifier.
 ghost use Rattle.std.specs.Prelude.{◌≡◌, ◌≤◌, [], IfOk, length};
 ghost use Rattle.std.specs.String.{string_bytes, string_capacity, string_len};
-ghost use Rattle.front_parts.specs.Wholes.Covering.{AreAll, id_text};
+ghost use Rattle.front_parts.specs.Wholes.Covering.{AreOnly, id_text};
 
 use std::alloc::{AllocError, Global};
 use uuid::Uuid;
@@ -14,7 +14,7 @@ pub fn clone_each<P: Clone + Drop>(
 ) -> Result<Vec<P>, AllocError>
     requires { (x y : P) → P.is_clone x y → y ≡ x }
     ensures count { IfOk result (λ clones. length clones.items ≡ count) }
-    ensures alike { IfOk result (λ clones. AreAll predicate.now clones.items) }
+    ensures alike { IfOk result (λ clones. AreOnly predicate.now clones.items) }
 {
     let mut clones = Vec::with_capacity(alloc, count)?;
     for _ in 0..count {

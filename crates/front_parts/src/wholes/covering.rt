@@ -2,7 +2,7 @@
 ghost use Rattle.std.specs.Prelude.{◌≡◌, ◌≢◌, ◌≤◌, ◌<◌, ◌+◌, ℕ, [], Some, OnOk, OnErr, IfOk, IfErr, length};
 ghost use Rattle.std.specs.Vec.{vec_capacity, vec_len};
 ghost use Rattle.front_reference.specs.Wholes.{DrawAll, DrawsInVain};
-ghost use Rattle.front_parts.specs.Wholes.Covering.{AreAll, CoversEach, HaveRoom, IsCoverCause, TakeAll, commits};
+ghost use Rattle.front_parts.specs.Wholes.Covering.{AreOnly, CoversEach, HaveRoom, IsCoverCause, TakeAll, commits};
 ghost use Rattle.front_parts.specs.Wholes.Firsts.{changed_first};
 ghost use Rattle.front_reference.specs.declared.errors.CacheError.TheVariants as errors;
 
@@ -49,7 +49,7 @@ fn commit_all<K: Eq + Hash, V, S: BuildHasher, R: Rules<K, V>>(
     requires ids { length parts.old.items ≤ length ids.now }
     requires predicates { length predicates.items ≡ length parts.old.items }
     requires room { HaveRoom parts.old.items }
-    ensures { (p : R.Predicate) → AreAll p predicates.items → parts.new.items
+    ensures { (p : R.Predicate) → AreOnly p predicates.items → parts.new.items
         ≡ changed_first (commits p step ids.now) (length parts.old.items) parts.old.items }
 {
     let count = parts.len();
@@ -80,7 +80,7 @@ pub fn cover_all<K: Eq + Hash, V, S: BuildHasher, R: Rules<K, V>, G: Rng>(
     requires some { 0 < length parts.old.items }
     requires predicates { length predicates.items ≡ length parts.old.items }
     ensures covers { IfOk result
-        (λ first. (p : R.Predicate) → AreAll p predicates.items → CoversEach p step
+        (λ first. (p : R.Predicate) → AreOnly p predicates.items → CoversEach p step
         (G.stream generator.old) (G.stream generator.new) first parts.old.items parts.new.items) }
     ensures err { OnErr result (parts.new.items ≡ parts.old.items) }
     ensures cause { IfErr result

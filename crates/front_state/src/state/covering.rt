@@ -7,7 +7,7 @@ ghost use Rattle.front_reference.specs.Wholes.{next_told, without_told};
 ghost use Rattle.front_parts.specs.Places.Told.{told_at, without_told_at};
 ghost use Rattle.front_parts.specs.Places.Calls.{IsSteadyBy, hash_in, visible_in};
 ghost use Rattle.front_reference.specs.declared.errors.CacheError.TheVariants as errors;
-ghost use Rattle.front_state.specs.Covering.{CoversAll, GivesVisible, IsCauseToCover, keys_in};
+ghost use Rattle.front_state.specs.Covering.{CoversAll, GivesVisible, IsCauseToCover, keys_of_part};
 ghost use Rattle.front_parts.specs.Wholes.Covering.{id_text};
 
 use crate::state::parts::part_ref;
@@ -201,7 +201,7 @@ impl<K: Eq + Hash + Drop, V: Clone, S: BuildHasher, R: Rules<K, V>, C> ScanningG
     for LentState<K, V, S, R, C> {
     ghost segments = { λ f. length f.parts };
 
-    ghost keys_in = { keys_in };
+    ghost keys_in = { keys_of_part };
 
     ghost value_of = { λ f now key. visible_in ⟦<R as HasWays<K, V, S>>⟧.ways f now key };
 

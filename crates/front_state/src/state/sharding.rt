@@ -5,7 +5,7 @@ ghost use Rattle.engine_reference.specs.Calls.{registered, with_room, without_ro
 ghost use Rattle.front_reference.specs.Fronts.{ComesAfter, passed};
 ghost use Rattle.front_reference.specs.declared.errors.CacheError.TheVariants as errors;
 ghost use Rattle.front_state.specs.Covering.{IsCauseToCover};
-ghost use Rattle.front_state.specs.Sharding.{DrawsForFirst, FirstHasRoom, cover_error, with_first};
+ghost use Rattle.front_state.specs.Sharding.{DrawsForFirst, FirstHasRoom, cover_error, with_first_part};
 
 use crate::state::{LentState, Sharded};
 use engine_reference::{Refusal, Rules};
@@ -35,7 +35,7 @@ impl<K: Eq + Hash, V, S: BuildHasher, R: Rules<K, V>> LentState<K, V, S, R, Shar
     /// shard.commit_cover(id, predicate, at);
     /// ```
     pub fn prepare_cover<G: Rng>(&mut self, generator: &mut G) -> Result<u128, CacheError>
-        ensures ok { OnOk result (self.new ≡ with_first with_room self.old) }
+        ensures ok { OnOk result (self.new ≡ with_first_part with_room self.old) }
         ensures drawn { IfOk result (λ id. DrawsForFirst (G.stream generator.old)
             (G.stream generator.new) id self.old) }
         ensures takes { OnOk result (self.old.common.settings.takes_predicates ≡ true) }
@@ -58,7 +58,7 @@ impl<K: Eq + Hash, V, S: BuildHasher, R: Rules<K, V>> LentState<K, V, S, R, Shar
         requires room { FirstHasRoom self.old }
         requires follows { ComesAfter at.now at.step self.old }
         requires rises { self.old.step < at.step }
-        ensures { self.new ≡ passed at.now at.step (with_first
+        ensures { self.new ≡ passed at.now at.step (with_first_part
             (registered (record { id = id; predicate = predicate; step = at.step })) self.old) }
     {
         let At { now, step } = at;
@@ -71,7 +71,7 @@ impl<K: Eq + Hash, V, S: BuildHasher, R: Rules<K, V>> LentState<K, V, S, R, Shar
     /// Gives up the room that `prepare_cover` made.
     pub fn release_cover(&mut self)
         requires { FirstHasRoom self.old }
-        ensures { self.new ≡ with_first without_room self.old }
+        ensures { self.new ≡ with_first_part without_room self.old }
     {
         let part = &mut self.parts[0];
         part.release_room();

@@ -300,7 +300,8 @@ impl<K: Eq + Hash, V, S: BuildHasher, R: Rules<K, V>, C> LentState<K, V, S, R, C
         requires exact { (x y : V) → V.is_clone x y → y ≡ x }
         requires follows { ComesAfter at.now at.step self.old }
         ensures begins { IfOk result (BeginsBy ⟦<R as HasWays<K, V, S>>⟧.ways kind key
-            (hash_in ⟦<R as HasWays<K, V, S>>⟧.ways self.old key) at passes_none self.old self.new) }
+            (hash_in ⟦<R as HasWays<K, V, S>>⟧.ways self.old key) at passes_none
+            self.old self.new) }
         ensures err { OnErr result (self.new ≡ self.old) }
         ensures cause { IfErr result (IsTurnCause self.old.next_turn) }
     {

@@ -1,7 +1,7 @@
 //! The flags of a meta command: letters, and what stands behind them in their words.
 ghost use Rattle.std.specs.Prelude.{◌≡◌, ◌∷◌, [], codes, drop, is_some, unwrap_or, Some, None, if◌then◌else◌, option_map};
 ghost use Rattle.memcache_model.specs.Bytes.{number_below, tokens};
-ghost use Rattle.memcache_model.specs.Meta.{behind_letter, direction_of, exptime_of, flags_fault, is_one_of, letter_of, limit_of, mode_fault, mode_of, number_of, word_fault};
+ghost use Rattle.memcache_model.specs.Meta.{behind_letter, direction_of, exptime_of, flags_fault, is_one_of, letter_of, limit_of, mode_fault, mode_of, number_of_letter, word_fault};
 
 use memcache_lines::{exptime, next_token, number, short_number};
 use memcache_model::{Direction, Exptime, ProtocolError};
@@ -64,7 +64,7 @@ fn number_behind(letter: u8, argument: &[u8]) -> Option<u64>
 
 /// Returns the number behind a letter, in the first word that begins with it, or `None` if there is none.
 pub fn number_of(letter: u8, words: &[u8]) -> Option<u64>
-    ensures { result ≡ number_of (letter ∷ []) (tokens words.now) }
+    ensures { result ≡ number_of_letter (letter ∷ []) (tokens words.now) }
 {
     match behind_letter(letter, words) {
         Some(argument) => number_behind(letter, argument),
@@ -74,7 +74,7 @@ pub fn number_of(letter: u8, words: &[u8]) -> Option<u64>
 
 /// Returns the client's flags behind `F`, or 0 without one.
 pub fn flags_of(words: &[u8]) -> u32
-    ensures { result ≡ unwrap_or (number_of (codes "F") (tokens words.now)) 0 }
+    ensures { result ≡ unwrap_or (number_of_letter (codes "F") (tokens words.now)) 0 }
 {
     match behind_letter(b'F', words) {
         Some(argument) => short_number(argument).unwrap_or(0),

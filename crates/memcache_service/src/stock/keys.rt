@@ -1,7 +1,7 @@
 //! `delete`, `incr`, `decr`, `touch` and `flush_all`.
 ghost use Rattle.std.specs.Prelude.{◌≡◌, IfOk, OnErr, Some, None};
-ghost use Rattle.memcache_model.specs.Answers.{counts, deletes, flushes, touches_one};
-ghost use Rattle.memcache_model.specs.Items.{deadline_of};
+ghost use Rattle.memcache_model.specs.Answers.{counts, deletes_one, flushes, touches_one};
+ghost use Rattle.memcache_model.specs.Items.{exptime_deadline};
 ghost use Rattle.memcache_model.specs.Outcomes.{counted};
 ghost use Rattle.memcache_service.specs.Shelves.{MayComeAt};
 ghost use Rattle.memcache_service.specs.Stocks.{Did, Spares, stock_at};
@@ -21,7 +21,7 @@ impl<T: Shelf> Stock<T> {
     /// nothing.
     pub fn delete(&mut self, key: &[u8], moment: u64) -> Result<Reply, AllocError>
         requires { MayComeAt (T.view self.old.shelf) moment }
-        ensures ok { IfOk result (λ reply. Did T.view moment (deletes key.now
+        ensures ok { IfOk result (λ reply. Did T.view moment (deletes_one key.now
             ((stock_at T.view moment self.old).items key.now) (stock_at T.view moment self.old))
             self.old self.new (reply_text reply)) }
         ensures err { OnErr result (Spares self.old self.new) }
@@ -71,7 +71,7 @@ impl<T: Shelf> Stock<T> {
     pub fn touch(&mut self, key: &[u8], exptime: Exptime, moment: u64) -> Result<Reply, AllocError>
         requires { MayComeAt (T.view self.old.shelf) moment }
         ensures ok { IfOk result (λ reply. Did T.view moment (touches_one key.now
-            (deadline_of moment exptime) ((stock_at T.view moment self.old).items key.now)
+            (exptime_deadline moment exptime) ((stock_at T.view moment self.old).items key.now)
             (stock_at T.view moment self.old)) self.old self.new (reply_text reply)) }
         ensures err { OnErr result (Spares self.old self.new) }
     {

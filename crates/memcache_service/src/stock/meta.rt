@@ -123,7 +123,8 @@ impl<T: Shelf> Stock<T> {
         ensures ok { IfOk result (λ reply. Did T.view asked.entry.moment
             (meta_answer asked.entry.moment Meta.Get asked.entry.key.now
             (tokens asked.entry.flags.now)
-            ((stock_at T.view asked.entry.moment self.old).items asked.entry.key.now) (stock_at T.view asked.entry.moment self.old))
+            ((stock_at T.view asked.entry.moment self.old).items asked.entry.key.now)
+            (stock_at T.view asked.entry.moment self.old))
             self.old self.new (said_from (length output.old.items) output.new.items reply)) }
         ensures err { OnErr result (Spares self.old self.new) }
         ensures begun { take (length output.old.items) output.new.items ≡ output.old.items }
@@ -228,7 +229,8 @@ impl<T: Shelf> Stock<T> {
         ensures ok { IfOk result (λ reply. Did T.view asked.entry.moment
             (meta_answer asked.entry.moment Meta.Delete asked.entry.key.now
             (tokens asked.entry.flags.now)
-            ((stock_at T.view asked.entry.moment self.old).items asked.entry.key.now) (stock_at T.view asked.entry.moment self.old))
+            ((stock_at T.view asked.entry.moment self.old).items asked.entry.key.now)
+            (stock_at T.view asked.entry.moment self.old))
             self.old self.new (said_from (length output.old.items) output.new.items reply)) }
         ensures err { OnErr result (Spares self.old self.new) }
         ensures begun { take (length output.old.items) output.new.items ≡ output.old.items }
@@ -268,7 +270,8 @@ impl<T: Shelf> Stock<T> {
         ensures ok { IfOk result (λ reply. Did T.view asked.entry.moment
             (meta_answer asked.entry.moment Meta.Arithmetic asked.entry.key.now
             (tokens asked.entry.flags.now)
-            ((stock_at T.view asked.entry.moment self.old).items asked.entry.key.now) (stock_at T.view asked.entry.moment self.old))
+            ((stock_at T.view asked.entry.moment self.old).items asked.entry.key.now)
+            (stock_at T.view asked.entry.moment self.old))
             self.old self.new (said_from (length output.old.items) output.new.items reply)) }
         ensures err { OnErr result (Spares self.old self.new) }
         ensures begun { take (length output.old.items) output.new.items ≡ output.old.items }
@@ -350,7 +353,8 @@ impl<T: Shelf> Stock<T> {
         ensures ok { IfOk result (λ reply. Did T.view asked.entry.moment
             (meta_set_answer self.old.most asked.entry.moment asked.entry.key.now
             (tokens asked.entry.flags.now) block.now
-            ((stock_at T.view asked.entry.moment self.old).items asked.entry.key.now) (stock_at T.view asked.entry.moment self.old))
+            ((stock_at T.view asked.entry.moment self.old).items asked.entry.key.now)
+            (stock_at T.view asked.entry.moment self.old))
             self.old self.new (said_from (length output.old.items) output.new.items reply)) }
         ensures err { OnErr result (Spares self.old self.new) }
         ensures begun { take (length output.old.items) output.new.items ≡ output.old.items }
@@ -381,7 +385,9 @@ impl<T: Shelf> Stock<T> {
             (meta_compare self.old.most asked.entry.moment unique self.old.key
             (tokens asked.entry.flags.now)
             (meta_item asked.entry.moment
-            (tokens asked.entry.flags.now) block.now) ((stock_at T.view asked.entry.moment self.old).items self.old.key) (stock_at T.view asked.entry.moment self.old))
+            (tokens asked.entry.flags.now) block.now)
+            ((stock_at T.view asked.entry.moment self.old).items self.old.key)
+            (stock_at T.view asked.entry.moment self.old))
             self.old self.new (said_from (length output.old.items) output.new.items reply)) }
         ensures err { OnErr result (Spares self.old self.new) }
         ensures begun { take (length output.old.items) output.new.items ≡ output.old.items }
@@ -417,7 +423,9 @@ impl<T: Shelf> Stock<T> {
             (tokens asked.entry.flags.now)) self.old.key
             (tokens asked.entry.flags.now)
             (meta_item asked.entry.moment
-            (tokens asked.entry.flags.now) block.now) ((stock_at T.view asked.entry.moment self.old).items self.old.key) (stock_at T.view asked.entry.moment self.old))
+            (tokens asked.entry.flags.now) block.now)
+            ((stock_at T.view asked.entry.moment self.old).items self.old.key)
+            (stock_at T.view asked.entry.moment self.old))
             self.old self.new (said_from (length output.old.items) output.new.items reply)) }
         ensures err { OnErr result (Spares self.old self.new) }
         ensures begun { take (length output.old.items) output.new.items ≡ output.old.items }

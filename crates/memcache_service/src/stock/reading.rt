@@ -1,11 +1,11 @@
 //! `get` and `gat`.
 ghost use Rattle.std.specs.Prelude.{◌≡◌, ℕ, ◌≤◌, ◌++◌, take, length, vec_capacity, IfOk, OnOk, OnErr};
-ghost use Rattle.memcache_model.specs.Answers.{tells, touches_one};
+ghost use Rattle.memcache_model.specs.Answers.{tells_items, touches_one};
 ghost use Rattle.memcache_model.specs.Bytes.{tokens};
-ghost use Rattle.memcache_model.specs.Items.{deadline_of};
+ghost use Rattle.memcache_model.specs.Items.{exptime_deadline};
 ghost use Rattle.memcache_model.specs.Replies.{values_text};
 ghost use Rattle.memcache_service.specs.Shelves.{MayComeAt, live_on};
-ghost use Rattle.memcache_service.specs.Stocks.{Did, Keeps, Spares, Touches, stock_at};
+ghost use Rattle.memcache_service.specs.Stocks.{Did, LeavesStock, Spares, Touches, stock_at};
 ghost use Rattle.memcache_service.specs.Lines.{reply_text};
 
 use super::Stock;
@@ -34,10 +34,10 @@ impl<T: Shelf> Stock<T> {
         requires { MayComeAt (T.view self.old.shelf) moment }
         ensures told { IfOk result (λ reply. (reply ≡ Reply.Written)
             × (output.new.items ≡ output.old.items
-            ++ tells uniques (tokens keys.now) (stock_at T.view moment self.old).items)) }
+            ++ tells_items uniques (tokens keys.now) (stock_at T.view moment self.old).items)) }
         ensures begun { take (length output.old.items) output.new.items ≡ output.old.items }
         ensures capacity { vec_capacity output.old ≤ vec_capacity output.new }
-        ensures keeps { Keeps T.view moment self.old self.new }
+        ensures keeps { LeavesStock T.view moment self.old self.new }
         ensures err { OnErr result (Spares self.old self.new) }
     {
         say_live(&self.shelf, &mut self.key, uniques, keys, moment, output)?;
@@ -48,7 +48,7 @@ impl<T: Shelf> Stock<T> {
     /// Uses the live items of the keys.
     fn use_all(&mut self, keys: &[u8], moment: u64)
         requires { MayComeAt (T.view self.old.shelf) moment }
-        ensures { Keeps T.view moment self.old self.new }
+        ensures { LeavesStock T.view moment self.old self.new }
     {
         let mut rest = keys;
         while let Some((key, behind)) = next_token(rest) {
@@ -60,7 +60,7 @@ impl<T: Shelf> Stock<T> {
     /// Uses the live item of a key, and counts whether it is there.
     fn use_one(&mut self, key: &[u8], moment: u64)
         requires { MayComeAt (T.view self.old.shelf) moment }
-        ensures { Keeps T.view moment self.old self.new }
+        ensures { LeavesStock T.view moment self.old self.new }
     {
         self.counters.up(Tally::CmdGet);
         if self.key.fill(key).is_ok() {
@@ -86,12 +86,13 @@ impl<T: Shelf> Stock<T> {
         requires { MayComeAt (T.view self.old.shelf) moment }
         ensures told { IfOk result (λ reply. (reply ≡ Reply.Written)
             × (output.new.items ≡ output.old.items
-            ++ tells uniques (tokens keys.now) (stock_at T.view moment self.old).items)) }
+            ++ tells_items uniques (tokens keys.now) (stock_at T.view moment self.old).items)) }
         ensures begun { take (length output.old.items) output.new.items ≡ output.old.items }
         ensures capacity { vec_capacity output.old ≤ vec_capacity output.new }
-        ensures ok { OnOk result (Touches T.view moment (deadline_of moment exptime)
+        ensures ok { OnOk result (Touches T.view moment (exptime_deadline moment exptime)
             (tokens keys.now) self.old self.new) }
-        ensures err { OnErr result ((count : ℕ) × Touches T.view moment (deadline_of moment exptime)
+        ensures err { OnErr result ((count : ℕ)
+            × Touches T.view moment (exptime_deadline moment exptime)
             (take count (tokens keys.now)) self.old self.new) }
         ensures may_follow { MayComeAt (T.view self.new.shelf) moment }
         ensures most { self.new.most ≡ self.old.most }
@@ -131,7 +132,8 @@ impl<T: Shelf> Stock<T> {
     pub fn retime(&mut self, deadline: Option<u64>, moment: u64) -> Result<Reply, AllocError>
         requires { MayComeAt (T.view self.old.shelf) moment }
         ensures ok { IfOk result (λ reply. Did T.view moment (touches_one self.old.key deadline
-            ((stock_at T.view moment self.old).items self.old.key) (stock_at T.view moment self.old))
+            ((stock_at T.view moment self.old).items self.old.key)
+            (stock_at T.view moment self.old))
             self.old self.new (reply_text reply)) }
         ensures err { OnErr result (Spares self.old self.new) }
     {
@@ -158,7 +160,7 @@ fn say_live<T: Shelf>(
 ) -> Result<(), AllocError>
     requires { MayComeAt (T.view shelf.now) moment }
     ensures told { OnOk result (output.new.items ≡ output.old.items
-        ++ tells uniques (tokens keys.now) (live_on (T.view shelf.now) moment)) }
+        ++ tells_items uniques (tokens keys.now) (live_on (T.view shelf.now) moment)) }
     ensures begun { take (length output.old.items) output.new.items ≡ output.old.items }
     ensures capacity { vec_capacity output.old ≤ vec_capacity output.new }
 {

@@ -1,8 +1,8 @@
 //! The storage commands.
 ghost use Rattle.std.specs.Prelude.{◌≡◌, ◌↔◌, ◌<◌, ◌≤◌, ◌+◌, ◌^◌, ◌++◌, [], length, nat_lt, IsTrue, IfOk, OnOk, OnErr, Some, None, if◌then◌else◌};
 ghost use Rattle.memcache_model.specs.Answers.{passes_over, store_over};
-ghost use Rattle.memcache_model.specs.Outcomes.{new_item, stores};
-ghost use Rattle.memcache_model.specs.Items.{deadline_of};
+ghost use Rattle.memcache_model.specs.Outcomes.{new_item, stores_item};
+ghost use Rattle.memcache_model.specs.Items.{exptime_deadline};
 ghost use Rattle.memcache_service.specs.Shelves.{MayComeAt};
 ghost use Rattle.memcache_service.specs.Stocks.{Did, LeavesAll, Spares, block_item, appends_to, stock_at};
 ghost use Rattle.memcache_service.specs.Lines.{reply_text};
@@ -50,7 +50,7 @@ impl<T: Shelf> Stock<T> {
     ) -> Result<Reply, AllocError>
         requires { MayComeAt (T.view self.old.shelf) moment }
         ensures ok { IfOk result (λ reply. Did T.view moment (store_over self.old.most storage
-            key.now (new_item bytes.now flags (deadline_of moment exptime))
+            key.now (new_item bytes.now flags (exptime_deadline moment exptime))
             ((stock_at T.view moment self.old).items key.now) (stock_at T.view moment self.old))
             self.old self.new (reply_text reply)) }
         ensures err { OnErr result (Spares self.old self.new) }
@@ -79,7 +79,8 @@ impl<T: Shelf> Stock<T> {
         requires { MayComeAt (T.view self.old.shelf) moment }
         ensures ok { IfOk result (λ reply. Did T.view moment (store_over self.old.most storage
             self.old.key (block_item block.entry)
-            ((stock_at T.view moment self.old).items self.old.key) (stock_at T.view moment self.old))
+            ((stock_at T.view moment self.old).items self.old.key)
+            (stock_at T.view moment self.old))
             self.old self.new (reply_text reply)) }
         ensures err { OnErr result (Spares self.old self.new) }
     {
@@ -103,8 +104,8 @@ impl<T: Shelf> Stock<T> {
     fn put_block(&mut self, block: Block<'_>, moment: u64) -> Result<Reply, AllocError>
         requires { MayComeAt (T.view self.old.shelf) moment }
         ensures ok { IfOk result (λ reply. (reply ≡ Reply.Stored) × LeavesAll T.view moment
-            (stores [] self.old.key (block_item block.entry) (stock_at T.view moment self.old)).stock
-            self.old self.new) }
+            (stores_item [] self.old.key (block_item block.entry)
+            (stock_at T.view moment self.old)).stock self.old self.new) }
         ensures err { OnErr result (Spares self.old self.new) }
     {
         let item = block.item(self.alloc)?;
@@ -118,7 +119,7 @@ impl<T: Shelf> Stock<T> {
         requires { MayComeAt (T.view self.old.shelf) moment }
         ensures numbered { OnOk result (self.old.uniques + 1 < 2 ^ 64) }
         ensures ok { OnOk result (LeavesAll T.view moment
-            (stores [] self.old.key item (stock_at T.view moment self.old)).stock self.old
+            (stores_item [] self.old.key item (stock_at T.view moment self.old)).stock self.old
             self.new) }
         ensures err { OnErr result (Spares self.old self.new) }
     {
@@ -136,7 +137,8 @@ impl<T: Shelf> Stock<T> {
         requires { MayComeAt (T.view self.old.shelf) moment }
         ensures ok { IfOk result (λ reply. Did T.view moment (store_over self.old.most
             Storage.Append self.old.key (block_item block.entry)
-            ((stock_at T.view moment self.old).items self.old.key) (stock_at T.view moment self.old))
+            ((stock_at T.view moment self.old).items self.old.key)
+            (stock_at T.view moment self.old))
             self.old self.new (reply_text reply)) }
         ensures err { OnErr result (Spares self.old self.new) }
     {
@@ -154,7 +156,8 @@ impl<T: Shelf> Stock<T> {
         requires { MayComeAt (T.view self.old.shelf) moment }
         ensures ok { IfOk result (λ reply. Did T.view moment (store_over self.old.most
             Storage.Prepend self.old.key (block_item block.entry)
-            ((stock_at T.view moment self.old).items self.old.key) (stock_at T.view moment self.old))
+            ((stock_at T.view moment self.old).items self.old.key)
+            (stock_at T.view moment self.old))
             self.old self.new (reply_text reply)) }
         ensures err { OnErr result (Spares self.old self.new) }
     {
@@ -188,7 +191,8 @@ impl<T: Shelf> Stock<T> {
         requires { MayComeAt (T.view self.old.shelf) moment }
         ensures ok { IfOk result (λ reply. Did T.view moment (store_over self.old.most
             (Storage.Cas unique) self.old.key (block_item block.entry)
-            ((stock_at T.view moment self.old).items self.old.key) (stock_at T.view moment self.old))
+            ((stock_at T.view moment self.old).items self.old.key)
+            (stock_at T.view moment self.old))
             self.old self.new (reply_text reply)) }
         ensures err { OnErr result (Spares self.old self.new) }
     {

@@ -2,7 +2,7 @@
 ghost use Rattle.std.specs.Prelude.{◌≡◌, ◌≤◌, ◌++◌, [], false, OnOk, codes, decimal, length, map, take, vec_capacity, if◌then◌else◌};
 ghost use Rattle.std.specs.List.{concat};
 ghost use Rattle.memcache_model.specs.Bytes.{tokens};
-ghost use Rattle.memcache_model.specs.Meta.{code_alone, code_with, item_text, lease_text, left_text, told_alone, told_by};
+ghost use Rattle.memcache_model.specs.Meta.{code_alone, code_with, item_text, lease_text, left_text, told_alone, told_of_item};
 ghost use Rattle.memcache_service.specs.Told.{told_item};
 
 use super::flags::{has_flag, letter_of};
@@ -123,7 +123,7 @@ impl<'a> Told<'a> {
     /// Writes what the words of a request have told.
     fn say_words(&self, output: &mut Vec<u8>, flags: &[u8]) -> Result<(), AllocError>
         ensures ok { OnOk result (output.new.items ≡ output.old.items
-            ++ concat (map (told_by self.now.moment self.now.key.now (told_item self.now))
+            ++ concat (map (told_of_item self.now.moment self.now.key.now (told_item self.now))
             (tokens flags.now))) }
         ensures begun { take (length output.old.items) output.new.items ≡ output.old.items }
         ensures capacity { vec_capacity output.old ≤ vec_capacity output.new }
@@ -139,7 +139,7 @@ impl<'a> Told<'a> {
     /// Writes what a word has told.
     fn say_word(&self, output: &mut Vec<u8>, word: &[u8]) -> Result<(), AllocError>
         ensures ok { OnOk result (output.new.items ≡ output.old.items
-            ++ told_by self.now.moment self.now.key.now (told_item self.now) word.now) }
+            ++ told_of_item self.now.moment self.now.key.now (told_item self.now) word.now) }
         ensures begun { take (length output.old.items) output.new.items ≡ output.old.items }
         ensures capacity { vec_capacity output.old ≤ vec_capacity output.new }
     {

@@ -1,10 +1,12 @@
 -- The first record that breaks a rule, as the judge finds it.
-use Rattle.std.proofs.Common.{◌≡◌, refl, sym, ap, ◌∙◌, subst, ℕ, suc, Bool, true, false, not, ◌&&◌, ◌||◌, ◌==◌, List, [], ◌∷◌, ◌++◌, map, Option, Some, None, if◌then◌else◌, append_assoc}
-use Rattle.std.specs.List.{list_all, filter_map}
-use Rattle.std.specs.Option.{option_map_or, option_to_list}
+use Rattle.std.proofs.Common.{arith, inl, inr, ◌≡◌, refl, sym, ap, ◌∙◌, subst, ℕ, suc, Bool, true, false, not, ◌&&◌, ◌||◌, ◌==◌, List, [], ◌∷◌, ◌++◌, map, Option, Some, None, if◌then◌else◌, append_assoc}
+use Rattle.std.proofs.lemmas.Option.{none-some}
+use Rattle.std.proofs.Math.Bool.{and-true}
+use Rattle.std.specs.List.{list_all, filter_map, find}
+use Rattle.std.specs.Option.{option_map_or, option_to_list, option_map}
 use Rattle.std.proofs.lemmas.List.{append-nil, map-append}
 use Rattle.std.proofs.lemmas.List.Folds.{list_all-append}
-use Rattle.audit_model.specs.Bytewise.{same, is_empty}
+use Rattle.audit_model.specs.Bytewise.{same}
 use Rattle.audit_model.specs.Changes.{after_step}
 use Rattle.audit_model.specs.Follows.{placed_step_in, after_steps, after_record, after_event, tasks_in}
 use Rattle.audit_model.specs.History.{Value}
@@ -17,11 +19,8 @@ use Rattle.audit_model.specs.declared.transcript.Record.{Record}
 use Rattle.audit_model.specs.declared.transcript.Step.{Step}
 use Rattle.audit_laws.specs.Breaking.{first_break_from}
 use Rattle.audit_laws.specs.Placing.{placed_steps_in, accepted_in}
-use Rattle.std.specs.List.{find}
-use Rattle.std.specs.Option.{option_map}
 use Rattle.std.specs.Prelude.{is_some}
-use Rattle.std.proofs.lemmas.Bool.{eqb-true, eq-eqb, false_from_ne_true, both_ways}
-use Rattle.std.proofs.lemmas.Option.{none-some}
+use Rattle.std.proofs.lemmas.Bool.{and_from, and_parts, both_ways, cases_Bool, false_from_ne_true, eqb-true}
 use Rattle.std.proofs.lemmas.Slice.Eq.{bytes_eq-Decides}
 use Rattle.audit_situation.specs.Held.Known.{KeyPart, part_of_key, agrees, agrees_with, with_part, with_value}
 use Rattle.audit_situation.proofs.held.Pushing.{find-behind, find-past}
@@ -31,10 +30,7 @@ abbrev goes : Value → Value → Bool
 goes v w = not (same v.key w.key) || (v.part == w.part)
 
 crossed : (a b c d : Bool) → ((a && (b && true)) && (c && d)) ≡ ((a && c) && (b && d))
-crossed true true c d = refl
-crossed true false true d = refl
-crossed true false false d = refl
-crossed false b c d = refl
+crossed a b c d = grind arith
 
 -- the key has that part in all of these
 abbrev fits : List Value → List ℕ → ℕ → Bool
@@ -58,19 +54,10 @@ agree-with parts vs (Some w) k e = k w.key w.part ∙ sym (agree-push vs w ∙ a
 -- ---- the parts of one value more
 
 same-flip : (a b : List ℕ) → same a b ≡ same b a
-same-flip a b = go (same a b) refl
-  where
-    go : (x : Bool) → same a b ≡ x → x ≡ same b a
-    go true e = sym ((bytes_eq-Decides b a).1 (sym ((bytes_eq-Decides a b).0 e)))
-    go false e = sym (false_from_ne_true (same b a) (λ f. both_ways (same a b) e ((bytes_eq-Decides a b).1 (sym ((bytes_eq-Decides b a).0 f)))))
-
-and-true : (b : Bool) → b ≡ (b && true)
-and-true true = refl
-and-true false = refl
-
-twice : (b : Bool) → b ≡ (b && (b && true))
-twice true = refl
-twice false = refl
+same-flip a b = elim (cases_Bool (same a b)) [
+  | inl e ↦ e ∙ sym ((bytes_eq-Decides b a).1 (sym ((bytes_eq-Decides a b).0 e)))
+  | inr e ↦ e ∙ sym (false_from_ne_true (same b a) (λ f. both_ways (same a b) e ((bytes_eq-Decides a b).1 (sym ((bytes_eq-Decides b a).0 f)))))
+]
 
 module _ (parts : List KeyPart) (w : Value) (key : List ℕ) (part : ℕ) where
   abbrev here : Bool
@@ -87,31 +74,30 @@ module _ (parts : List KeyPart) (w : Value) (key : List ℕ) (part : ℕ) where
 
   -- the key had no part
   first-known : part_of_key parts w.key ≡ None → agrees (parts ++ record { key = w.key; part = w.part } ∷ []) key part ≡ (agrees parts key part && (here && true))
-  first-known none = go (same key w.key) refl
+  first-known none = elim (cases_Bool (same key w.key)) [
+    | inl e ↦
+        ap (λ o. option_map_or (λ p. p == part) (option_map (λ (p : KeyPart). p.part) o) true)
+        (find-behind (λ (p : KeyPart). same key p.key) parts (record { key = w.key; part = w.part }) (unknown (find (λ p. same key p.key) parts) (known-same e ∙ none))
+        ∙ ap (λ b. if b then Some (record { key = w.key; part = w.part }) else None) e)
+        ∙ sym (ap (λ b. b && (here && true)) (ap (λ o. option_map_or (λ p. p == part) o true) (known-same e ∙ none)) ∙ and-true here ∙ here-same e)
+    | inr e ↦
+        ap (λ o. option_map_or (λ p. p == part) (option_map (λ (p : KeyPart). p.part) o) true) (find-past (λ (p : KeyPart). same key p.key) parts (record { key = w.key; part = w.part }) e)
+        ∙ sym (ap (λ b. agrees parts key part && (b && true)) (here-other e) ∙ and-true (agrees parts key part))
+  ]
     where
       unknown : (o : Option KeyPart) → option_map (λ (p : KeyPart). p.part) o ≡ None → o ≡ None
       unknown None e = refl
       unknown (Some p) e = absurd (none-some p.part (sym e))
 
-      go : (b : Bool) → same key w.key ≡ b → agrees (parts ++ record { key = w.key; part = w.part } ∷ []) key part ≡ (agrees parts key part && (here && true))
-      go true e =
-          ap (λ o. option_map_or (λ p. p == part) (option_map (λ (p : KeyPart). p.part) o) true)
-          (find-behind (λ (p : KeyPart). same key p.key) parts (record { key = w.key; part = w.part }) (unknown (find (λ p. same key p.key) parts) (known-same e ∙ none))
-          ∙ ap (λ b. if b then Some (record { key = w.key; part = w.part }) else None) e)
-          ∙ sym (ap (λ b. b && (here && true)) (ap (λ o. option_map_or (λ p. p == part) o true) (known-same e ∙ none)) ∙ sym (and-true here) ∙ here-same e)
-      go false e =
-          ap (λ o. option_map_or (λ p. p == part) (option_map (λ (p : KeyPart). p.part) o) true) (find-past (λ (p : KeyPart). same key p.key) parts (record { key = w.key; part = w.part }) e)
-          ∙ and-true (agrees parts key part) ∙ sym (ap (λ b. agrees parts key part && (b && true)) (here-other e))
-
   -- it had this one
   known-before : (q : ℕ) → part_of_key parts w.key ≡ Some q → (q == w.part) ≡ true → agrees parts key part ≡ (agrees parts key part && (here && true))
-  known-before q some eq = go (same key w.key) refl
-    where
-      go : (b : Bool) → same key w.key ≡ b → agrees parts key part ≡ (agrees parts key part && (here && true))
-      go true e =
-          let is : agrees parts key part ≡ (w.part == part) = ap (λ o. option_map_or (λ p. p == part) o true) (known-same e ∙ some) ∙ ap (λ n. n == part) (eqb-true q w.part eq) in
-          is ∙ twice (w.part == part) ∙ sym (ap (λ b. b && (here && true)) is ∙ ap (λ b. (w.part == part) && (b && true)) (here-same e))
-      go false e = and-true (agrees parts key part) ∙ sym (ap (λ b. agrees parts key part && (b && true)) (here-other e))
+  known-before q some eq = elim (cases_Bool (same key w.key)) [
+    | inl e ↦
+        let is : agrees parts key part ≡ (w.part == part) = ap (λ o. option_map_or (λ p. p == part) o true) (known-same e ∙ some) ∙ ap (λ n. n == part) (eqb-true q w.part eq) in
+        let there = here-same e in
+        grind (arith, is, there)
+    | inr e ↦ sym (ap (λ b. agrees parts key part && (b && true)) (here-other e) ∙ and-true (agrees parts key part))
+  ]
 
   one-more : agrees parts w.key w.part ≡ true → agrees (with_part parts w.key w.part) key part ≡ (agrees parts key part && (here && true))
   one-more ok = go (part_of_key parts w.key) refl ok
@@ -134,27 +120,16 @@ with-front : (parts : List KeyPart) (o : Option Value) (rest : List Value) → w
 with-front parts None rest = refl
 with-front parts (Some v) rest = refl
 
-both-parts : (a b : Bool) → (a && b) ≡ true → (a ≡ true) × (b ≡ true)
-both-parts true b e = (refl, e)
-both-parts false b e = let no : false ≡ true = e in cc
-
-and-two : (a b : Bool) → a ≡ true → b ≡ true → (a && b) ≡ true
-and-two a b e f = ap (λ x. x && b) e ∙ f
-
 -- the front of values that agree agrees
 agree-front : (a b : List Value) → agree_on_parts (a ++ b) ≡ true → agree_on_parts a ≡ true
 agree-front [] b e = refl
 agree-front (v ∷ a) b e =
-    let parts = both-parts (list_all (goes v) (a ++ b)) (agree_on_parts (a ++ b)) e in
-    let first = both-parts (list_all (goes v) a) (list_all (goes v) b) (sym (list_all-append (goes v) a b) ∙ parts.0) in
-    and-two _ _ first.0 (agree-front a b parts.1)
+    let parts = and_parts (list_all (goes v) (a ++ b)) (agree_on_parts (a ++ b)) e in
+    let first = and_parts (list_all (goes v) a) (list_all (goes v) b) (sym (list_all-append (goes v) a b) ∙ parts.0) in
+    and_from _ _ first.0 (agree-front a b parts.1)
 
 agree-not : (a b : List Value) → agree_on_parts a ≡ false → agree_on_parts (a ++ b) ≡ false
-agree-not a b e = go (agree_on_parts (a ++ b)) refl
-  where
-    go : (x : Bool) → agree_on_parts (a ++ b) ≡ x → x ≡ false
-    go false f = refl
-    go true f = let no : false ≡ true = sym e ∙ agree-front a b f in cc
+agree-not a b e = false_from_ne_true _ (λ f. both_ways _ e (agree-front a b f))
 
 accepted-cons : (placed : PlacedStep) (rest : List PlacedStep) → accepted_values (placed ∷ rest) ≡ option_to_list placed.effect.value ++ accepted_values rest
 accepted-cons placed rest = go placed.effect.value
@@ -224,11 +199,7 @@ module _ (config : Config) where
 
   pub steps-are : (parts : List KeyPart) (values : List Value) (s : Situation) (tasks : List Task) (steps : List Step) → Knows parts values → agree_on_parts values ≡ true
       → audited_steps config parts s tasks steps ≡ reached_by parts values (accepted_values (placed_steps_in config s tasks steps)) (after_steps config s tasks steps)
-  steps-are parts values s tasks [] k e = go (is_empty (due (may_run_in s) tasks))
-    where
-      go : (b : Bool) → (if b then Some (record { situation = s; parts = parts }) else None) ≡ reached_by parts values [] (if b then Some s else None)
-      go true = sym (ap (λ vs. if agree_on_parts vs then Some (record { situation = s; parts = parts }) else None) (append-nil values) ∙ ap (λ b. if b then Some (record { situation = s; parts = parts }) else None) e)
-      go false = refl
+  steps-are parts values s tasks [] k e = grind (arith, e, append-nil values)
   steps-are parts values s tasks (step ∷ steps) k e =
       let now_due = due (may_run_in s) tasks in
       let placed = placed_step_in config s (first_due now_due) step in
@@ -237,13 +208,10 @@ module _ (config : Config) where
 
   record-is : (parts : List KeyPart) (values : List Value) (s : Situation) (entry : Record) → Knows parts values → agree_on_parts values ≡ true
       → audited_record config parts s entry ≡ reached_by parts values (accepted_in config s entry) (after_record config s entry)
-  record-is parts values s entry k e = go (is_taken config s entry)
-    where
-      go : (b : Bool)
-          → (if b then audited_steps config parts (after_event entry.event s) (tasks_in s entry.event) (steps_of entry) else None)
-          ≡ reached_by parts values (accepted_in config s entry) (if b then after_steps config (after_event entry.event s) (tasks_in s entry.event) (steps_of entry) else None)
-      go true = steps-are parts values (after_event entry.event s) (tasks_in s entry.event) (steps_of entry) k e
-      go false = refl
+  record-is parts values s entry k e = elim (cases_Bool (is_taken config s entry)) [
+    | inl is ↦ rw is (steps-are parts values (after_event entry.event s) (tasks_in s entry.event) (steps_of entry) k e)
+    | inr is ↦ rw is
+  ]
 
   -- the judge's first break is the first break
   pub breaks-are : (parts : List KeyPart) (values : List Value) (s : Situation) (n : ℕ) (entries : List Record) → Knows parts values → agree_on_parts values ≡ true
@@ -251,7 +219,7 @@ module _ (config : Config) where
   breaks-are parts values s n [] k e = refl
   breaks-are parts values s n (entry ∷ entries) k e =
       ap (λ o. option_map_or (λ (r : Reached). audited_from config r.parts r.situation (suc n) entries) o (Some (suc n))) (record-is parts values s entry k e)
-      ∙ go (after_record config s entry) (agree_on_parts (values ++ accepted_in config s entry)) refl
+      ∙ go (after_record config s entry)
       (λ t f. breaks-are (with_values parts (accepted_in config s entry)) (values ++ accepted_in config s entry) t (suc n) entries (knows-all parts values (accepted_in config s entry) k f) f)
     where
       added : List Value
@@ -260,15 +228,9 @@ module _ (config : Config) where
       more : List Value
       more = values ++ added
 
-      go : (o : Option Situation) (b : Bool) → agree_on_parts more ≡ b
+      go : (o : Option Situation)
           → ((t : Situation) → agree_on_parts more ≡ true → audited_from config (with_values parts added) t (suc n) entries ≡ first_break_from config t more (suc n) entries)
           → option_map_or (λ (r : Reached). audited_from config r.parts r.situation (suc n) entries) (reached_by parts values added o) (Some (suc n))
           ≡ option_map_or (λ t. if agree_on_parts more then first_break_from config t more (suc n) entries else Some (suc n)) o (Some (suc n))
-      go None b f ih = refl
-      go (Some t) true f ih =
-          ap (λ b. option_map_or (λ (r : Reached). audited_from config r.parts r.situation (suc n) entries) (if b then Some (record { situation = t; parts = with_values parts added }) else None) (Some (suc n))) f
-          ∙ ih t f
-          ∙ sym (ap (λ b. if b then first_break_from config t more (suc n) entries else Some (suc n)) f)
-      go (Some t) false f ih =
-          ap (λ b. option_map_or (λ (r : Reached). audited_from config r.parts r.situation (suc n) entries) (if b then Some (record { situation = t; parts = with_values parts added }) else None) (Some (suc n))) f
-          ∙ sym (ap (λ b. if b then first_break_from config t more (suc n) entries else Some (suc n)) f)
+      go None ih = refl
+      go (Some t) ih = elim (cases_Bool (agree_on_parts more)) [ inl f ↦ rw f (ih t f) | inr f ↦ rw f ]

@@ -1,9 +1,10 @@
 -- Connections stay tidy.
-use Rattle.std.proofs.Common.{◌≡◌, refl, sym, ap, ◌∙◌, subst, ℕ, suc, ◌<◌, ◌≤◌, ◌==◌, Bool, true, false, cond, not, ◌&&◌, ◌||◌, List, [], ◌∷◌, ◌++◌, map, Option, Some, None, if◌then◌else◌, max, arith, IsTrue, true≢false}
+use Rattle.std.proofs.Common.{◌≡◌, refl, ap, ◌∙◌, subst, ℕ, suc, ◌<◌, ◌==◌, Bool, true, false, not, ◌&&◌, ◌||◌, List, [], ◌∷◌, ◌++◌, map, Option, Some, None, if◌then◌else◌, max, arith, IsTrue}
 use Rattle.std.specs.Prelude.{nat_le}
 use Rattle.std.specs.List.{list_all, list_any, filter}
 use Rattle.std.specs.Option.{option_map_or}
-use Rattle.std.proofs.lemmas.Bool.{eq-eqb, eqb-true}
+use Rattle.std.proofs.lemmas.Bool.{and_from, and_parts, cond_both, eqb-true, not-true, or_from}
+use Rattle.std.proofs.lemmas.List.Folds.{list_any-append}
 use Rattle.std.proofs.lemmas.Bool.Decides.{nat_tests}
 use Rattle.audit_model.specs.Changes.{after_step, with_connection_after, connection_after, join_load, join_by}
 use Rattle.audit_model.specs.Commands.{quits}
@@ -11,7 +12,7 @@ use Rattle.audit_model.specs.Follows.{after_event}
 use Rattle.audit_model.specs.History.{Effect}
 use Rattle.audit_model.specs.Loads.{key_loaded}
 use Rattle.audit_model.specs.Obeys.{is_numbered}
-use Rattle.audit_model.specs.Situation.{Situation, Connection, connection_in, with_connection, without_number, without_waiting, is_overlong}
+use Rattle.audit_model.specs.Situation.{Situation, Connection, connection_in, with_connection, without_waiting, is_overlong}
 use Rattle.audit_model.specs.Steps.{Task, Store, Deliver, RunAgain, RunHeld, RunLines}
 use Rattle.audit_model.specs.Stream.{is_waiting}
 use Rattle.audit_model.specs.declared.config.Config.{Config}
@@ -24,50 +25,28 @@ use Rattle.moka_audit.specs.Records.Tidy.{is_tidy}
 abbrev tidy : ℕ → List Connection → Bool
 tidy opened cs = have_numbers_apart cs && list_all (λ c. nat_le c.number opened) cs
 
-two-parts : (a b : Bool) → (a && b) ≡ true → (a ≡ true) × (b ≡ true)
-two-parts true b e = (refl, e)
-two-parts false b e = let no : false ≡ true = e in cc
-
-and-two : (a b : Bool) → a ≡ true → b ≡ true → (a && b) ≡ true
-and-two a b e f = ap (λ x. x && b) e ∙ f
-
-not-false : (a : Bool) → not a ≡ true → a ≡ false
-not-false false e = refl
-not-false true e = let no : false ≡ true = e in cc
-
 -- ---- some connections leave
 
 any-filter : (p q : Connection → Bool) (cs : List Connection) → list_any p cs ≡ false → list_any p (filter q cs) ≡ false
 any-filter p q [] e = refl
-any-filter p q (c ∷ cs) e = go (p c) (q c) refl e (any-filter p q cs)
-  where
-    go : (a b : Bool) → p c ≡ a → (a || list_any p cs) ≡ false → (list_any p cs ≡ false → list_any p (filter q cs) ≡ false) → list_any p (cond b (c ∷ filter q cs) (filter q cs)) ≡ false
-    go true b f e ih = absurd (true≢false e)
-    go false true f e ih = ap (λ x. x || list_any p (filter q cs)) f ∙ ih e
-    go false false f e ih = ih e
+any-filter p q (c ∷ cs) e = let next = any-filter p q cs in grind (arith, e, next)
 
 all-filter : (p q : Connection → Bool) (cs : List Connection) → list_all p cs ≡ true → list_all p (filter q cs) ≡ true
 all-filter p q [] e = refl
-all-filter p q (c ∷ cs) e = let parts = two-parts (p c) (list_all p cs) e in go (q c) parts.0 (all-filter p q cs parts.1)
-  where
-    go : (b : Bool) → p c ≡ true → list_all p (filter q cs) ≡ true → list_all p (cond b (c ∷ filter q cs) (filter q cs)) ≡ true
-    go true f ih = and-two _ _ f ih
-    go false f ih = ih
+all-filter p q (c ∷ cs) e = let parts = and_parts (p c) (list_all p cs) e in let next = all-filter p q cs parts.1 in grind (arith, parts, next)
 
 apart-filter : (q : Connection → Bool) (cs : List Connection) → have_numbers_apart cs ≡ true → have_numbers_apart (filter q cs) ≡ true
 apart-filter q [] e = refl
 apart-filter q (c ∷ cs) e =
-    let parts = two-parts (not (list_any (λ d. d.number == c.number) cs)) (have_numbers_apart cs) e in
-    go (q c) (ap not (any-filter (λ d. d.number == c.number) q cs (not-false _ parts.0))) (apart-filter q cs parts.1)
-  where
-    go : (b : Bool) → not (list_any (λ d. d.number == c.number) (filter q cs)) ≡ true → have_numbers_apart (filter q cs) ≡ true → have_numbers_apart (cond b (c ∷ filter q cs) (filter q cs)) ≡ true
-    go true f ih = and-two _ _ f ih
-    go false f ih = ih
+    let parts = and_parts (not (list_any (λ d. d.number == c.number) cs)) (have_numbers_apart cs) e in
+    let first = any-filter (λ d. d.number == c.number) q cs (not-true _ parts.0) in
+    let next = apart-filter q cs parts.1 in
+    grind (arith, first, next)
 
 tidy-filter : (opened : ℕ) (q : Connection → Bool) (cs : List Connection) → tidy opened cs ≡ true → tidy opened (filter q cs) ≡ true
 tidy-filter opened q cs e =
-    let parts = two-parts (have_numbers_apart cs) (list_all (λ c. nat_le c.number opened) cs) e in
-    and-two _ _ (apart-filter q cs parts.0) (all-filter (λ c. nat_le c.number opened) q cs parts.1)
+    let parts = and_parts (have_numbers_apart cs) (list_all (λ c. nat_le c.number opened) cs) e in
+    and_from _ _ (apart-filter q cs parts.0) (all-filter (λ c. nat_le c.number opened) q cs parts.1)
 
 -- ---- some connections change
 
@@ -90,30 +69,17 @@ module _ (f : Connection → Connection) (keeps : (c : Connection) → (f c).num
   tidy-map n cs = ap (λ b. b && list_all (λ c. nat_le c.number n) (map f cs)) (apart-map cs) ∙ ap (λ b. have_numbers_apart cs && b) (all-map n cs)
 
 swap-keeps : (c d : Connection) → (if d.number == c.number then c else d).number ≡ d.number
-swap-keeps c d = go (d.number == c.number) refl
-  where
-    go : (b : Bool) → (d.number == c.number) ≡ b → (if b then c else d).number ≡ d.number
-    go true e = sym (eqb-true d.number c.number e)
-    go false e = refl
+swap-keeps c d = grind (arith, nat_tests)
 
 with-tidy : (q : Bool) (c : Connection) (s : Situation) → is_tidy s ≡ true → is_tidy (with_connection q c s) ≡ true
-with-tidy q c s e = go (q || is_overlong c)
-  where
-    go : (b : Bool) → tidy s.opened (if b then without_number c.number s.connections else map (λ d. if d.number == c.number then c else d) s.connections) ≡ true
-    go true = tidy-filter s.opened (λ d. not (d.number == c.number)) s.connections e
-    go false = tidy-map (λ d. if d.number == c.number then c else d) (swap-keeps c) s.opened s.connections ∙ e
+with-tidy q c s e = cond_both (q || is_overlong c) _ _ (λ cs. tidy s.opened cs ≡ true)
+    (λ _. tidy-filter s.opened (λ d. not (d.number == c.number)) s.connections e)
+    (λ _. tidy-map (λ d. if d.number == c.number then c else d) (swap-keeps c) s.opened s.connections ∙ e)
 
 -- ---- a connection opens
 
 differ : (m n o : ℕ) → nat_le m o ≡ true → n ≡ suc o → (n == m) ≡ false
-differ m n o h e = go (n == m) refl
-  where
-    le : (a b : ℕ) → nat_le a b ≡ true → a ≤ b
-    le a b k = grind (arith, nat_tests)
-
-    go : (b : Bool) → (n == m) ≡ b → b ≡ false
-    go false f = refl
-    go true f = let same = eqb-true n m f in let low = le m o h in absurd (omega arith)
+differ m n o h e = grind (arith, nat_tests)
 
 le-more : (m o : ℕ) → nat_le m o ≡ true → nat_le m (suc o) ≡ true
 le-more m o h = grind (arith, nat_tests)
@@ -122,30 +88,25 @@ le-same : (n o : ℕ) → n ≡ suc o → nat_le n (suc o) ≡ true
 le-same n o e = grind (arith, nat_tests)
 
 any-push : (p : Connection → Bool) (cs : List Connection) (c : Connection) → list_any p cs ≡ false → p c ≡ false → list_any p (cs ++ c ∷ []) ≡ false
-any-push p [] c e f = ap (λ b. b || false) f
-any-push p (d ∷ ds) c e f = go (p d) refl e (λ k. any-push p ds c k f)
-  where
-    go : (a : Bool) → p d ≡ a → (a || list_any p ds) ≡ false → (list_any p ds ≡ false → list_any p (ds ++ c ∷ []) ≡ false) → (p d || list_any p (ds ++ c ∷ [])) ≡ false
-    go true g e ih = absurd (true≢false e)
-    go false g e ih = ap (λ b. b || list_any p (ds ++ c ∷ [])) g ∙ ih e
+any-push p cs c e f = list_any-append p cs (c ∷ []) ∙ or_from _ _ e (or_from _ _ f refl)
 
 tidy-push : (opened : ℕ) (cs : List Connection) (c : Connection) → tidy opened cs ≡ true → c.number ≡ suc opened → tidy (suc opened) (cs ++ c ∷ []) ≡ true
 tidy-push opened cs c e n =
-    let parts = two-parts (have_numbers_apart cs) (list_all (λ d. nat_le d.number opened) cs) e in
-    and-two _ _ (apart cs parts.0 parts.1) (all cs parts.1)
+    let parts = and_parts (have_numbers_apart cs) (list_all (λ d. nat_le d.number opened) cs) e in
+    and_from _ _ (apart cs parts.0 parts.1) (all cs parts.1)
   where
     apart : (ds : List Connection) → have_numbers_apart ds ≡ true → list_all (λ d. nat_le d.number opened) ds ≡ true → have_numbers_apart (ds ++ c ∷ []) ≡ true
     apart [] a b = refl
     apart (d ∷ ds) a b =
-        let pa = two-parts (not (list_any (λ k. k.number == d.number) ds)) (have_numbers_apart ds) a in
-        let pb = two-parts (nat_le d.number opened) (list_all (λ k. nat_le k.number opened) ds) b in
-        and-two _ _ (ap not (any-push (λ k. k.number == d.number) ds c (not-false _ pa.0) (differ d.number c.number opened pb.0 n))) (apart ds pa.1 pb.1)
+        let pa = and_parts (not (list_any (λ k. k.number == d.number) ds)) (have_numbers_apart ds) a in
+        let pb = and_parts (nat_le d.number opened) (list_all (λ k. nat_le k.number opened) ds) b in
+        and_from _ _ (ap not (any-push (λ k. k.number == d.number) ds c (not-true _ pa.0) (differ d.number c.number opened pb.0 n))) (apart ds pa.1 pb.1)
 
     all : (ds : List Connection) → list_all (λ d. nat_le d.number opened) ds ≡ true → list_all (λ d. nat_le d.number (suc opened)) (ds ++ c ∷ []) ≡ true
-    all [] b = and-two _ _ (le-same c.number opened n) refl
+    all [] b = and_from _ _ (le-same c.number opened n) refl
     all (d ∷ ds) b =
-        let pb = two-parts (nat_le d.number opened) (list_all (λ k. nat_le k.number opened) ds) b in
-        and-two _ _ (le-more d.number opened pb.0) (all ds pb.1)
+        let pb = and_parts (nat_le d.number opened) (list_all (λ k. nat_le k.number opened) ds) b in
+        and_from _ _ (le-more d.number opened pb.0) (all ds pb.1)
 
 -- ---- events and steps
 
@@ -187,6 +148,3 @@ passed-tidy (Some (RunLines conn)) step effect s t = moved-tidy (Some (RunLines 
 
 pub step-tidy : (config : Config) (s : Situation) (task : Option Task) (step : Step) (effect : Effect) → is_tidy s ≡ true → is_tidy (after_step config s task step effect) ≡ true
 step-tidy config s task step effect t = passed-tidy task step effect _ t
-
-pub tidy-apart : (s : Situation) → is_tidy s ≡ true → have_numbers_apart s.connections ≡ true
-tidy-apart s t = (two-parts (have_numbers_apart s.connections) (list_all (λ c. nat_le c.number s.opened) s.connections) t).0

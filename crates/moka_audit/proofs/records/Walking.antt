@@ -1,41 +1,21 @@
 -- Steps judged one after another.
-use Rattle.std.proofs.Common.{◌≡◌, refl, sym, ap, ◌∙◌, subst, ℕ, zero, suc, leb, arith, drop-cons, ◌+◌, ◌<◌, Bool, true, false, ◌&&◌, List, [], ◌∷◌, ◌++◌, map, length, take, drop, get_or, Option, Some, None, if◌then◌else◌, true≢false}
-use Rattle.std.specs.List.{flat_map}
+use Rattle.std.proofs.Common.{◌≡◌, refl, sym, ap, ◌∙◌, subst, ℕ, zero, suc, leb, arith, drop-cons, ◌+◌, ◌<◌, Bool, true, false, ◌&&◌, List, [], ◌∷◌, map, length, drop, get_or, Option, Some, None, if◌then◌else◌, true≢false}
 use Rattle.std.proofs.lemmas.Bool.Decides.{nat_tests}
 use Rattle.audit_model.specs.Bytewise.{is_empty}
 use Rattle.audit_model.specs.declared.event.Outcome.{Outcome}
 use Rattle.std.specs.Option.{option_map}
-use Rattle.std.proofs.lemmas.List.{take_more, append-nil, append_assoc}
 use Rattle.audit_model.specs.Changes.{after_step}
 use Rattle.audit_model.specs.Follows.{placed_step_in}
 use Rattle.audit_model.specs.Places.{due, first_due, left_after}
 use Rattle.audit_model.specs.Situation.{Situation, may_run_in}
-use Rattle.audit_model.specs.Steps.{Task, Store, Deliver, RunAgain, RunHeld, RunLines, is_right}
+use Rattle.audit_model.specs.Steps.{Task, Store, is_right}
 use Rattle.audit_model.specs.declared.config.Config.{Config}
 use Rattle.audit_model.specs.declared.transcript.Step.{Step}
 use Rattle.audit_situation.specs.Held.Known.{KeyPart, agrees_with, with_value}
 use Rattle.moka_audit.specs.Steps.Judging.{IsJudged}
-use Rattle.moka_audit.specs.Steps.Showing.{runs_lines}
 use Rattle.moka_audit.specs.Records.Auditing.{Reached, Reaches, audited_steps}
 use Rattle.moka_audit.specs.Records.Tidy.{is_tidy}
-use Rattle.moka_audit.specs.Records.Due.{is_due_by}
 use Rattle.moka_audit.proofs.records.Tidying.{step-tidy}
-
--- a task that is not due is left out
-pub due-cons : (may : ℕ → Bool) (task : Task) (tasks : List Task) → due may (task ∷ tasks) ≡ (if is_due_by may task then task ∷ tasks else due may tasks)
-due-cons may (Store key outcome) tasks = refl
-due-cons may (Deliver conn outcome) tasks = refl
-due-cons may (RunAgain conn) tasks = refl
-due-cons may (RunHeld conn) tasks = refl
-due-cons may (RunLines conn) tasks = refl
-
--- lines stay due
-pub left-cons : (task : Task) (tasks : List Task) → left_after (task ∷ tasks) ≡ (if runs_lines (Some task) then task ∷ tasks else tasks)
-left-cons (Store key outcome) tasks = refl
-left-cons (Deliver conn outcome) tasks = refl
-left-cons (RunAgain conn) tasks = refl
-left-cons (RunHeld conn) tasks = refl
-left-cons (RunLines conn) tasks = refl
 
 module _ (config : Config) (parts more : List KeyPart) (s t : Situation) (tasks : List Task) (task : Option Task) (step : Step) (rest : List Step) where
   abbrev now_due : List Task
@@ -65,13 +45,6 @@ module _ (config : Config) (parts more : List KeyPart) (s t : Situation) (tasks 
   pub walk-tidy : IsJudged config s parts task step (placed_step_in config s task step) true t more → is_tidy s ≡ true → is_tidy t ≡ true
   walk-tidy j tidy = ap is_tidy (j.left refl) ∙ step-tidy config s task step (placed_step_in config s task step).effect tidy
 
-flat_map-push : {X Y : Type 0} (f : X → List Y) (xs : List X) (x : X) → flat_map f (xs ++ x ∷ []) ≡ flat_map f xs ++ f x
-flat_map-push f [] x = append-nil (f x)
-flat_map-push f (y ∷ xs) x = ap (λ zs. f y ++ zs) (flat_map-push f xs x) ∙ sym (append_assoc (f y) (flat_map f xs) (f x))
-
-pub flat_map-more : {X Y : Type 0} (f : X → List Y) (xs : List X) (i : ℕ) (d : X) → i < length xs → flat_map f (take (i + 1) xs) ≡ flat_map f (take i xs) ++ f (get_or xs i d)
-flat_map-more f xs i d h = ap (flat_map f) (take_more xs i d h) ∙ flat_map-push f (take i xs) (get_or xs i d)
-
 -- behind the last place
 pub end-is : {X : Type 0} (f : X → Task) (xs : List X) (at : ℕ) → leb (length xs) at ≡ is_empty (map f (drop at xs))
 end-is f [] zero = refl
@@ -89,8 +62,7 @@ end-is f (x ∷ xs) (suc at) = both-less (length xs) at ∙ end-is f xs at
     both-less m n = grind (arith, nat_tests)
 
 pub reaches-end : (b : Bool) (t : Situation) (parts : List KeyPart) (o : Option Reached) → o ≡ (if b then Some (record { situation = t; parts = parts }) else None) → Reaches b t parts o
-reaches-end true t parts o e = e
-reaches-end false t parts o e = e
+reaches-end b t parts o e = grind (arith, e)
 
 -- a right own step of an answer leads on
 pub store-on : (config : Config) (parts more : List KeyPart) (s t : Situation) (key : Option (List ℕ)) (outcome : Outcome) (tasks : List Task) (step : Step) (rest : List Step)

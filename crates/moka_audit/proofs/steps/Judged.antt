@@ -1,7 +1,8 @@
 -- A step judged part by part.
-use Rattle.std.proofs.Common.{◌≡◌, refl, sym, ap, ◌∙◌, ℕ, Bool, true, false, not, ◌&&◌, ◌||◌, List, [], ◌∷◌, map, Option, Some, None, true≢false, Result, Ok, Err}
+use Rattle.std.proofs.Common.{◌≡◌, refl, sym, ap, ◌∙◌, ℕ, Bool, true, false, not, ◌&&◌, ◌||◌, List, [], map, Option, Some, None, true≢false, Result, Ok, Err, arith}
+use Rattle.std.proofs.Math.Bool.{and_comm, and-false}
+use Rattle.std.proofs.lemmas.Bool.{and_from, and_left, and_right}
 use Rattle.std.specs.Prelude.{is_some, IfOk}
-use Rattle.std.specs.List.{list_all}
 use Rattle.std.specs.Option.{option_map}
 use Rattle.std.proofs.lemmas.Simd.{map-map}
 use Rattle.audit_model.specs.Changes.{left_held, all_held_after, held_after, with_connection_after}
@@ -18,11 +19,7 @@ use Rattle.audit_model.specs.declared.transcript.Step.{Step}
 use Rattle.audit_situation.specs.States.{moved_in}
 use Rattle.moka_audit.specs.Steps.Doings.{acting}
 use Rattle.moka_audit.specs.Steps.Judging.{is_fit, is_synced}
-use Rattle.moka_audit.specs.Steps.Showing.{runs_lines, stores}
-
-pub list_all-map : {X Y : Type 0} (f : X → Y) (p : Y → Bool) (xs : List X) → list_all p (map f xs) ≡ list_all (λ x. p (f x)) xs
-list_all-map f p [] = refl
-list_all-map f p (x ∷ xs) = ap (λ b. p (f x) && b) (list_all-map f p xs)
+use Rattle.moka_audit.specs.Steps.Showing.{runs_lines, is_store_due}
 
 pub is_some-map : {X Y : Type 0} (f : X → Y) (o : Option X) → is_some o ≡ is_some (option_map f o)
 is_some-map f None = refl
@@ -35,12 +32,12 @@ all-same a b c d e f a' b' c' d' e' f' p q r s t u =
     ∙ ap (λ x. a' && b' && c' && x && e && f) s ∙ ap (λ x. a' && b' && c' && d' && x && f) t ∙ ap (λ x. a' && b' && c' && d' && e' && x) u
 
 -- what a step that stores no answer does to its connection and to the loads
-pub passes : (task : Option Task) (step : Step) (action : Action) (s : Situation) → stores task ≡ false
+pub passes : (task : Option Task) (step : Step) (action : Action) (s : Situation) → is_store_due task ≡ false
     → moved_in step.conn (runs_lines task) (is_held (acting action step.reply step.load)) (is_some step.reply) step.line (quits (acting action step.reply step.load)) (key_loaded action) step.load s
     ≡ with_connection_after task step (acting action step.reply step.load) s
 passes task step action s e = go task step.reply e
   where
-    go : (t : Option Task) (r : Option (List ℕ)) → stores t ≡ false
+    go : (t : Option Task) (r : Option (List ℕ)) → is_store_due t ≡ false
         → moved_in step.conn (runs_lines t) (is_held (acting action r step.load)) (is_some r) step.line (quits (acting action r step.load)) (key_loaded action) step.load s
         ≡ with_connection_after t (record step { reply = r }) (acting action r step.load) s
     go None None e = refl
@@ -61,42 +58,18 @@ pub values-after : (config : Config) (now : ℕ) (held : List HeldValue) (deed :
 values-after config now held deed notes = map-map (λ h. h.value) (held_after config now held deed notes (map (λ h. h.value) (left_held held deed notes))) (left_held held deed notes)
 
 pub first-wrong : (r s : Bool) → r ≡ false → false ≡ (r && s)
-first-wrong r s e = sym (ap (λ b. b && s) e)
+first-wrong r s e = sym (and_left r s e)
 
 pub second-wrong : (r s : Bool) → s ≡ false → false ≡ (r && s)
-second-wrong true s e = sym e
-second-wrong false s e = refl
+second-wrong r s e = sym (and_right r s e)
 
 pub both-right : (r s : Bool) → r ≡ true → s ≡ true → true ≡ (r && s)
-both-right r s e f = sym (ap (λ b. b && s) e ∙ f)
+both-right r s e f = sym (and_from r s e f)
 
 -- nine tests in another order
 reorder : (t h l r ld a n q sync w : Bool)
     → (t && h && l && r && ld && a && n && q && (not sync || w)) ≡ (((t && h && l && (sync || r) && ld && q) && a) && (n && (not sync || (r && w))))
-reorder false h l r ld a n q sync w = refl
-reorder true false l r ld a n q sync w = refl
-reorder true true false r ld a n q sync w = refl
-reorder true true true false ld a n q false w = refl
-reorder true true true false false a n q true w = refl
-reorder true true true false true false n false true w = refl
-reorder true true true false true true n false true w = refl
-reorder true true true false true false n true true w = refl
-reorder true true true false true true false true true w = refl
-reorder true true true false true true true true true w = refl
-reorder true true true true false a n q false w = refl
-reorder true true true true false a n q true w = refl
-reorder true true true true true false n false false w = refl
-reorder true true true true true false n false true w = refl
-reorder true true true true true false n true false w = refl
-reorder true true true true true false n true true w = refl
-reorder true true true true true true false false false w = refl
-reorder true true true true true true false false true w = refl
-reorder true true true true true true false true false w = refl
-reorder true true true true true true false true true w = refl
-reorder true true true true true true true false false w = refl
-reorder true true true true true true true false true w = refl
-reorder true true true true true true true true false w = refl
-reorder true true true true true true true true true w = refl
+reorder t h l r ld a n q sync w = grind arith
 
 pub right-is : (config : Config) (placed : PlacedStep)
     → is_right config placed ≡ ((is_fit config placed && has_right_acceptance config placed) && (has_right_notes config placed && is_synced config placed))
@@ -116,22 +89,13 @@ wrong-fit config placed agrees f = judged config placed agrees false (has_right_
 
 pub wrong-acceptance : (config : Config) (placed : PlacedStep) (agrees : Bool) → has_right_acceptance config placed ≡ false → false ≡ (is_right config placed && agrees)
 wrong-acceptance config placed agrees a =
-    go (is_fit config placed) ∙ judged config placed agrees (is_fit config placed) false (has_right_notes config placed && is_synced config placed) refl (sym a) refl
-  where
-    go : (f : Bool) → false ≡ (((f && false) && (has_right_notes config placed && is_synced config placed)) && agrees)
-    go true = refl
-    go false = refl
-
-both-ways-and : (x y : Bool) → (x && y) ≡ (y && x)
-both-ways-and true true = refl
-both-ways-and true false = refl
-both-ways-and false true = refl
-both-ways-and false false = refl
+    ap (λ b. (b && (has_right_notes config placed && is_synced config placed)) && agrees) (sym (and-false (is_fit config placed)))
+    ∙ judged config placed agrees (is_fit config placed) false (has_right_notes config placed && is_synced config placed) refl (sym a) refl
 
 pub right-of : (config : Config) (placed : PlacedStep) (agrees b : Bool) → is_fit config placed ≡ true → has_right_acceptance config placed ≡ true
     → b ≡ (agrees && (has_right_notes config placed && is_synced config placed)) → b ≡ (is_right config placed && agrees)
 right-of config placed agrees b f a n =
-    n ∙ both-ways-and agrees (has_right_notes config placed && is_synced config placed)
+    n ∙ and_comm agrees (has_right_notes config placed && is_synced config placed)
     ∙ judged config placed agrees true true (has_right_notes config placed && is_synced config placed) (sym f) (sym a) refl
 
 -- what holds of a result that is there

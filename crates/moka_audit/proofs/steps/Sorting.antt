@@ -1,19 +1,19 @@
 -- Keys in byte order.
-use Rattle.std.proofs.Common.{◌≡◌, ℕ, ◌+◌, ◌<◌, Bool, cond, true, false, not, ◌&&◌, List, [], ◌∷◌, ◌++◌, map, length, get_or, take, drop, reverse, Bor, Option, Some, None, if◌then◌else◌, refl, sym, ap, ◌∙◌, subst}
-use Rattle.std.proofs.lemmas.Bool.{and_parts, and_from, not-true}
+use Rattle.std.proofs.Common.{arith, ◌≡◌, ℕ, ◌+◌, ◌<◌, Bool, cond, true, false, not, List, [], ◌∷◌, ◌++◌, map, length, get_or, take, drop, reverse, Bor, Option, None, if◌then◌else◌, refl, sym, ap, ◌∙◌, subst}
+use Rattle.std.proofs.lemmas.Bool.{and_parts, and_from, cond_both, not-true}
 use Rattle.std.proofs.lemmas.List.{take_more, take-append-drop, append-nil, append_assoc, map-append, reverse-append}
 use Rattle.std.proofs.lemmas.Map.Text.{is_eq-slice_cmp}
 use Rattle.std.proofs.lemmas.Option.{none-some}
 use Rattle.std.proofs.lemmas.Slice.Eq.{bytes_eq-Decides}
 use Rattle.std.specs.BTreeMap.{insert_entry}
 use Rattle.std.specs.Cmp.Lexicographic.{slice_cmp}
-use Rattle.std.specs.List.{filter, find, list_all, concat}
+use Rattle.std.specs.List.{find, list_all, concat}
 use Rattle.std.specs.Ordering.{nat_cmp, is_lt, is_eq, match_ordering}
 use Rattle.std.specs.declared.cmp.Ordering.{Ordering}
 use Rattle.std.specs.declared.cmp.Ordering.TheVariants.{Less, Equal, Greater}
 use Rattle.audit_model.specs.Bytewise.{same, is_before, text_line}
 use Rattle.audit_model.specs.Situation.{HeldValue, is_live_at, live_keys_at}
-use Rattle.audit_model.specs.Values.{put_sorted, sorted, without_key}
+use Rattle.audit_model.specs.Values.{put_sorted, without_key}
 use Rattle.audit_model.specs.declared.config.Config.{Config}
 use Rattle.audit_situation.specs.Held.Seeing.{held_of}
 use Rattle.audit_situation.specs.declared.held.held.Seen.{Seen}
@@ -57,12 +57,7 @@ abbrev pub put_if : Bool → List ℕ → List (List ℕ) → List (List ℕ)
 put_if live key keys = if live then put_sorted key keys else keys
 
 live-cons : (config : Config) (now : ℕ) (h : HeldValue) (items : List HeldValue) → live_keys_at config now (h ∷ items) ≡ put_if (is_live_at config now h) h.value.key (live_keys_at config now items)
-live-cons config now h items = go (is_live_at config now h)
-  where
-    go : (b : Bool) → sorted (map (λ (g : HeldValue). g.value.key) (cond b (h ∷ filter (is_live_at config now) items) (filter (is_live_at config now) items)))
-        ≡ put_if b h.value.key (live_keys_at config now items)
-    go true = refl
-    go false = refl
+live-cons config now h items = grind arith
 
 -- none of these has the key
 abbrev is_absent : List ℕ → List HeldValue → Bool
@@ -72,21 +67,15 @@ new-put : (key k : List ℕ) (xs : List (List ℕ)) → not (same key k) ≡ tru
 new-put key k [] a b = and_from _ _ a refl
 new-put key k (x ∷ xs) a b =
     let parts = and_parts (not (same key x)) (is_new key xs) b in
-    go (is_before k x) (new-put key k xs a parts.1)
-  where
-    go : (t : Bool) → is_new key (put_sorted k xs) ≡ true → is_new key (if t then k ∷ x ∷ xs else x ∷ put_sorted k xs) ≡ true
-    go true next = and_from _ _ a b
-    go false next = and_from _ _ (and_parts (not (same key x)) (is_new key xs) b).0 next
+    cond_both (is_before k x) _ _ (λ keys. is_new key keys ≡ true) (λ _. and_from _ _ a b) (λ _. and_from _ _ parts.0 (new-put key k xs a parts.1))
 
 new_live : (config : Config) (now : ℕ) (key : List ℕ) (items : List HeldValue) → is_absent key items ≡ true → is_new key (live_keys_at config now items) ≡ true
 new_live config now key [] a = refl
 new_live config now key (h ∷ items) a =
     let parts = and_parts (not (same key h.value.key)) (is_absent key items) a in
-    subst (λ xs. is_new key xs ≡ true) (sym (live-cons config now h items)) (go (is_live_at config now h) parts.0 (new_live config now key items parts.1))
-  where
-    go : (b : Bool) → not (same key h.value.key) ≡ true → is_new key (live_keys_at config now items) ≡ true → is_new key (put_if b h.value.key (live_keys_at config now items)) ≡ true
-    go true a next = new-put key h.value.key (live_keys_at config now items) a next
-    go false a next = next
+    let next = new_live config now key items parts.1 in
+    subst (λ xs. is_new key xs ≡ true) (sym (live-cons config now h items))
+    (cond_both (is_live_at config now h) _ _ (λ keys. is_new key keys ≡ true) (λ _. new-put key h.value.key (live_keys_at config now items) parts.0 next) (λ _. next))
 
 -- ---- no key twice
 
@@ -98,29 +87,17 @@ but_key key items = without_key (λ h. h.value.key) key items
 
 none-absent : (key : List ℕ) (items : List HeldValue) → at_key key items ≡ None → is_absent key items ≡ true
 none-absent key [] e = refl
-none-absent key (h ∷ items) e = go (same key h.value.key) e (none-absent key items)
-  where
-    go : (b : Bool) → cond b (Some h) (at_key key items) ≡ None → (at_key key items ≡ None → is_absent key items ≡ true) → (not b && is_absent key items) ≡ true
-    go true e next = absurd (none-some h (sym e))
-    go false e next = next e
+none-absent key (h ∷ items) e = grind (arith, none-absent key items, none-some h)
 
 none-behind : (key : List ℕ) (front back : List HeldValue) → at_key key (front ++ back) ≡ None → at_key key back ≡ None
 none-behind key [] back e = e
-none-behind key (f ∷ front) back e = go (same key f.value.key) e (none-behind key front back)
-  where
-    go : (b : Bool) → cond b (Some f) (at_key key (front ++ back)) ≡ None → (at_key key (front ++ back) ≡ None → at_key key back ≡ None) → at_key key back ≡ None
-    go true e next = absurd (none-some f (sym e))
-    go false e next = next e
+none-behind key (f ∷ front) back e = grind (arith, none-behind key front back, none-some f)
 
 -- where no key stands twice, none stands behind its first value
 behind-first : (h : HeldValue) (front back : List HeldValue) → at_key h.value.key (but_key h.value.key (front ++ h ∷ back)) ≡ None → at_key h.value.key back ≡ None
 behind-first h [] back e = subst (λ b. at_key h.value.key (cond b back (h ∷ but_key h.value.key back)) ≡ None) ((bytes_eq-Decides h.value.key h.value.key).1 refl) e
-behind-first h (f ∷ front) back e = go (same h.value.key f.value.key) refl (behind-first h front back) e
-  where
-    go : (b : Bool) → same h.value.key f.value.key ≡ b → (at_key h.value.key (but_key h.value.key (front ++ h ∷ back)) ≡ None → at_key h.value.key back ≡ None)
-        → at_key h.value.key (cond b (front ++ h ∷ back) (f ∷ but_key h.value.key (front ++ h ∷ back))) ≡ None → at_key h.value.key back ≡ None
-    go true is next e = none-behind h.value.key (h ∷ []) back (none-behind h.value.key front (h ∷ back) e)
-    go false is next e = next (subst (λ b. cond b (Some f) (at_key h.value.key (but_key h.value.key (front ++ h ∷ back))) ≡ None) is e)
+behind-first h (f ∷ front) back e =
+    grind (arith, e, behind-first h front back, none-behind h.value.key (h ∷ []) back, none-behind h.value.key front (h ∷ back))
 
 -- a list whose last comes first, up to a place, with what stands there
 up-to : (held : List Seen) (i : ℕ) (h : Seen) → i < length held → h ≡ get_or held i h → reverse (map held_of (take (i + 1) held)) ≡ held_of h ∷ reverse (map held_of (take i held))
@@ -175,9 +152,6 @@ pub record Lined (all rest : Keys) (before lines : List ℕ) : Type 0 where
   pub done : Keys
   pub whole : all ≡ done ++ rest
   pub written : lines ≡ before ++ concat (map text_line (texts done))
-
-pub lined_start : (all : Keys) (before : List ℕ) → Lined all all before before
-lined_start all before = record { done = []; whole = refl; written = sym (append-nil before) }
 
 pub lined_more : (all rest : Keys) (before lines new : List ℕ) (e : Bor (List ℕ) × Unit {0}) → new ≡ lines ++ text_line e.0.now → Lined all (e ∷ rest) before lines → Lined all rest before new
 lined_more all rest before lines new e w l = record {

@@ -8,8 +8,8 @@ use Rattle.moka_audit.specs.declared.records.auditing.Verdict.TheVariants.{Yes, 
 
 -- yes: the transcript obeys, and none of its events is refused; breaks: this is not so, and the first n records are the shortest front of
 -- which it is not so; out of memory says nothing
-abbrev pub IsJust : Config → Transcript → Verdict → Type 0
-IsJust config transcript Yes = IsFaultless config transcript
-IsJust config transcript (Breaks n) =
+abbrev pub IsJustVerdict : Config → Transcript → Verdict → Type 0
+IsJustVerdict config transcript Yes = IsFaultless config transcript
+IsJustVerdict config transcript (Breaks n) =
     (¬ IsFaultless config transcript) × BreaksFirstAt config transcript n
-IsJust config transcript OutOfMemory = Unit {0}
+IsJustVerdict config transcript OutOfMemory = Unit {0}

@@ -58,8 +58,8 @@ placed_by config s task action step =
     }
 
 -- the step in its place, as the code has it
-abbrev pub placed_in : Config → State → Option Task → Doing → Shown → Option HeldValue → PlacedStep
-placed_in config s task doing shown newcomer =
+abbrev pub placed_as_shown : Config → State → Option Task → Doing → Shown → Option HeldValue → PlacedStep
+placed_as_shown config s task doing shown newcomer =
     placed_with config (shown_situation s) task (action_of doing) (shown_step shown)
     (option_map (λ h. h.value) newcomer)
 

@@ -34,6 +34,6 @@ runs_lines (Some (RunLines conn)) = true
 runs_lines task = false
 
 -- storing an answer is due
-abbrev pub stores : Option Task → Bool
-stores (Some (Store key outcome)) = true
-stores task = false
+abbrev pub is_store_due : Option Task → Bool
+is_store_due (Some (Store key outcome)) = true
+is_store_due task = false

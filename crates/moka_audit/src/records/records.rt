@@ -4,7 +4,7 @@ ghost use Rattle.audit_model.specs.Follows.{after_event};
 ghost use Rattle.audit_model.specs.Steps.{Store};
 ghost use Rattle.moka_audit.specs.Steps.Judging.{JudgesStep};
 ghost use Rattle.audit_model.specs.Obeys.{is_numbered};
-ghost use Rattle.audit_model.specs.Situation.{key_in, waiting_in, empty_situation};
+ghost use Rattle.audit_model.specs.Situation.{pending_key, waiting_in, empty_situation};
 ghost use Rattle.audit_model.specs.declared.event.Event.TheVariants as event;
 ghost use Rattle.audit_model.specs.Belongs.{first_break};
 ghost use Rattle.audit_situation.specs.States.{shown_situation};
@@ -123,7 +123,7 @@ fn waiting_of(alloc: Global, s: &State, load: u64) -> Result<Vec<u64>, AllocErro
 /// The key of a load.
 fn key_of(alloc: Global, s: &State, load: u64) -> Result<Option<Vec<u8>>, AllocError>
     ensures { IfOk result
-        (λ key. option_map (λ k. k.items) key ≡ key_in load (shown_situation s.now)) }
+        (λ key. option_map (λ k. k.items) key ≡ pending_key load (shown_situation s.now)) }
 {
     match find_pending(&s.pending, load) {
         Some(pending) => Ok(Some(Vec::from_slice(alloc, pending.key())?)),

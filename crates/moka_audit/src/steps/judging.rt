@@ -14,7 +14,7 @@ ghost use Rattle.audit_situation.specs.Held.Known.{with_value};
 ghost use Rattle.audit_situation.specs.States.{shown_situation, have_numbers_apart};
 ghost use Rattle.audit_situation.specs.Actions.Doings.{action_of};
 ghost use Rattle.moka_audit.specs.Steps.Doings.{passed_on};
-ghost use Rattle.moka_audit.specs.Steps.Judging.{placed_by, placed_in, is_fit, ends_rightly, agrees_and_ends, with_values_after, after_placed, syncs_so, Judges, JudgesStep};
+ghost use Rattle.moka_audit.specs.Steps.Judging.{placed_by, placed_as_shown, is_fit, ends_rightly, agrees_and_ends, with_values_after, after_placed, syncs_so, Judges, JudgesStep};
 ghost use Rattle.moka_audit.specs.Steps.Showing.{shown_step, task_of};
 
 use crate::steps::accepting::{accept, admit};
@@ -154,10 +154,10 @@ fn do_values(
     requires new { IfSome newcomer (IsJustAccepted s.old.latest) }
     requires small { IfSome newcomer (λ h. h.value.part < 256) }
     ensures right { IfOk result (λ b. (task : Option Task) → b ≡ ends_rightly config.now
-        (placed_in config.now s.old task doing.entry shown.entry newcomer)) }
+        (placed_as_shown config.now s.old task doing.entry shown.entry newcomer)) }
     ensures left { IfOk result (λ b. b ≡ true
         → shown_situation s.new ≡ with_values_after config.now (shown_situation s.old)
-        (placed_in config.now s.old None doing.entry shown.entry newcomer).effect) }
+        (placed_as_shown config.now s.old None doing.entry shown.entry newcomer).effect) }
 {
     let deed = deed_of(doing, shown.reply);
     if !do_deed(
@@ -223,10 +223,10 @@ fn finish(
     requires apart { IsTrue (have_numbers_apart s.old.connections) }
     requires new { IfSome newcomer (IsJustAccepted s.old.latest) }
     requires small { IfSome newcomer (λ h. h.value.part < 256) }
-    ensures right { IfOk result (λ b. b ≡ ends_rightly config.now (placed_in config.now s.old
+    ensures right { IfOk result (λ b. b ≡ ends_rightly config.now (placed_as_shown config.now s.old
         (option_map task_of duty.entry) doing.entry shown.entry newcomer)) }
     ensures left { IfOk result (λ b. b ≡ true
-        → shown_situation s.new ≡ after_placed config.now (shown_situation s.old) (placed_in
+        → shown_situation s.new ≡ after_placed config.now (shown_situation s.old) (placed_as_shown
         config.now s.old (option_map task_of duty.entry) doing.entry shown.entry newcomer)) }
 {
     if !do_values(alloc, config, s, shown, doing, newcomer)? {
@@ -250,10 +250,11 @@ fn judge_accepted(
     requires apart { IsTrue (have_numbers_apart s.old.connections) }
     requires new { IfSome newcomer (IsJustAccepted s.old.latest) }
     requires small { IfSome newcomer (λ h. h.value.part < 256) }
-    ensures right { IfOk result (λ b. b ≡ agrees_and_ends config.now parts.old (placed_in config.now
-        s.old (option_map task_of duty.entry) doing.entry shown.entry newcomer)) }
+    ensures right { IfOk result (λ b. b ≡ agrees_and_ends config.now parts.old
+        (placed_as_shown config.now s.old (option_map task_of duty.entry)
+        doing.entry shown.entry newcomer)) }
     ensures left { IfOk result (λ b. b ≡ true
-        → shown_situation s.new ≡ after_placed config.now (shown_situation s.old) (placed_in
+        → shown_situation s.new ≡ after_placed config.now (shown_situation s.old) (placed_as_shown
         config.now s.old (option_map task_of duty.entry) doing.entry shown.entry newcomer)) }
     ensures kept { IfOk result
         (λ b. b ≡ true → parts.new ≡ with_value parts.old (option_map (λ h. h.value) newcomer)) }

@@ -3,7 +3,7 @@ ghost use Rattle.std.specs.Prelude.{◌≡◌, ◌||◌, not, option_map, nat_le
 ghost use Rattle.audit_model.specs.History.{Abandoning};
 ghost use Rattle.audit_model.specs.Steps.{action_in, action_of_line, is_task_of, may_hold};
 ghost use Rattle.audit_situation.specs.Actions.Doings.{action_of};
-ghost use Rattle.moka_audit.specs.Steps.Showing.{shown_step, task_of, runs_lines, stores};
+ghost use Rattle.moka_audit.specs.Steps.Showing.{shown_step, task_of, runs_lines, is_store_due};
 
 use crate::steps::doing::{do_line, is_hold};
 use audit_model::{Accepted, Config, Note, Outcome, Step};
@@ -158,7 +158,7 @@ pub fn is_run_lines(duty: Option<Duty<'_>>) -> bool
 
 /// Returns whether storing an answer is due.
 pub fn is_store(duty: Option<Duty<'_>>) -> bool
-    ensures { result ≡ stores (option_map task_of duty.entry) }
+    ensures { result ≡ is_store_due (option_map task_of duty.entry) }
 {
     match duty {
         None => false,

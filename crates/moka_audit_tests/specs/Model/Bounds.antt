@@ -16,7 +16,7 @@ use Rattle.audit_model.specs.declared.config.Config.{Config}
 use Rattle.audit_model.specs.declared.event.Event.TheVariants as event
 use Rattle.audit_model.specs.declared.event.Outcome.TheVariants as outcome
 use Rattle.audit_model.specs.declared.input.ServiceError.TheVariants as error
-use Rattle.moka_audit_tests.specs.Model.Making.{text, at, opened, made_feed, stored, came, says, sends, made_held_step, plain_config, of_live_ms, of_idle_ms, of_two_parts, with_deadlines}
+use Rattle.moka_audit_tests.specs.Model.Making.{text, at, opened, made_feed, answer_stored, came, says, sends, made_held_step, plain_config, of_live_ms, of_idle_ms, of_two_parts, with_deadlines}
 use Rattle.moka_audit_tests.specs.Model.Commands.{quit}
 use Rattle.moka_audit_tests.specs.Model.Loads.{too_much_behind}
 
@@ -95,7 +95,7 @@ pub record RowsOfGiveUps : Type 0 where
       ∷ made_feed 1 0 (text "LOAD k") (sends 1 "LOAD k" 1 ∷ []) ∷ [])) ≡ 1
   pub answered : times_waited 1 (history_after plain_config 0 [] (opened 1
       ∷ made_feed 1 0 (text "LOAD k") (sends 1 "LOAD k" 1 ∷ [])
-      ∷ stored 1 0 (came "v") [] (says 1 "LOAD k" (text "VAL v") ∷ []) ∷ [])) ≡ 0
+      ∷ answer_stored 1 0 (came "v") [] (says 1 "LOAD k" (text "VAL v") ∷ []) ∷ [])) ≡ 0
 
 -- ---- configurations
 

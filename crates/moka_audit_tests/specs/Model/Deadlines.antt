@@ -2,7 +2,7 @@
 use Rattle.std.specs.Prelude.{[], ◌∷◌, ◌++◌}
 use Rattle.audit_model.specs.declared.transcript.Transcript.{Transcript}
 use Rattle.audit_model.specs.declared.transcript.RemovalCause.TheVariants.{Expired, Replaced}
-use Rattle.moka_audit_tests.specs.Model.Making.{text, opened, made_feed, stored, came, says, takes, tells, sends, note, history, plain_config, of_idle_ms, of_live_ms, with_deadlines, IsGood, BreaksAfter}
+use Rattle.moka_audit_tests.specs.Model.Making.{text, opened, made_feed, answer_stored, came, says, takes, tells, sends, note, history, plain_config, of_idle_ms, of_live_ms, with_deadlines, IsGood, BreaksAfter}
 
 -- ---- good
 
@@ -92,7 +92,7 @@ abbrev pub moment_of_an_answer : Transcript
 moment_of_an_answer = history (opened 1
     ∷ made_feed 1 0 (text "SET a - 1" ++ text "LOAD k")
     (takes 1 "SET a - 1" (text "OK") [] ∷ sends 1 "LOAD k" 1 ∷ [])
-    ∷ stored 1 7000000 (came "v") [] (says 1 "LOAD k" (text "VAL v") ∷ [])
+    ∷ answer_stored 1 7000000 (came "v") [] (says 1 "LOAD k" (text "VAL v") ∷ [])
     ∷ made_feed 1 0 (text "GET a") (says 1 "GET a" (text "NONE") ∷ []) ∷ [])
 
 pub record GoodDeadlines : Type 0 where

@@ -4,7 +4,7 @@ use Rattle.audit_model.specs.declared.event.Outcome.TheVariants as outcome
 use Rattle.audit_model.specs.declared.transcript.Record.{Record}
 use Rattle.audit_model.specs.declared.transcript.RemovalCause.TheVariants.{Expired, Explicit, Replaced}
 use Rattle.audit_model.specs.declared.transcript.Transcript.{Transcript}
-use Rattle.moka_audit_tests.specs.Model.Making.{text, opened, closed, made_feed, answered, stored, given_up, came, failed, says, takes, tells, sends, joins, made_held_step, note, history, plain_config, of_capacity, of_idle_ms, with_deadlines, IsGood, BreaksAfter}
+use Rattle.moka_audit_tests.specs.Model.Making.{text, opened, closed, made_feed, answered, answer_stored, given_up, came, failed, says, takes, tells, sends, joins, made_held_step, note, history, plain_config, of_capacity, of_idle_ms, with_deadlines, IsGood, BreaksAfter}
 
 -- two connections
 abbrev pub over_two_connections : List Record → Transcript
@@ -24,7 +24,7 @@ second_joins = made_feed 2 0 (text "LOAD k") (joins 2 "LOAD k" ∷ [])
 abbrev pub one_load_for_two : Transcript
 one_load_for_two = over_two_connections (first_asks
     ∷ second_joins
-    ∷ stored 1 0 (came "v") []
+    ∷ answer_stored 1 0 (came "v") []
     (says 1 "LOAD k" (text "VAL v") ∷ says 2 "LOAD k" (text "VAL v") ∷ [])
     ∷ made_feed 1 0 (text "GET k") (says 1 "GET k" (text "VAL v") ∷ []) ∷ [])
 
@@ -33,7 +33,7 @@ abbrev pub both_run_again : Transcript
 both_run_again = over_two_connections (first_asks
     ∷ second_joins
     ∷ given_up 1 0 (sends 1 "LOAD k" 2 ∷ joins 2 "LOAD k" ∷ [])
-    ∷ stored 2 0 (came "v") []
+    ∷ answer_stored 2 0 (came "v") []
     (says 1 "LOAD k" (text "VAL v") ∷ says 2 "LOAD k" (text "VAL v") ∷ []) ∷ [])
 
 -- what came to be there in the meantime is found by each that runs again, and lines behind it run at once
@@ -51,14 +51,14 @@ found_when_run_again = history (opened 1
 abbrev pub deleted_meanwhile : Transcript
 deleted_meanwhile = over_two_connections (first_asks
     ∷ made_feed 2 0 (text "DEL k") (says 2 "DEL k" (text "OK") ∷ [])
-    ∷ stored 1 0 (came "v") [] (says 1 "LOAD k" (text "VAL v") ∷ [])
+    ∷ answer_stored 1 0 (came "v") [] (says 1 "LOAD k" (text "VAL v") ∷ [])
     ∷ made_feed 2 0 (text "GET k") (says 2 "GET k" (text "VAL v") ∷ []) ∷ [])
 
 -- a value that came in the meantime is replaced
 abbrev pub set_meanwhile : Transcript
 set_meanwhile = over_two_connections (first_asks
     ∷ made_feed 2 0 (text "SET k - 1") (takes 2 "SET k - 1" (text "OK") [] ∷ [])
-    ∷ stored 1 0 (came "v") (note Replaced "k" "1" ∷ []) (says 1 "LOAD k" (text "VAL v") ∷ [])
+    ∷ answer_stored 1 0 (came "v") (note Replaced "k" "1" ∷ []) (says 1 "LOAD k" (text "VAL v") ∷ [])
     ∷ made_feed 2 0 (text "LOAD k") (says 2 "LOAD k" (text "VAL v") ∷ []) ∷ [])
 
 -- at capacity 0 the value is answered and not kept
@@ -82,14 +82,14 @@ abbrev pub closed_left_out : Transcript
 closed_left_out = over_two_connections (first_asks
     ∷ second_joins
     ∷ closed 1
-    ∷ stored 1 0 (came "v") [] (says 2 "LOAD k" (text "VAL v") ∷ []) ∷ [])
+    ∷ answer_stored 1 0 (came "v") [] (says 2 "LOAD k" (text "VAL v") ∷ []) ∷ [])
 
 -- a load stays under way when all that waited for it have closed
 abbrev pub nobody_waits : Transcript
 nobody_waits = over_two_connections (first_asks
     ∷ closed 1
     ∷ second_joins
-    ∷ stored 1 0 (came "v") [] (says 2 "LOAD k" (text "VAL v") ∷ []) ∷ [])
+    ∷ answer_stored 1 0 (came "v") [] (says 2 "LOAD k" (text "VAL v") ∷ []) ∷ [])
 
 -- all that wait are answered first, and then the lines of each run
 abbrev pub lines_behind : Transcript
@@ -97,7 +97,7 @@ lines_behind =
     over_two_connections (made_feed 1 0 (text "LOAD k" ++ text "GET k") (sends 1 "LOAD k" 1 ∷ [])
     ∷ made_feed 2 0 (text "LOAD k" ++ text "DEL k") (joins 2 "LOAD k" ∷ [])
     ∷ made_feed 1 0 (text "GET k") []
-    ∷ stored 1 0 (came "v") [] (says 1 "LOAD k" (text "VAL v")
+    ∷ answer_stored 1 0 (came "v") [] (says 1 "LOAD k" (text "VAL v")
     ∷ says 2 "LOAD k" (text "VAL v")
     ∷ says 1 "GET k" (text "VAL v")
     ∷ says 1 "GET k" (text "VAL v")
@@ -107,8 +107,8 @@ lines_behind =
 abbrev pub two_keys : Transcript
 two_keys = over_two_connections (first_asks
     ∷ made_feed 2 0 (text "LOAD j") (sends 2 "LOAD j" 2 ∷ [])
-    ∷ stored 2 0 (came "w") [] (says 2 "LOAD j" (text "VAL w") ∷ [])
-    ∷ stored 1 0 (came "v") [] (says 1 "LOAD k" (text "VAL v") ∷ []) ∷ [])
+    ∷ answer_stored 2 0 (came "w") [] (says 2 "LOAD j" (text "VAL w") ∷ [])
+    ∷ answer_stored 1 0 (came "v") [] (says 1 "LOAD k" (text "VAL v") ∷ []) ∷ [])
 
 -- a `LOAD` that runs again and finds no memory is held back, and sends its load when it runs
 abbrev pub load_held_again : Transcript
@@ -128,7 +128,7 @@ load_is_a_use = history (opened 1
 abbrev pub loaded_for_a_time : Transcript
 loaded_for_a_time = history (opened 1
     ∷ made_feed 1 0 (text "LOAD k") (sends 1 "LOAD k" 1 ∷ [])
-    ∷ stored 1 0 (outcome.Value (codes "v") (Some 1)) [] (says 1 "LOAD k" (text "VAL v") ∷ [])
+    ∷ answer_stored 1 0 (outcome.Value (codes "v") (Some 1)) [] (says 1 "LOAD k" (text "VAL v") ∷ [])
     ∷ made_feed 1 999423 (text "GET k") (says 1 "GET k" (text "VAL v") ∷ [])
     ∷ made_feed 1 999424 (text "GET k") (says 1 "GET k" (text "NONE") ∷ []) ∷ [])
 
@@ -210,7 +210,7 @@ value_skipped = over_two_connections (first_asks
 abbrev pub kept_at_capacity_0 : Transcript
 kept_at_capacity_0 = history (opened 1
     ∷ made_feed 1 0 (text "LOAD k") (sends 1 "LOAD k" 1 ∷ [])
-    ∷ stored 1 0 (came "v") [] (says 1 "LOAD k" (text "VAL v") ∷ []) ∷ [])
+    ∷ answer_stored 1 0 (came "v") [] (says 1 "LOAD k" (text "VAL v") ∷ []) ∷ [])
 
 -- notes stand beside an answer without a value
 abbrev pub told_without_value : Transcript
@@ -231,14 +231,14 @@ dead_told_without_value = history (opened 1
 abbrev pub one_forgotten : Transcript
 one_forgotten = over_two_connections (first_asks
     ∷ second_joins
-    ∷ stored 1 0 (came "v") [] (says 1 "LOAD k" (text "VAL v") ∷ []) ∷ [])
+    ∷ answer_stored 1 0 (came "v") [] (says 1 "LOAD k" (text "VAL v") ∷ []) ∷ [])
 
 -- a line runs before all that wait are answered
 abbrev pub line_before_the_second : Transcript
 line_before_the_second =
     over_two_connections (made_feed 1 0 (text "LOAD k" ++ text "GET k") (sends 1 "LOAD k" 1 ∷ [])
     ∷ second_joins
-    ∷ stored 1 0 (came "v") [] (says 1 "LOAD k" (text "VAL v") ∷ says 1 "GET k" (text "VAL v")
+    ∷ answer_stored 1 0 (came "v") [] (says 1 "LOAD k" (text "VAL v") ∷ says 1 "GET k" (text "VAL v")
     ∷ says 2 "LOAD k" (text "VAL v") ∷ []) ∷ [])
 
 -- a closed connection is answered
@@ -246,7 +246,7 @@ abbrev pub closed_is_answered : Transcript
 closed_is_answered = over_two_connections (first_asks
     ∷ second_joins
     ∷ closed 1
-    ∷ stored 1 0 (came "v") []
+    ∷ answer_stored 1 0 (came "v") []
     (says 1 "LOAD k" (text "VAL v") ∷ says 2 "LOAD k" (text "VAL v") ∷ []) ∷ [])
 
 -- a load is answered twice
@@ -260,13 +260,13 @@ answered_twice = history (opened 1
 abbrev pub value_of_two_lines : Transcript
 value_of_two_lines = history (opened 1
     ∷ made_feed 1 0 (text "LOAD k") (sends 1 "LOAD k" 1 ∷ [])
-    ∷ stored 1 0 (outcome.Value (text "x" ++ codes "y") None) []
+    ∷ answer_stored 1 0 (outcome.Value (text "x" ++ codes "y") None) []
     (says 1 "LOAD k" (text "VAL x" ++ codes "y") ∷ []) ∷ [])
 
 abbrev pub value_with_a_time : Transcript
 value_with_a_time = history (opened 1
     ∷ made_feed 1 0 (text "LOAD k") (sends 1 "LOAD k" 1 ∷ [])
-    ∷ stored 1 0 (outcome.Value (codes "v") (Some 1)) [] (says 1 "LOAD k" (text "VAL v") ∷ []) ∷ [])
+    ∷ answer_stored 1 0 (outcome.Value (codes "v") (Some 1)) [] (says 1 "LOAD k" (text "VAL v") ∷ []) ∷ [])
 
 -- a live value is not looked for
 abbrev pub live_value_missed : Transcript
@@ -278,7 +278,7 @@ live_value_missed = history (opened 1
 abbrev pub answered_out_of_order : Transcript
 answered_out_of_order = over_two_connections (first_asks
     ∷ second_joins
-    ∷ stored 1 0 (came "v") []
+    ∷ answer_stored 1 0 (came "v") []
     (says 2 "LOAD k" (text "VAL v") ∷ says 1 "LOAD k" (text "VAL v") ∷ []) ∷ [])
 
 pub record BrokenLoads : Type 0 where

@@ -44,8 +44,8 @@ abbrev pub answered : ℕ → ℕ → Outcome → List Note → List Step → Re
 answered load moment outcome notes steps = record { event = event.Answer load outcome (at moment); own = None; notices = notes; steps = steps }
 
 -- a load's answer, whose value the first part takes
-abbrev pub stored : ℕ → ℕ → Outcome → List Note → List Step → Record
-stored load moment outcome notes steps = record { event = event.Answer load outcome (at moment); own = Some (record { part = 0 }); notices = notes; steps = steps }
+abbrev pub answer_stored : ℕ → ℕ → Outcome → List Note → List Step → Record
+answer_stored load moment outcome notes steps = record { event = event.Answer load outcome (at moment); own = Some (record { part = 0 }); notices = notes; steps = steps }
 
 abbrev pub given_up : ℕ → ℕ → List Step → Record
 given_up load moment steps = record { event = event.GiveUp load (at moment); own = None; notices = []; steps = steps }

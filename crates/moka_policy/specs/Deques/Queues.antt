@@ -91,7 +91,7 @@ pub record AllStay (old new : Queues) : Type 0 where
   pub write_order : Stays old.write_order new.write_order
 
 -- this many pushes on each queue need no allocation
-pub record HaveRoom (n : ℕ) (queues : Queues) : Type 0 where
+pub record HaveRoomFor (n : ℕ) (queues : Queues) : Type 0 where
   pub window : n ≤ queues.window.room
   pub probation : n ≤ queues.probation.room
   pub protected : n ≤ queues.protected.room

@@ -3,7 +3,7 @@ ghost use Rattle.std.specs.Prelude.{◌≡◌, ◌≢◌, ℕ, ◌+◌, ◌^◌,
 ghost use Rattle.std.specs.Borrow.{sem};
 ghost use Rattle.policy_queue.specs.Queue.{find, head, final, to_give, cursor_past, Leaves, Stays, MovesToBack, refused_element, RefusedWell};
 ghost use Rattle.policy_base.specs.declared.name.CacheRegion.{CacheRegion as TheRegion};
-ghost use Rattle.moka_policy.specs.Deques.Queues.{queue_of, with_queue, access_nodes, IsNewQueue, Changes, HasNode, MovesNode, LosesNode, HasAccessNode, MovesAccessNode, LosesAccessNode, AllStay, HaveRoom, LackSerials};
+ghost use Rattle.moka_policy.specs.Deques.Queues.{queue_of, with_queue, access_nodes, IsNewQueue, Changes, HasNode, MovesNode, LosesNode, HasAccessNode, MovesAccessNode, LosesAccessNode, AllStay, HaveRoomFor, LackSerials};
 ghost use Rattle.moka_policy.specs.Deques.Nodes.{access_node, write_node, with_access_node, with_write_node, PushesEntry, forgets};
 
 use crate::deques::nodes::{access_node, set_access_node, set_write_node, write_node};
@@ -135,8 +135,8 @@ impl<K> Deques<K> {
     /// Reserves room for `n` pushes on each queue, which then allocate nothing and are not refused. Returns `UsedUp` if a queue would then
     /// have had more than 2^64 - 1 nodes, and `OutOfMemory` if there is not enough memory; the nodes then stay as they are.
     pub fn reserve(&mut self, n: usize) -> Result<(), ReserveError>
-        ensures room { OnOk result (HaveRoom n self.new) }
-        ensures had_room { HaveRoom n self.old → IsOk result }
+        ensures room { OnOk result (HaveRoomFor n self.new) }
+        ensures had_room { HaveRoomFor n self.old → IsOk result }
         ensures stays { AllStay self.old self.new }
         ensures used_up { (result ≡ Err ReserveError.UsedUp) ↔ LackSerials n self.old }
     {

@@ -13,11 +13,11 @@ use Rattle.policy_queue.specs.declared.timers.array.Timer.{Timer}
 use Rattle.policy_queue.specs.declared.timers.events.TimerEvent.{TimerEvent}
 use Rattle.policy_queue.specs.declared.timers.events.TimerEvent.TheVariants.{Expired, Rescheduled, Descheduled}
 use Rattle.policy_queue.specs.Timers.Entries.{due_at, due_of, timerless, forgotten_at, forgotten, all_forgotten}
-use Rattle.policy_queue.specs.Timers.Timers.{Timers, Keeps, moved}
-use Rattle.policy_queue.specs.Timers.Events.{pending, HaveNoTime, EventIs, entries_after, Step, SameTimes}
+use Rattle.policy_queue.specs.Timers.Timers.{Timers, KeepsAllButTimers, moved}
+use Rattle.policy_queue.specs.Timers.Events.{pending, HaveNoTime, EventIs, entries_after, AdvanceStep, SameTimes}
 
-pub Keeps-trans : (a b c : Timers) → Keeps a b → Keeps b c → Keeps a c
-Keeps-trans a b c h k = record {
+pub KeepsAllButTimers-trans : (a b c : Timers) → KeepsAllButTimers a b → KeepsAllButTimers b c → KeepsAllButTimers a c
+KeepsAllButTimers-trans a b c h k = record {
   is_enabled = k.is_enabled ∙ h.is_enabled;
   origin = k.origin ∙ h.origin;
   moment = k.moment ∙ h.moment;
@@ -56,7 +56,7 @@ module _ {K : Type 0} where
 
   -- after some turns of an advance: the timers that left had no time
   pub record Advancing (entries₀ : Slab (Slot K)) (wheel₀ : Timers) (entries : Slab (Slot K)) (wheel : Timers) : Type 0 where
-    pub keeps : Keeps wheel₀ wheel
+    pub keeps : KeepsAllButTimers wheel₀ wheel
     pub gone : List Timer
     pub had_none : HaveNoTime entries₀ gone
     pub rest : wheel₀.timers ≡ gone ++ wheel.timers
@@ -67,9 +67,9 @@ module _ {K : Type 0} where
     advancing_times k = ap (λ s. due_of s k) h.forgot ∙ all_forgotten_times h.gone entries₀ k
 
     -- one more timer left, since it had no time
-    pub Advancing-gone : (entries' : Slab (Slot K)) (wheel' : Timers) (t : Timer) → Keeps wheel wheel' → wheel.timers ≡ t ∷ wheel'.timers → due_of entries t.node.entry_info ≡ None → entries' ≡ forgotten t.node.entry_info entries → Advancing entries₀ wheel₀ entries' wheel'
+    pub Advancing-gone : (entries' : Slab (Slot K)) (wheel' : Timers) (t : Timer) → KeepsAllButTimers wheel wheel' → wheel.timers ≡ t ∷ wheel'.timers → due_of entries t.node.entry_info ≡ None → entries' ≡ forgotten t.node.entry_info entries → Advancing entries₀ wheel₀ entries' wheel'
     Advancing-gone entries' wheel' t keeps taken none forgets = record {
-      keeps = Keeps-trans wheel₀ wheel wheel' h.keeps keeps;
+      keeps = KeepsAllButTimers-trans wheel₀ wheel wheel' h.keeps keeps;
       gone = h.gone ++ t ∷ [];
       had_none = All-push (λ (u : Timer). due_of entries₀ u.node.entry_info ≡ None) h.gone t h.had_none (sym (advancing_times t.node.entry_info) ∙ none);
       rest = h.rest ∙ ap (λ r. h.gone ++ r) taken ∙ sym (append_assoc h.gone (t ∷ []) wheel'.timers);
@@ -83,8 +83,8 @@ module _ {K : Type 0} where
     EventIs-before now after (Some Descheduled) e = absurd e
 
     -- the event that ends the turns
-    pub Step-from : (entries' : Slab (Slot K)) (now : ℕ) (after : List Timer) (event : Option TimerEvent) → EventIs entries now wheel.timers after event → entries' ≡ entries_after event entries → Step entries₀ entries' now wheel₀.timers after event
-    Step-from entries' now after event e changed = record {
+    pub AdvanceStep-from : (entries' : Slab (Slot K)) (now : ℕ) (after : List Timer) (event : Option TimerEvent) → EventIs entries now wheel.timers after event → entries' ≡ entries_after event entries → AdvanceStep entries₀ entries' now wheel₀.timers after event
+    AdvanceStep-from entries' now after event e changed = record {
       gone = h.gone;
       left = wheel.timers;
       parts = subst (λ ts. IsPermutation wheel₀.timers ts) h.rest (IsPermutation-refl wheel₀.timers);
@@ -121,7 +121,7 @@ less_later : (after before both gone left more one others moved none : ℕ) → 
 less_later after before both gone left more one others moved none a b c d e f x y = omega arith
 
 -- each event leaves fewer timers to come
-pub pending_fewer : {K : Type 0} (old new : Slab (Slot K)) (now : ℕ) (before after : List Timer) (event : TimerEvent) → Step old new now before after (Some event) → pending now after < pending now before
+pub pending_fewer : {K : Type 0} (old new : Slab (Slot K)) (now : ℕ) (before after : List Timer) (event : TimerEvent) → AdvanceStep old new now before after (Some event) → pending now after < pending now before
 pending_fewer old new now before after (Expired node) h =
     let a = pending-permutation now before (h.gone ++ h.left) h.parts in
     let b = pending-append now h.gone h.left in

@@ -7,7 +7,7 @@ use Rattle.slab.specs.Slab.{Slab, get, Updates, slab_len}
 use Rattle.policy_base.specs.declared.name.NodeId.{NodeId}
 use Rattle.policy_queue.specs.declared.timers.array.Timer.{Timer}
 use Rattle.policy_queue.specs.Timers.Places.{LacksKey}
-use Rattle.policy_queue.specs.Timers.Array.{key_at, key_of, stored_of, LacksSerial, AreApart, AreBelow, AreStored, IsArranged}
+use Rattle.policy_queue.specs.Timers.Array.{key_at, key_of, stored_of, LacksSerial, SerialsDiffer, AreBelow, AreStored, IsArranged}
 
 LacksSerial-remove : (s : ℕ) (front : List Timer) (n : Timer) (back : List Timer) → LacksSerial s (front ++ n ∷ back) → LacksSerial s (front ++ back)
 LacksSerial-remove s [] n back h = h.1
@@ -21,17 +21,17 @@ LacksSerial-at : (s : ℕ) (front : List Timer) (n : Timer) (back : List Timer) 
 LacksSerial-at s [] n back h = h.0
 LacksSerial-at s (m ∷ front) n back h = LacksSerial-at s front n back h.1
 
-AreApart-remove : (front : List Timer) (n : Timer) (back : List Timer) → AreApart (front ++ n ∷ back) → AreApart (front ++ back)
-AreApart-remove [] n back h = h.2
-AreApart-remove (m ∷ front) n back h = (h.0, LacksSerial-remove m.id.serial front n back h.1, AreApart-remove front n back h.2)
+SerialsDiffer-remove : (front : List Timer) (n : Timer) (back : List Timer) → SerialsDiffer (front ++ n ∷ back) → SerialsDiffer (front ++ back)
+SerialsDiffer-remove [] n back h = h.2
+SerialsDiffer-remove (m ∷ front) n back h = (h.0, LacksSerial-remove m.id.serial front n back h.1, SerialsDiffer-remove front n back h.2)
 
-AreApart-others : (front : List Timer) (n : Timer) (back : List Timer) → AreApart (front ++ n ∷ back) → LacksSerial n.id.serial (front ++ back)
-AreApart-others [] n back h = h.1
-AreApart-others (m ∷ front) n back h = ((λ e. LacksSerial-at m.id.serial front n back h.1 (sym e)), AreApart-others front n back h.2)
+SerialsDiffer-others : (front : List Timer) (n : Timer) (back : List Timer) → SerialsDiffer (front ++ n ∷ back) → LacksSerial n.id.serial (front ++ back)
+SerialsDiffer-others [] n back h = h.1
+SerialsDiffer-others (m ∷ front) n back h = ((λ e. LacksSerial-at m.id.serial front n back h.1 (sym e)), SerialsDiffer-others front n back h.2)
 
-AreApart-insert : (front : List Timer) (n : Timer) (back : List Timer) → AreApart (front ++ back) → n.id.serial < 2 ^ 64 → LacksSerial n.id.serial (front ++ back) → AreApart (front ++ n ∷ back)
-AreApart-insert [] n back h f l = (f, l, h)
-AreApart-insert (m ∷ front) n back h f l = (h.0, LacksSerial-insert m.id.serial front n back h.1 (λ e. l.0 (sym e)), AreApart-insert front n back h.2 f l.1)
+SerialsDiffer-insert : (front : List Timer) (n : Timer) (back : List Timer) → SerialsDiffer (front ++ back) → n.id.serial < 2 ^ 64 → LacksSerial n.id.serial (front ++ back) → SerialsDiffer (front ++ n ∷ back)
+SerialsDiffer-insert [] n back h f l = (f, l, h)
+SerialsDiffer-insert (m ∷ front) n back h f l = (h.0, LacksSerial-insert m.id.serial front n back h.1 (λ e. l.0 (sym e)), SerialsDiffer-insert front n back h.2 f l.1)
 
 pub AreBelow-remove : (next : ℕ) (front : List Timer) (n : Timer) (back : List Timer) → AreBelow next (front ++ n ∷ back) → AreBelow next (front ++ back)
 AreBelow-remove next [] n back h = h.1
@@ -80,8 +80,8 @@ AreStored-insert s (m ∷ front) n back h at = (h.0, AreStored-insert s front n 
 -- a timer leaves
 pub IsArranged-taken : (a b : List Timer) (s s' : Slab (ℕ × ℕ)) (t : Timer) → IsArranged (a ++ t ∷ b) s → Updates s s' t.id.slot None → slab_len s' + 1 ≡ slab_len s → IsArranged (a ++ b) s' × LacksSerial t.id.serial (a ++ b)
 IsArranged-taken a b s s' t h updates fewer =
-    let lacks = AreApart-others a t b h.apart in
-    let left = AreApart-remove a t b h.apart in
+    let lacks = SerialsDiffer-others a t b h.apart in
+    let left = SerialsDiffer-remove a t b h.apart in
     let was = h.counted in (
       record {
         apart = left;
@@ -96,7 +96,7 @@ pub IsArranged-added : (a b : List Timer) (s s' : Slab (ℕ × ℕ)) (t : Timer)
 IsArranged-added a b s s' t h fits lacks vacant updates more =
     let was = h.counted in
     record {
-      apart = AreApart-insert a t b h.apart fits lacks;
+      apart = SerialsDiffer-insert a t b h.apart fits lacks;
       stored = AreStored-insert s' a t b (AreStored-new s s' t.id.slot _ (a ++ b) updates vacant h.stored) updates.changed;
       counted = let old = length-append a b in let new = length-append a (t ∷ b) in omega arith;
     }
@@ -105,11 +105,11 @@ pub contains : (a b : List Timer) (s : Slab (ℕ × ℕ)) (t : Timer) → IsArra
 contains a b s t h = ap is_some (AreStored-at s a t b h.stored)
 
 -- a new serial makes a new key
-pub lacks_key : (ts : List Timer) (placed serial : ℕ) → AreApart ts → serial < 2 ^ 64 → LacksSerial serial ts → LacksKey (key_at placed serial) ts
+pub lacks_key : (ts : List Timer) (placed serial : ℕ) → SerialsDiffer ts → serial < 2 ^ 64 → LacksSerial serial ts → LacksKey (key_at placed serial) ts
 lacks_key [] placed serial h fits lacks = tt
 lacks_key (t ∷ ts) placed serial h fits lacks = ((λ e. lacks.0 (let f = h.0 in omega arith)), lacks_key ts placed serial h.2 fits lacks.1)
 
-pub fits_at : (ts : List Timer) (k : ℕ) (d : Timer) → AreApart ts → k < length ts → (get_or ts k d).id.serial < 2 ^ 64
+pub fits_at : (ts : List Timer) (k : ℕ) (d : Timer) → SerialsDiffer ts → k < length ts → (get_or ts k d).id.serial < 2 ^ 64
 fits_at [] k d h lt = absurd (omega arith)
 fits_at (t ∷ ts) zero d h lt = h.0
 fits_at (t ∷ ts) (suc k) d h lt = fits_at ts k d h.2 (omega arith)

@@ -1,16 +1,15 @@
 -- Timers that come into a row of places, and leave it.
-use Rattle.std.proofs.Common.{◌≡◌, ◌≢◌, ℕ, zero, suc, ◌+◌, ◌-◌, ◌<◌, ◌≤◌, Bool, true, false, List, [], ◌∷◌, ◌++◌, length, get_or, set, take, drop, refl, sym, ap, ◌∙◌, arith, subst, append_assoc}
-use Rattle.std.specs.Bool.{OnTrue}
+use Rattle.std.proofs.Common.{◌≡◌, ◌≢◌, ℕ, zero, suc, ◌+◌, ◌-◌, ◌<◌, ◌≤◌, true, false, List, [], ◌∷◌, ◌++◌, length, get_or, set, take, drop, refl, sym, ap, ◌∙◌, arith, subst, append_assoc, inl, inr}
 use Rattle.std.specs.List.{All, insert}
-use Rattle.std.proofs.lemmas.Bool.{true≢false}
+use Rattle.std.proofs.lemmas.Bool.{true≢false, cases_Bool}
 use Rattle.std.proofs.lemmas.List.{take-append-drop, drop_more, drop-set, drop-set-lt, drop-append-le, drop_all, drop-drop, drop-take, length-append, length-take-le, length-drop, get_or-drop, get_or-take, get_or_default, drop-set-add, set_split, length-set, take_all}
 use Rattle.std.proofs.lemmas.List.Elements.{All-nil, All-cons, All-append}
 use Rattle.policy_base.specs.declared.name.NodeId.{NodeId}
 use Rattle.policy_queue.specs.declared.timers.array.Timer.{Timer}
 use Rattle.policy_queue.specs.declared.timers.places.Place.{Place}
 use Rattle.policy_queue.specs.Timers.Array.{key_of}
-use Rattle.policy_queue.specs.Timers.Places.{timer_at, key_in, height_at, with_timer, taken, AreAbove, IsSpread, AreUnder, AreFrom, LacksKey, StartsTaken, IsFirst, IsSpare, IsTaken, IsNamed, Comes, Goes, IsRow}
-use Rattle.policy_queue.proofs.timers.Spreads.{spare, taken-append, taken-spare, taken-timer, IsSpread-remove, IsSpread-insert, IsSpread-spare, IsSpread-drop}
+use Rattle.policy_queue.specs.Timers.Places.{timer_at, key_in, height_in, height_at, with_timer, taken, AreAbove, IsSpread, AreUnder, AreFrom, LacksKey, StartsTaken, IsFirst, IsSpare, IsTaken, IsNamed, Comes, Goes, IsRow}
+use Rattle.policy_queue.proofs.timers.Spreads.{spare, taken-append, taken-spare, taken-timer, height_le, IsSpread-remove, IsSpread-insert, IsSpread-spare, IsSpread-drop}
 
 LacksKey-right : (key : ℕ) (xs ys : List Timer) → LacksKey key (xs ++ ys) → LacksKey key ys
 LacksKey-right key [] ys h = h
@@ -24,14 +23,16 @@ AreUnder-remove : (high : ℕ) (front : List Place) (n : Place) (back : List Pla
 AreUnder-remove high [] n back h = h.1
 AreUnder-remove high (m ∷ front) n back h = (h.0, AreUnder-remove high front n back h.1)
 
-strictly : (b : Bool) (p : Place) (low : ℕ) (ts : List Timer) → low ≤ key_in p → LacksKey low (with_timer b (timer_at p) ts) → (low < height_at b (key_in p)) × LacksKey low ts
-strictly true p low ts le h = ((let ne : key_in p ≢ low = h.0 in omega arith), h.1)
-strictly false p low ts le h = (omega arith, h)
+strictly : (p : Place) (low : ℕ) (ps : List Place) → low ≤ key_in p → LacksKey low (taken (p ∷ ps)) → (low < height_in p) × LacksKey low (taken ps)
+strictly p low ps le h = elim (cases_Bool p.is_taken) [
+  | inl e ↦ let lacks = rw e at h in rw e ((let ne : key_in p ≢ low = lacks.0 in omega arith), lacks.1)
+  | inr e ↦ let lacks = rw e at h in rw e (omega arith, lacks)
+]
 
 -- behind a new key
 above_from : (low : ℕ) (ps : List Place) → AreFrom low ps → LacksKey low (taken ps) → AreAbove low ps
 above_from low [] f l = tt
-above_from low (p ∷ ps) f l = let s = strictly p.is_taken p low (taken ps) f.0 l in (s.0, above_from low ps f.1 s.1)
+above_from low (p ∷ ps) f l = let s = strictly p low ps f.0 l in (s.0, above_from low ps f.1 s.1)
 
 -- a timer comes between places
 pub came : (a b : List Place) (p : Place) → p.is_taken ≡ true → IsSpread (a ++ b) → AreUnder (key_in p) a → AreFrom (key_in p) b → LacksKey (key_in p) (taken (a ++ b)) → IsSpread (a ++ p ∷ b) × Comes (taken (a ++ b)) (taken (a ++ p ∷ b)) (timer_at p)
@@ -123,21 +124,23 @@ fits_down ps new at sp p le h free inside under from lacks held moved =
 abbrev pub IsOther : ℕ → NodeId → Timer → Type 0
 IsOther bound id t = key_of t ≡ bound → t.id ≢ id
 
-all_with : (bound : ℕ) (id : NodeId) (b : Bool) (t : Timer) (ts : List Timer) → (b ≡ true → IsOther bound id t) → All (IsOther bound id) ts → All (IsOther bound id) (with_timer b t ts)
-all_with bound id true t ts head h = All-cons (IsOther bound id) t ts (head refl) h
-all_with bound id false t ts head h = h
+all_with : (bound : ℕ) (id : NodeId) (p : Place) (ps : List Place) → (p.is_taken ≡ true → IsOther bound id (timer_at p)) → All (IsOther bound id) (taken ps) → All (IsOther bound id) (taken (p ∷ ps))
+all_with bound id p ps head h = elim (cases_Bool p.is_taken) [
+  | inl e ↦ rw e (All-cons (IsOther bound id) (timer_at p) (taken ps) (head e) h)
+  | inr e ↦ rw e h
+]
 
 under_others : (bound : ℕ) (id : NodeId) (ps : List Place) → AreUnder bound ps → All (IsOther bound id) (taken ps)
 under_others bound id [] h = All-nil (IsOther bound id)
-under_others bound id (p ∷ ps) h = all_with bound id p.is_taken (timer_at p) (taken ps) (λ held e. let lt = h.0 in let same : key_in p ≡ bound = e in absurd (omega arith)) (under_others bound id ps h.1)
+under_others bound id (p ∷ ps) h = all_with bound id p ps (λ held e. let lt = h.0 in let same : key_in p ≡ bound = e in absurd (omega arith)) (under_others bound id ps h.1)
 
 above_others : (bound low : ℕ) (id : NodeId) (ps : List Place) → bound ≤ low → AreAbove low ps → All (IsOther bound id) (taken ps)
 above_others bound low id [] le h = All-nil (IsOther bound id)
-above_others bound low id (p ∷ ps) le h = all_with bound id p.is_taken (timer_at p) (taken ps) (λ held e. let lt : low < height_at true (key_in p) = subst (λ b. low < height_at b (key_in p)) held h.0 in let same : key_in p ≡ bound = e in absurd (omega arith)) (above_others bound low id ps le h.1)
+above_others bound low id (p ∷ ps) le h = all_with bound id p ps (λ held e. let lt : low < height_at true (key_in p) = subst (λ b. low < height_at b (key_in p)) held h.0 in let same : key_in p ≡ bound = e in absurd (omega arith)) (above_others bound low id ps le h.1)
 
 from_others : (bound : ℕ) (id : NodeId) (ps : List Place) → IsSpread ps → AreFrom bound ps → ((d : Place) → 0 < length ps → (get_or ps 0 d).is_taken ≡ true → (timer_at (get_or ps 0 d)).id ≢ id) → All (IsOther bound id) (taken ps)
 from_others bound id [] h from other = All-nil (IsOther bound id)
-from_others bound id (p ∷ ps) h from other = all_with bound id p.is_taken (timer_at p) (taken ps) (λ held e. other p (omega arith) held) (above_others bound (key_in p) id ps from.0 h.0)
+from_others bound id (p ∷ ps) h from other = all_with bound id p ps (λ held e. other p (omega arith) held) (above_others bound (key_in p) id ps from.0 h.0)
 
 pub sought : (ps : List Place) (k bound : ℕ) (id : NodeId) → IsSpread ps → AreUnder bound (take k ps) → AreFrom bound (drop k ps) → ((d : Place) → k < length ps → (get_or ps k d).is_taken ≡ true → (timer_at (get_or ps k d)).id ≢ id) → All (λ (t : Timer). key_of t ≡ bound → t.id ≢ id) (taken ps)
 sought ps k bound id h under from other =
@@ -149,21 +152,21 @@ sought ps k bound id h under from other =
     subst (λ ts. All (IsOther bound id) ts) (sym (taken-append (take k ps) back) ∙ ap taken (take-append-drop k ps)) both
 
 -- as many timers as places
-with_length : (b : Bool) (t : Timer) (ts : List Timer) → (length (with_timer b t ts) ≤ length ts + 1) × (b ≡ false → length (with_timer b t ts) ≡ length ts)
-with_length true t ts = (omega arith, λ e. absurd (true≢false e))
-with_length false t ts = (omega arith, λ e. refl)
-
 pub taken_fewer : (ps : List Place) → length (taken ps) ≤ length ps
 taken_fewer [] = omega arith
-taken_fewer (p ∷ ps) = let less = taken_fewer ps in let one = (with_length p.is_taken (timer_at p) (taken ps)).0 in omega arith
+taken_fewer (p ∷ ps) =
+    let less = taken_fewer ps in
+    elim (cases_Bool p.is_taken) [
+      | inl e ↦ rw e (omega arith)
+      | inr e ↦ rw e (omega arith)
+    ]
 
 pub starts_all : (ps : List Place) → length (taken ps) ≡ length ps → StartsTaken ps
 starts_all [] e = tt
-starts_all (p ∷ ps) e = go p.is_taken refl
-  where
-    go : (b : Bool) → b ≡ p.is_taken → p.is_taken ≡ true
-    go true s = sym s
-    go false s = let less = taken_fewer ps in let same = (with_length p.is_taken (timer_at p) (taken ps)).1 (sym s) in absurd (omega arith)
+starts_all (p ∷ ps) e = elim (cases_Bool p.is_taken) [
+  | inl held ↦ held
+  | inr free ↦ let less = taken_fewer ps in let all = rw free at e in absurd (omega arith)
+]
 
 -- a timer leaves the place of this number behind the front
 live_parts : (items : List Place) (front k : ℕ) (x : Place) → front + k < length items → x ≡ get_or items (front + k) x → drop front items ≡ take k (drop front items) ++ x ∷ drop (k + 1) (drop front items)
@@ -289,18 +292,15 @@ inserted_is items front at p le =
 pub goes_of : (items : List Place) (front k : ℕ) (x : Place) (new : List Timer) (t : Timer) → IsTaken (drop front items) k → x ≡ get_or items (front + k) x → t ≡ timer_at x → new ≡ taken (take k (drop front items)) ++ taken (drop (k + 1) (drop front items)) → Goes k (taken (drop front items)) new t
 goes_of items front k x new t h e same is = subst (λ (u : Timer). Goes k (taken (drop front items)) new u) (sym same) (goes_at items front k x new (inside_at items front k h) e (held_at items front k x h e) is)
 
-pub on_true : (b : Bool) (P : Type 0) → P → OnTrue b P
-on_true true P p = p
-on_true false P p = tt
-
 -- the first timer's key is least
-keys_with : (low : ℕ) (b : Bool) (p : Place) (ts : List Timer) → low < height_at b (key_in p) → All (λ (u : Timer). low ≤ key_of u) ts → All (λ (u : Timer). low ≤ key_of u) (with_timer b (timer_at p) ts)
-keys_with low true p ts lt h = All-cons (λ (u : Timer). low ≤ key_of u) (timer_at p) ts (omega arith) h
-keys_with low false p ts lt h = h
-
 above_keys : (low : ℕ) (ps : List Place) → AreAbove low ps → All (λ (u : Timer). low ≤ key_of u) (taken ps)
 above_keys low [] h = All-nil (λ (u : Timer). low ≤ key_of u)
-above_keys low (p ∷ ps) h = keys_with low p.is_taken p (taken ps) h.0 (above_keys low ps h.1)
+above_keys low (p ∷ ps) h =
+    let key = height_le p low h.0 in
+    elim (cases_Bool p.is_taken) [
+      | inl e ↦ rw e (All-cons (λ (u : Timer). low ≤ key_of u) (timer_at p) (taken ps) key (above_keys low ps h.1))
+      | inr e ↦ rw e (above_keys low ps h.1)
+    ]
 
 pub first_least : (ps : List Place) (t : Timer) → IsSpread ps → IsFirst ps t → All (λ (u : Timer). key_of t ≤ key_of u) (taken ps)
 first_least [] t h first = absurd first

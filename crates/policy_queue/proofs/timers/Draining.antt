@@ -14,7 +14,7 @@ use Rattle.policy_queue.specs.declared.timers.events.TimerEvent.{TimerEvent}
 use Rattle.policy_queue.specs.declared.timers.events.TimerEvent.TheVariants.{Expired, Rescheduled, Descheduled}
 use Rattle.policy_queue.specs.Timers.Entries.{due_of, all_forgotten}
 use Rattle.policy_queue.proofs.timers.Advance.{after_times, all_forgotten_times}
-use Rattle.policy_queue.specs.Timers.Events.{HaveNoTime, Expires, Postpones, Step, SameTimes}
+use Rattle.policy_queue.specs.Timers.Events.{HaveNoTime, Expires, Postpones, AdvanceStep, SameTimes}
 use Rattle.policy_queue.specs.Timers.Advances.{IsDue, ArePlaced, given_at, given_of, Drains, nodes_of, Advances}
 
 module _ {K : Type 0} (entries : Slab (Slot K)) (now : ℕ) where
@@ -94,20 +94,20 @@ module _ {K : Type 0} (entries₀ entries : Slab (Slot K)) (times : SameTimes en
   earlier_none : (ts : List Timer) → HaveNoTime entries ts → HaveNoTime entries₀ ts
   earlier_none ts h k d lt = sym (times (get_or ts k d).node.entry_info) ∙ h k d lt
 
-  pub drained_expired : (new : Slab (Slot K)) (before ts after : List Timer) (nodes : List TimerNode) (node : TimerNode) → Draining entries₀ now before ts nodes → Step entries new now ts after (Some (Expired node)) → Draining entries₀ now before after (nodes ++ node ∷ [])
+  pub drained_expired : (new : Slab (Slot K)) (before ts after : List Timer) (nodes : List TimerNode) (node : TimerNode) → Draining entries₀ now before ts nodes → AdvanceStep entries new now ts after (Some (Expired node)) → Draining entries₀ now before after (nodes ++ node ∷ [])
   drained_expired new before ts after nodes node h s =
       Draining-expired entries₀ now before ts after nodes node s.gone s.left h s.parts (earlier_none s.gone s.had_none)
       (record { timer = s.is.timer; recorded = s.is.recorded; timers = s.is.timers; due = s.is.due; is_due = sym (times node.entry_info) ∙ s.is.is_due; reached = s.is.reached; placed = s.is.placed })
 
-  pub drained_postponed : (new : Slab (Slot K)) (before ts after : List Timer) (nodes : List TimerNode) (u : Unit {0}) → Draining entries₀ now before ts nodes → Step entries new now ts after (Some (Rescheduled u)) → Draining entries₀ now before after nodes
+  pub drained_postponed : (new : Slab (Slot K)) (before ts after : List Timer) (nodes : List TimerNode) (u : Unit {0}) → Draining entries₀ now before ts nodes → AdvanceStep entries new now ts after (Some (Rescheduled u)) → Draining entries₀ now before after nodes
   drained_postponed new before ts after nodes u h s =
       Draining-postponed entries₀ now before ts after nodes s.gone s.left h s.parts
       (record { timer = s.is.timer; others = s.is.others; timers = s.is.timers; due = s.is.due; is_due = sym (times s.is.timer.node.entry_info) ∙ s.is.is_due; later = s.is.later; placed = s.is.placed; moves = s.is.moves })
 
-  pub drained : (new : Slab (Slot K)) (before ts after : List Timer) (nodes : List TimerNode) → Draining entries₀ now before ts nodes → Step entries new now ts after None → Drains entries₀ now before after nodes
+  pub drained : (new : Slab (Slot K)) (before ts after : List Timer) (nodes : List TimerNode) → Draining entries₀ now before ts nodes → AdvanceStep entries new now ts after None → Drains entries₀ now before after nodes
   drained new before ts after nodes h s = Draining-ended entries₀ now before ts after nodes s.gone s.left h s.parts (earlier_none s.gone s.had_none) s.is.0 s.is.1
 
-  step_times : (new : Slab (Slot K)) (ts after : List Timer) (event : Option TimerEvent) → Step entries new now ts after event → SameTimes entries₀ new
+  step_times : (new : Slab (Slot K)) (ts after : List Timer) (event : Option TimerEvent) → AdvanceStep entries new now ts after event → SameTimes entries₀ new
   step_times new ts after event s k = ap (λ e. due_of e k) s.entries ∙ after_times event (all_forgotten s.gone entries) k ∙ all_forgotten_times s.gone entries k ∙ times k
 
 -- a whole advance drains the wheel

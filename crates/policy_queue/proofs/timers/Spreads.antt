@@ -1,22 +1,22 @@
 -- Places with spare ones between them.
-use Rattle.std.proofs.Common.{◌≡◌, ℕ, zero, suc, ◌+◌, ◌-◌, ◌<◌, ◌≤◌, Bool, true, false, List, [], ◌∷◌, ◌++◌, length, get_or, set, take, drop, refl, sym, ap, ◌∙◌, arith, subst, append_assoc}
+use Rattle.std.proofs.Common.{◌≡◌, ℕ, zero, suc, ◌+◌, ◌-◌, ◌<◌, ◌≤◌, true, false, List, [], ◌∷◌, ◌++◌, length, get_or, set, take, drop, refl, sym, ap, ◌∙◌, arith, subst, append_assoc, inl, inr}
 use Rattle.std.specs.List.Sorted.{IsNonDecreasingBy}
+use Rattle.std.proofs.lemmas.Bool.{cases_Bool}
 use Rattle.std.proofs.lemmas.List.{take_more, take_more_set, drop_more, drop-set-lt, drop-set, take-set-le, length-append}
 use Rattle.policy_queue.specs.declared.timers.array.Timer.{Timer}
 use Rattle.policy_queue.specs.declared.timers.places.Place.{Place}
-use Rattle.policy_queue.specs.Timers.Places.{timer_at, key_in, height_in, height_at, with_timer, taken, AreAbove, IsSpread, AreUnder, AreFrom, StartsTaken}
+use Rattle.policy_queue.specs.Timers.Places.{timer_at, key_in, height_in, with_timer, taken, AreAbove, IsSpread, AreUnder, AreFrom, StartsTaken}
 
 -- the place without its timer
 abbrev pub spare : Place → Place
 spare p = record p { is_taken = false }
 
-with_timer-append : (b : Bool) (t : Timer) (xs ys : List Timer) → with_timer b t (xs ++ ys) ≡ with_timer b t xs ++ ys
-with_timer-append true t xs ys = refl
-with_timer-append false t xs ys = refl
-
 pub taken-append : (xs ys : List Place) → taken (xs ++ ys) ≡ taken xs ++ taken ys
 taken-append [] ys = refl
-taken-append (p ∷ xs) ys = ap (with_timer p.is_taken (timer_at p)) (taken-append xs ys) ∙ with_timer-append p.is_taken (timer_at p) (taken xs) (taken ys)
+taken-append (p ∷ xs) ys = elim (cases_Bool p.is_taken) [
+  | inl e ↦ rw e (ap (λ ts. timer_at p ∷ ts) (taken-append xs ys))
+  | inr e ↦ rw e (taken-append xs ys)
+]
 
 pub taken-spare : (front : List Place) (n : Place) (back : List Place) → n.is_taken ≡ false → taken (front ++ n ∷ back) ≡ taken (front ++ back)
 taken-spare front n back free = taken-append front (n ∷ back) ∙ ap (λ b. taken front ++ with_timer b (timer_at n) (taken back)) free ∙ sym (taken-append front back)
@@ -24,13 +24,17 @@ taken-spare front n back free = taken-append front (n ∷ back) ∙ ap (λ b. ta
 pub taken-timer : (front : List Place) (n : Place) (back : List Place) → n.is_taken ≡ true → taken (front ++ n ∷ back) ≡ taken front ++ timer_at n ∷ taken back
 taken-timer front n back held = taken-append front (n ∷ back) ∙ ap (λ b. taken front ++ with_timer b (timer_at n) (taken back)) held
 
-height_le : (b : Bool) (key low : ℕ) → low < height_at b key → low ≤ key
-height_le true key low h = omega arith
-height_le false key low h = omega arith
+pub height_le : (p : Place) (low : ℕ) → low < height_in p → low ≤ key_in p
+height_le p low h = elim (cases_Bool p.is_taken) [
+  | inl e ↦ let under = rw e at h in omega arith
+  | inr e ↦ let under = rw e at h in omega arith
+]
 
-height_ge : (b : Bool) (key low : ℕ) → low < key → low < height_at b key
-height_ge true key low h = h
-height_ge false key low h = omega arith
+height_ge : (p : Place) (low : ℕ) → low < key_in p → low < height_in p
+height_ge p low h = elim (cases_Bool p.is_taken) [
+  | inl e ↦ rw e h
+  | inr e ↦ rw e (omega arith)
+]
 
 AreAbove-remove : (low : ℕ) (front : List Place) (n : Place) (back : List Place) → AreAbove low (front ++ n ∷ back) → AreAbove low (front ++ back)
 AreAbove-remove low [] n back h = h.1
@@ -47,13 +51,13 @@ IsSpread-remove (m ∷ front) n back h = (AreAbove-remove (key_in m) front n bac
 pub IsSpread-insert : (front : List Place) (n : Place) (back : List Place) → IsSpread (front ++ back) → n.is_taken ≡ true → AreUnder (key_in n) front → AreAbove (key_in n) back → IsSpread (front ++ n ∷ back)
 IsSpread-insert [] n back h held under above = (above, h)
 IsSpread-insert (m ∷ front) n back h held under above = (
-  AreAbove-insert (key_in m) front n back h.0 (height_ge n.is_taken (key_in n) (key_in m) under.0),
+  AreAbove-insert (key_in m) front n back h.0 (height_ge n (key_in m) under.0),
   IsSpread-insert front n back h.1 held under.1 above,
 )
 
 -- a place becomes spare
 AreAbove-spare : (low : ℕ) (front : List Place) (n : Place) (back : List Place) → AreAbove low (front ++ n ∷ back) → AreAbove low (front ++ spare n ∷ back)
-AreAbove-spare low [] n back h = ((let le = height_le n.is_taken (key_in n) low h.0 in omega arith), h.1)
+AreAbove-spare low [] n back h = ((let le = height_le n low h.0 in omega arith), h.1)
 AreAbove-spare low (m ∷ front) n back h = (h.0, AreAbove-spare low front n back h.1)
 
 pub IsSpread-spare : (front : List Place) (n : Place) (back : List Place) → IsSpread (front ++ n ∷ back) → IsSpread (front ++ spare n ∷ back)
@@ -62,7 +66,7 @@ IsSpread-spare (m ∷ front) n back h = (AreAbove-spare (key_in m) front n back 
 
 -- a spare place of the same key comes behind a place
 AreAbove-copy : (low : ℕ) (front : List Place) (n : Place) (back : List Place) → AreAbove low (front ++ n ∷ back) → AreAbove low (front ++ n ∷ (spare n ∷ back))
-AreAbove-copy low [] n back h = (h.0, ((let le = height_le n.is_taken (key_in n) low h.0 in omega arith), h.1))
+AreAbove-copy low [] n back h = (h.0, ((let le = height_le n low h.0 in omega arith), h.1))
 AreAbove-copy low (m ∷ front) n back h = (h.0, AreAbove-copy low front n back h.1)
 
 IsSpread-copy : (front : List Place) (n : Place) (back : List Place) → IsSpread (front ++ n ∷ back) → IsSpread (front ++ n ∷ (spare n ∷ back))
@@ -77,7 +81,7 @@ IsSpread-drop (suc k) (p ∷ ps) h = IsSpread-drop k ps h.1
 -- keys rise
 above_at : (low : ℕ) (ps : List Place) (k : ℕ) (d : Place) → AreAbove low ps → k < length ps → low ≤ key_in (get_or ps k d)
 above_at low [] k d h lt = absurd (omega arith)
-above_at low (p ∷ ps) zero d h lt = height_le p.is_taken (key_in p) low h.0
+above_at low (p ∷ ps) zero d h lt = height_le p low h.0
 above_at low (p ∷ ps) (suc k) d h lt = above_at low ps k d h.1 (omega arith)
 
 pub rises : (ps : List Place) → IsSpread ps → IsNonDecreasingBy key_in ps

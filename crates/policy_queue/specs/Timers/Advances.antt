@@ -10,7 +10,7 @@ use Rattle.policy_queue.specs.declared.timers.array.Due.{Due}
 use Rattle.policy_queue.specs.declared.timers.events.TimerEvent.{TimerEvent}
 use Rattle.policy_queue.specs.declared.timers.events.TimerEvent.TheVariants.{Expired, Rescheduled, Descheduled}
 use Rattle.policy_queue.specs.Timers.Entries.{due_of}
-use Rattle.policy_queue.specs.Timers.Events.{Step}
+use Rattle.policy_queue.specs.Timers.Events.{AdvanceStep}
 
 -- the entry's time has come
 pub record IsDue {K : Type 0} (entries : Slab (Slot K)) (now entry : ℕ) : Type 0 where
@@ -54,9 +54,9 @@ nodes_of (Descheduled ∷ rest) = nodes_of rest
 abbrev pub Advances : {K : Type 0} → List TimerEvent → Slab (Slot K) → ℕ → List Timer → List Timer
     → Type 0
 Advances {K} [] entries now before after =
-    (new : Slab (Slot K)) × Step entries new now before after None
+    (new : Slab (Slot K)) × AdvanceStep entries new now before after None
 Advances {K} (event ∷ rest) entries now before after =
-    (new : Slab (Slot K)) × (next : List Timer) × Step entries new now before next (Some event)
+    (new : Slab (Slot K)) × (next : List Timer) × AdvanceStep entries new now before next (Some event)
     × Advances rest new now next after
 
 -- an event

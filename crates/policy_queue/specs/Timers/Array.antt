@@ -17,9 +17,9 @@ LacksSerial serial [] = Unit {0}
 LacksSerial serial (t ∷ rest) = (t.id.serial ≢ serial) × LacksSerial serial rest
 
 -- each timer has a serial of its own
-abbrev pub AreApart : List Timer → Type 0
-AreApart [] = Unit {0}
-AreApart (t ∷ rest) = (t.id.serial < 2 ^ 64) × LacksSerial t.id.serial rest × AreApart rest
+abbrev pub SerialsDiffer : List Timer → Type 0
+SerialsDiffer [] = Unit {0}
+SerialsDiffer (t ∷ rest) = (t.id.serial < 2 ^ 64) × LacksSerial t.id.serial rest × SerialsDiffer rest
 
 -- each timer's serial is below the next one
 abbrev pub AreBelow : ℕ → List Timer → Type 0
@@ -37,7 +37,7 @@ AreStored slots (t ∷ rest) = (get slots t.id.slot ≡ Some (stored_of t)) × A
 
 -- timers and slab fit together
 pub record IsArranged (timers : List Timer) (slots : Slab (ℕ × ℕ)) : Type 0 where
-  pub apart : AreApart timers
+  pub apart : SerialsDiffer timers
   pub stored : AreStored slots timers
   pub counted : slab_len slots ≡ length timers
 

@@ -59,7 +59,7 @@ entries_after (Some (Rescheduled u)) entries = entries
 entries_after (Some Descheduled) entries = entries
 
 -- one step of an advance: timers without a time leave unannounced, and then comes the event, or the end
-pub record Step {K : Type 0} (old new : Slab (Slot K)) (now : ℕ) (before after : List Timer)
+pub record AdvanceStep {K : Type 0} (old new : Slab (Slot K)) (now : ℕ) (before after : List Timer)
     (event : Option TimerEvent) : Type 0 where
   pub gone : List Timer
   pub left : List Timer

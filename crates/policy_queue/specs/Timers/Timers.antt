@@ -38,7 +38,7 @@ abbrev pub tick : ℕ → ℕ → ℕ
 tick origin moment = (moment - origin) / 2 ^ 30
 
 -- everything but the timers and the room is as it was, and there is no less room
-pub record Keeps (old new : Timers) : Type 0 where
+pub record KeepsAllButTimers (old new : Timers) : Type 0 where
   pub is_enabled : new.is_enabled ≡ old.is_enabled
   pub origin : new.origin ≡ old.origin
   pub moment : new.moment ≡ old.moment

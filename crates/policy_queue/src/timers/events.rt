@@ -1,8 +1,8 @@
 //! An advance of a wheel, event by event.
 ghost use Rattle.std.specs.Prelude.{◌≡◌, ℕ, ◌<◌, ◌≤◌, true, false, nat_lt, List, [], ◌∷◌, ◌++◌, Some, None, IfSome, OnSome, is_some, if◌then◌else◌};
 ghost use Rattle.std.specs.Bool.{OnTrue, OnFalse};
-ghost use Rattle.policy_queue.specs.Timers.Timers.{tick, Keeps, TheTimer};
-ghost use Rattle.policy_queue.specs.Timers.Events.{Step, SameTimes, pending, EventIs, entries_after};
+ghost use Rattle.policy_queue.specs.Timers.Timers.{tick, KeepsAllButTimers, TheTimer};
+ghost use Rattle.policy_queue.specs.Timers.Events.{AdvanceStep, SameTimes, pending, EventIs, entries_after};
 ghost use Rattle.policy_queue.specs.Timers.Entries.{due_of};
 
 use crate::timers::array::{Due, Timer, TimerNode};
@@ -76,9 +76,10 @@ impl<'a, K> TimerEventsIter<'a, K> {
             × (self.new.entries.now ≡ self.old.entries.now)) }
 
         // In a later tick: what left and what came, the moment, and that fewer timers are pending.
-        ensures steps { OnTrue self.old.is_late (Step self.old.entries.now self.new.entries.now
-            self.old.now self.old.wheel.now.timers self.new.wheel.now.timers result) }
-        ensures keeps { OnTrue self.old.is_late (Keeps (record self.old.wheel.now
+        ensures steps { OnTrue self.old.is_late
+            (AdvanceStep self.old.entries.now self.new.entries.now self.old.now
+            self.old.wheel.now.timers self.new.wheel.now.timers result) }
+        ensures keeps { OnTrue self.old.is_late (KeepsAllButTimers (record self.old.wheel.now
             { moment = (if is_some result then self.old.wheel.now.moment else self.old.now) })
             self.new.wheel.now) }
         ensures fewer { OnTrue self.old.is_late (OnSome result (pending self.old.now
@@ -116,7 +117,7 @@ fn settle<K>(
     requires due { due_of entries.old timer.node.entry_info ≡ Some due }
     requires placed { timer.placed ≤ now }
     ensures event { EventIs entries.old now wheel.old.timers wheel.new.timers (Some result) }
-    ensures keeps { Keeps wheel.old wheel.new }
+    ensures keeps { KeepsAllButTimers wheel.old wheel.new }
     ensures entries { entries.new ≡ entries_after (Some result) entries.old }
 {
     if due.time.as_nanos() <= now.as_nanos() {

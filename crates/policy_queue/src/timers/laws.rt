@@ -1,8 +1,8 @@
 //! What a whole advance returns.
 ghost use Rattle.std.specs.Prelude.{◌≡◌, ℕ, ◌<◌, true, nat_lt, Some, None, OnSome, is_some, List, if◌then◌else◌};
 ghost use Rattle.std.specs.Bool.{OnTrue, OnFalse};
-ghost use Rattle.policy_queue.specs.Timers.Timers.{tick, Keeps};
-ghost use Rattle.policy_queue.specs.Timers.Events.{Step, SameTimes, pending};
+ghost use Rattle.policy_queue.specs.Timers.Timers.{tick, KeepsAllButTimers};
+ghost use Rattle.policy_queue.specs.Timers.Events.{AdvanceStep, SameTimes, pending};
 ghost use Rattle.policy_queue.specs.Timers.Timers.{TheTimer};
 ghost use Rattle.policy_queue.specs.Timers.Advances.{TheEvent};
 ghost use Rattle.policy_queue.specs.Timers.Advances.{Advances, Drains, nodes_of};
@@ -25,10 +25,10 @@ pub fn next_event<K>(
         ((result ≡ None) × (wheel.new ≡ wheel.old) × (entries.new ≡ entries.old)) }
     ensures steps { OnTrue
         (nat_lt (tick wheel.old.origin wheel.old.moment) (tick wheel.old.origin now))
-        (Step entries.old entries.new now wheel.old.timers wheel.new.timers result) }
+        (AdvanceStep entries.old entries.new now wheel.old.timers wheel.new.timers result) }
     ensures keeps { OnTrue
         (nat_lt (tick wheel.old.origin wheel.old.moment) (tick wheel.old.origin now))
-        (Keeps (record wheel.old { moment = (if is_some result then wheel.old.moment else now) })
+        (KeepsAllButTimers (record wheel.old { moment = (if is_some result then wheel.old.moment else now) })
         wheel.new) }
     ensures fewer { OnTrue
         (nat_lt (tick wheel.old.origin wheel.old.moment) (tick wheel.old.origin now))

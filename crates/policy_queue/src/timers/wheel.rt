@@ -4,7 +4,7 @@ ghost use Rattle.std.specs.List.{All};
 ghost use Rattle.std.specs.List.Sorted.{IsPermutation};
 ghost use Rattle.slab.specs.Slab.{get};
 ghost use Rattle.policy_queue.specs.Timers.Entries.{due_of};
-ghost use Rattle.policy_queue.specs.Timers.Timers.{TheTimer, moved, Keeps, OnlyGainsRoom, ScheduledWell, TimerRefusedWell, TimerLeaves, RescheduledWell, Replaces, Schedules};
+ghost use Rattle.policy_queue.specs.Timers.Timers.{TheTimer, moved, KeepsAllButTimers, OnlyGainsRoom, ScheduledWell, TimerRefusedWell, TimerLeaves, RescheduledWell, Replaces, Schedules};
 
 use crate::timers::array::{Due, Timer, TimerNode, add, find, move_timer, take};
 use crate::timers::entries::due_of;
@@ -212,7 +212,7 @@ impl<K> TimerWheel<K> {
         requires { self.old.is_enabled ≡ true }
         ensures rescheduled { IfOk result
             (RescheduledWell entries.now self.old.timers self.new.timers id) }
-        ensures keeps { OnOk result (Keeps self.old self.new) }
+        ensures keeps { OnOk result (KeepsAllButTimers self.old self.new) }
         ensures stale { OnErr result (All (λ t. t.id ≢ id) self.old.timers) }
         ensures unchanged { OnErr result (self.new ≡ self.old) }
     {
@@ -235,7 +235,7 @@ impl<K> TimerWheel<K> {
     /// the timer; then nothing has changed.
     pub fn replace(&mut self, id: NodeId, due: Due) -> Result<(), StaleTimer>
         ensures replaces { OnOk result (Replaces self.old.timers self.new.timers id due) }
-        ensures keeps { OnOk result (Keeps self.old self.new) }
+        ensures keeps { OnOk result (KeepsAllButTimers self.old self.new) }
         ensures stale { OnErr result (All (λ t. t.id ≢ id) self.old.timers) }
         ensures unchanged { OnErr result (self.new ≡ self.old) }
     {
@@ -253,7 +253,7 @@ impl<K> TimerWheel<K> {
     pub fn deschedule(&mut self, id: NodeId) -> Result<TimerNode, StaleTimer>
         requires { self.old.is_enabled ≡ true }
         ensures leaves { IfOk result (TimerLeaves self.old.timers self.new.timers id) }
-        ensures keeps { OnOk result (Keeps self.old self.new) }
+        ensures keeps { OnOk result (KeepsAllButTimers self.old self.new) }
         ensures stale { OnErr result (All (λ t. t.id ≢ id) self.old.timers) }
         ensures unchanged { OnErr result (self.new ≡ self.old) }
     {
@@ -289,7 +289,7 @@ impl<K> TimerWheel<K> {
     pub fn pop_first(&mut self)
         requires { 0 < length self.old.timers }
         ensures first { (t : TheTimer) × (self.old.timers ≡ t ∷ self.new.timers) }
-        ensures keeps { Keeps self.old self.new }
+        ensures keeps { KeepsAllButTimers self.old self.new }
     {
         match self.row.first() {
             Some(_) => {
@@ -304,7 +304,7 @@ impl<K> TimerWheel<K> {
         requires { 0 < length self.old.timers }
         ensures first { (t : TheTimer) × (rest : List TheTimer) × (self.old.timers ≡ t ∷ rest)
             × IsPermutation (moved t due.time due.expiry_gen ∷ rest) self.new.timers }
-        ensures keeps { Keeps self.old self.new }
+        ensures keeps { KeepsAllButTimers self.old self.new }
     {
         match self.row.first() {
             Some(_) => move_timer(&mut self.row, &mut self.slots, 0, due),

@@ -32,12 +32,12 @@ module _ {V F : Type 0} where
   }
 
   -- the turn with a number
-  abbrev pub slot_at : ℕ → SlotsByNumber V F → Option (Turn V F)
-  slot_at number slots = option_map turn_in (get nat_eq slots number)
+  abbrev pub turn_by_number : ℕ → SlotsByNumber V F → Option (Turn V F)
+  turn_by_number number slots = option_map turn_in (get nat_eq slots number)
 
   -- how many callers wait for the turn with a number
-  abbrev pub waiting_at : ℕ → SlotsByNumber V F → ℕ
-  waiting_at number slots = option_map_or (λ turn. turn.waiting) (slot_at number slots) 0
+  abbrev pub waiters_at : ℕ → SlotsByNumber V F → ℕ
+  waiters_at number slots = option_map_or (λ turn. turn.waiting) (turn_by_number number slots) 0
 
   -- a turn, if it is of a kind
   abbrev pub if_of : TurnKind → Option (Turn V F) → Option (Turn V F)
@@ -45,8 +45,8 @@ module _ {V F : Type 0} where
   if_of kind None = None
 
   -- the hash of a turn's key, if it is of a kind
-  abbrev pub hash_of : TurnKind → Option (Turn V F) → Option ℕ
-  hash_of kind turn = option_map (λ t. t.hash) (if_of kind turn)
+  abbrev pub turn_hash : TurnKind → Option (Turn V F) → Option ℕ
+  turn_hash kind turn = option_map (λ t. t.hash) (if_of kind turn)
 
   -- what those that wait for a turn are told: its ending, or that it was given up if there is none
   abbrev pub told_of : Option (Turn V F) → Ending V F
@@ -54,16 +54,16 @@ module _ {V F : Type 0} where
   told_of None = GivenUp
 
   -- a turn of a key of this hash that is under way, and for which nobody waits
-  abbrev pub opened : TurnKind → (hash : ℕ) → Turn V F
-  opened kind hash = record { kind = kind; hash = hash; waiting = 0; ending = Underway }
+  abbrev pub fresh_turn : TurnKind → (hash : ℕ) → Turn V F
+  fresh_turn kind hash = record { kind = kind; hash = hash; waiting = 0; ending = Underway }
 
   -- one caller more waits
-  abbrev pub joined : Turn V F → Option (Turn V F)
-  joined turn = Some (record turn { waiting = turn.waiting + 1 })
+  abbrev pub joined_by_one : Turn V F → Option (Turn V F)
+  joined_by_one turn = Some (record turn { waiting = turn.waiting + 1 })
 
   -- a turn ends so, and is kept only if some wait for it
-  abbrev pub ended : Ending V F → Turn V F → Option (Turn V F)
-  ended ending turn =
+  abbrev pub ended_with : Ending V F → Turn V F → Option (Turn V F)
+  ended_with ending turn =
       if nat_lt 0 turn.waiting then Some (record turn { ending = ending }) else None
 
   -- one caller less waits
@@ -88,15 +88,15 @@ module _ {V F : Type 0} where
 
   -- every turn stays
   abbrev pub SlotsStay : (old new : SlotsByNumber V F) → Type 0
-  SlotsStay old new = (n : ℕ) → slot_at n new ≡ slot_at n old
+  SlotsStay old new = (n : ℕ) → turn_by_number n new ≡ turn_by_number n old
 
   -- the turn with a number is this, and the others stay
   abbrev pub IsPutAt : (number : ℕ) → Option (Turn V F) → (old new : SlotsByNumber V F) → Type 0
   IsPutAt number turn old new =
-      (n : ℕ) → slot_at n new ≡ (if number == n then turn else slot_at n old)
+      (n : ℕ) → turn_by_number n new ≡ (if number == n then turn else turn_by_number n old)
 
   -- this becomes of the turn with a number if it is of a kind, and the others stay
-  abbrev pub ChangesAt : TurnKind → (number : ℕ) → (Turn V F → Option (Turn V F))
+  abbrev pub ChangesTurnAt : TurnKind → (number : ℕ) → (Turn V F → Option (Turn V F))
       → (old new : SlotsByNumber V F) → Type 0
-  ChangesAt kind number becomes old new =
-      IsPutAt number (changed kind becomes (slot_at number old)) old new
+  ChangesTurnAt kind number becomes old new =
+      IsPutAt number (changed kind becomes (turn_by_number number old)) old new

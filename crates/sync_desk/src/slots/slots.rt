@@ -5,7 +5,7 @@ ghost use Rattle.std.specs.HashMap.{IsEmpty, spare};
 ghost use Rattle.front_reference.specs.Fronts.{same_kind};
 ghost use Rattle.front_reference.specs.declared.data.TurnKind.{TurnKind};
 ghost use Rattle.sync_desk.specs.Slots.Endings.{IsExact, fits, is_underway, suits};
-ghost use Rattle.sync_desk.specs.Slots.Waiting.{ChangesAt, IsPutAt, SlotsStay, ended, hash_of, if_of, joined, opened, seen_with, slot_at, told_of, turn_in, waiting_at, with_one_less};
+ghost use Rattle.sync_desk.specs.Slots.Waiting.{ChangesTurnAt, IsPutAt, SlotsStay, ended_with, turn_hash, if_of, joined_by_one, fresh_turn, seen_with, turn_by_number, told_of, turn_in, waiters_at, with_one_less};
 ghost use Rattle.sync_desk.specs.declared.slots.slot.Ending.TheVariants.{Underway};
 
 use crate::slots::slot::{Ending, TurnSlot};
@@ -54,7 +54,7 @@ impl<V: Drop, F: Drop> TurnSlot<V, F> {
     fn join(&mut self, kind: TurnKind)
         requires { self.old.waiting + 1 < 2 ^ 64 }
         ensures { Some (turn_in self.new) ≡ (if same_kind self.old.kind kind
-            then joined (turn_in self.old) else Some (turn_in self.old)) }
+            then joined_by_one (turn_in self.old) else Some (turn_in self.old)) }
     {
         if self.is(kind) {
             self.waiting += 1;
@@ -114,7 +114,7 @@ impl<V: Drop, F: Drop> Slots<V, F> {
     /// Begins a turn of a key of this hash, in room that was made.
     pub fn open(&mut self, kind: TurnKind, number: u64, hash: u64)
         requires room { 0 < spare self.old.slots }
-        ensures opens { IsPutAt number (Some (opened kind hash)) self.old.slots self.new.slots }
+        ensures opens { IsPutAt number (Some (fresh_turn kind hash)) self.old.slots self.new.slots }
     {
         let slot = TurnSlot {
             kind,
@@ -129,8 +129,8 @@ impl<V: Drop, F: Drop> Slots<V, F> {
 
     /// Returns whether one more caller can be counted among those that wait for a turn.
     pub fn can_join(&self, number: u64) -> bool
-        ensures room { result ≡ true → waiting_at number self.now.slots + 1 < 2 ^ 64 }
-        ensures full { result ≡ false → 2 ^ 64 ≤ waiting_at number self.now.slots + 1 }
+        ensures room { result ≡ true → waiters_at number self.now.slots + 1 < 2 ^ 64 }
+        ensures full { result ≡ false → 2 ^ 64 ≤ waiters_at number self.now.slots + 1 }
     {
         match self.slots.get(&number) {
             Some(slot) => slot.waiting < u64::MAX,
@@ -140,8 +140,8 @@ impl<V: Drop, F: Drop> Slots<V, F> {
 
     /// Counts one more caller that waits for a turn, whose count has room.
     pub fn join(&mut self, kind: TurnKind, number: u64)
-        requires { waiting_at number self.old.slots + 1 < 2 ^ 64 }
-        ensures { ChangesAt kind number joined self.old.slots self.new.slots }
+        requires { waiters_at number self.old.slots + 1 < 2 ^ 64 }
+        ensures { ChangesTurnAt kind number joined_by_one self.old.slots self.new.slots }
     {
         if let Some(slot) = self.slots.get_mut(&number) {
             slot.join(kind);
@@ -151,7 +151,7 @@ impl<V: Drop, F: Drop> Slots<V, F> {
     /// Returns whether callers wait for a turn.
     pub fn is_waited_for(&self, kind: TurnKind, number: u64) -> bool
         ensures { result ≡ option_map_or (λ slot. same_kind slot.kind kind && nat_lt 0 slot.waiting)
-            (slot_at number self.now.slots) false }
+            (turn_by_number number self.now.slots) false }
     {
         match self.slots.get(&number) {
             Some(slot) => slot.is(kind) && 0 < slot.waiting,
@@ -162,8 +162,8 @@ impl<V: Drop, F: Drop> Slots<V, F> {
     /// Ends a turn, which is kept only if callers wait for it. Returns the hash of its key, or `None` if there is no turn of this kind.
     pub fn end(&mut self, kind: TurnKind, number: u64, ending: Ending<V, F>) -> Option<u64>
         requires { fits kind ending ≡ true }
-        ensures hash { result ≡ hash_of kind (slot_at number self.old.slots) }
-        ensures ends { ChangesAt kind number (ended ending) self.old.slots self.new.slots }
+        ensures hash { result ≡ turn_hash kind (turn_by_number number self.old.slots) }
+        ensures ends { ChangesTurnAt kind number (ended_with ending) self.old.slots self.new.slots }
     {
         let (hash, waited) = match self.slots.get_mut(&number) {
             Some(slot) => slot.end(kind, ending)?,
@@ -177,9 +177,9 @@ impl<V: Drop, F: Drop> Slots<V, F> {
 
     /// Removes a turn, and returns how it ended.
     fn take(&mut self, number: u64) -> Ending<V, F>
-        ensures fits { (kind : TurnKind) → IfSome (slot_at number self.old.slots)
+        ensures fits { (kind : TurnKind) → IfSome (turn_by_number number self.old.slots)
             (λ slot. slot.kind ≡ kind) → fits kind result ≡ true }
-        ensures tells { result ≡ told_of (slot_at number self.old.slots) }
+        ensures tells { result ≡ told_of (turn_by_number number self.old.slots) }
         ensures takes { IsPutAt number None self.old.slots self.new.slots }
     {
         match self.slots.remove(&number) {
@@ -195,8 +195,8 @@ impl<V: Clone + Drop, F: Clone + Drop> Slots<V, F> {
     pub fn look(&mut self, kind: TurnKind, number: u64) -> Result<Ending<V, F>, AllocError>
         ensures fits { IfOk result (λ ending. fits kind ending ≡ true) }
         ensures tells { IsExact V.is_clone → IsExact F.is_clone → IfOk result
-            (λ ending. ending ≡ told_of (if_of kind (slot_at number self.old.slots))) }
-        ensures leaves { ChangesAt kind number (λ turn. seen_with turn.ending turn)
+            (λ ending. ending ≡ told_of (if_of kind (turn_by_number number self.old.slots))) }
+        ensures leaves { ChangesTurnAt kind number (λ turn. seen_with turn.ending turn)
             self.old.slots self.new.slots }
     {
         let Some(slot) = self.slots.get(&number) else {
@@ -217,10 +217,12 @@ impl<V: Clone + Drop, F: Clone + Drop> Slots<V, F> {
     /// One less waits for a turn, and gets a clone of what it ended with.
     fn leave(&mut self, number: u64) -> Result<Ending<V, F>, AllocError>
         ensures fits { IfOk result (λ ending. (kind : TurnKind) → IfSome
-            (slot_at number self.old.slots) (λ slot. slot.kind ≡ kind) → fits kind ending ≡ true) }
+            (turn_by_number number self.old.slots) (λ slot. slot.kind ≡ kind)
+            → fits kind ending ≡ true) }
         ensures tells { IsExact V.is_clone → IsExact F.is_clone
-            → IfOk result (λ ending. ending ≡ told_of (slot_at number self.old.slots)) }
-        ensures leaves { IsPutAt number (option_map with_one_less (slot_at number self.old.slots))
+            → IfOk result (λ ending. ending ≡ told_of (turn_by_number number self.old.slots)) }
+        ensures leaves { IsPutAt number
+            (option_map with_one_less (turn_by_number number self.old.slots))
             self.old.slots self.new.slots }
     {
         match self.slots.get_mut(&number) {

@@ -32,9 +32,9 @@ pub struct ItselfHasher {
 
 impl Hasher for ItselfHasher {
     ghost use Rattle.std.specs.List.{fold};
-    ghost use Rattle.sync_tests.specs.Numbers.{byte_read};
+    ghost use Rattle.sync_tests.specs.Numbers.{number_after_byte};
 
-    ghost write = { λ s bytes. record s { number = fold byte_read s.number bytes } };
+    ghost write = { λ s bytes. record s { number = fold number_after_byte s.number bytes } };
 
     ghost finish = { λ s. s.number };
 

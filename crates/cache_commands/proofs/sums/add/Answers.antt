@@ -26,5 +26,6 @@ returns-in_ok-part-in-Err-Sum-clause-ok g c =
     let e : sum_of_bytes (option_map (λ (b : Bor (List ℕ)). b.now) r.found) c.args.added ≡ Some c.in-Err-Sum.sum = search rules in
     let takes = ap (λ (f : Config). accepts_values f.capacity) (sym c.config.ensures) ∙ sym c.accepts.ensures ∙ c.if-not-accepts.false in
     let written = c.in_ok-part-in-Err-Sum.ensures.written ∙ ap (λ xs. xs ++ (codes "VAL " ++ decimal c.in-Err-Sum.sum ++ codes "\n")) same in
-    let accepted = subst (λ (x : g.row.S.Denot). AcceptsValue c.args.now c.args.key.now (decimal c.in-Err-Sum.sum) c.args.milliseconds true c.in_ok-part-in-Err-Sum.part (g.S.Store.view x) (g.S.Store.view c.accept_sum.new.store)) c.in-Err-Sum.ensures.unchanged c.in_ok-part-in-Err-Sum.ensures.accepted in
+    let accepted = subst (λ (x : g.row.S.Denot). AcceptsValue c.args.now c.args.key.now (decimal c.in-Err-Sum.sum) c.args.milliseconds true c.in_ok-part-in-Err-Sum.part (g.S.Store.view x)
+    (g.S.Store.view c.accept_sum.new.store)) c.in-Err-Sum.ensures.unchanged c.in_ok-part-in-Err-Sum.ensures.accepted in
     answered-added _ _ _ _ _ _ _ _ _ _ _ c.sound.ensures takes r.live (sym e) written accepted

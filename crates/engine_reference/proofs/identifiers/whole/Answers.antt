@@ -1,6 +1,5 @@
-use Rattle.std.proofs.Common.{rules, ◌≡◌, ℕ, ◌<◌, length, List, get_or, arith}
+use Rattle.std.proofs.Common.{rules, ◌≡◌, ℕ, ◌<◌, length, get_or}
 use Rattle.uuid.proofs.TextLemmas.{all_fit}
-use Rattle.engine_reference.specs.Identifiers.Drawing.{AreSixteenBytes}
 use Rattle.engine_reference.proofs.identifiers.whole.Goals as goal
 
 pub returns-clause-whole : goal.returns-clause-whole

@@ -3,7 +3,7 @@ use Rattle.std.specs.List.{find}
 use Rattle.std.specs.Map.{values_of}
 use Rattle.std.specs.Option.{option_map_or}
 use Rattle.audit_model.specs.Situation.{Connection, is_overlong}
-use Rattle.audit_loads.specs.Numbered.{changed_at}
+use Rattle.audit_loads.specs.Numbered.{changed_numbered}
 use Rattle.audit_situation.specs.Listings.{ranked}
 use Rattle.audit_situation.specs.Standings.{fed_with}
 use Rattle.audit_situation.proofs.Listing.{found-ranked, follows, changed-ranked, unchanged-ranked, changed-listing, set-past}
@@ -45,11 +45,11 @@ returns-clause-fed c =
           (follows w.feed_link.result (λ is.
           ap (λ fs. ranked nat_lt (λ (d : Connection). d.number) (values_of fs)) (c.get_mut.follows.holds w.feed_link.new.link).0
           ∙ changed-ranked nat_lt rising (λ (d : Connection). d.number) c.args.conn F (λ d. refl) es w.in-Some.link.now w.feed_link.new.link c.self.inside.listing (sym w.in-Some.ensures.value) is
-          ∙ ap (map (changed_at (λ (d : Connection). d.number) c.args.conn F)) c.self.view_is) w.feed_link.ensures.fed))
+          ∙ ap (map (changed_numbered (λ (d : Connection). d.number) c.args.conn F)) c.self.view_is) w.feed_link.ensures.fed))
       | in-None w ↦
           rw w.result-is
           (rw w.self-inside-is
           (ap (λ (m : _). ranked nat_lt (λ (d : Connection). d.number) (values_of m.entries)) c.get_mut.follows.holds-at-none
           ∙ unchanged-ranked nat_lt rising (λ (d : Connection). d.number) c.args.conn F (λ d. refl) es c.self.inside.listing (sym w.in-None.ensures.value)
-          ∙ ap (map (changed_at (λ (d : Connection). d.number) c.args.conn F)) c.self.view_is))
+          ∙ ap (map (changed_numbered (λ (d : Connection). d.number) c.args.conn F)) c.self.view_is))
     ]

@@ -4,7 +4,7 @@ use Rattle.audit_model.specs.Bytewise.{same}
 use Rattle.audit_model.specs.Notes.{is_true_note}
 use Rattle.audit_model.specs.Situation.{candidate_at}
 use Rattle.audit_model.specs.Values.{without_key}
-use Rattle.audit_situation.specs.Notes.Scenes.{deed_in, newcomer_in, rest_of}
+use Rattle.audit_situation.specs.Notes.Scenes.{deed_in, newcomer_in, newcomer_left}
 use Rattle.audit_situation.proofs.notes.Judging.{told-old, told-new, taken-old, taken-new, without-none}
 use Rattle.audit_situation.proofs.notes.notes.is_true_of_first.Goals as goal
 
@@ -17,7 +17,7 @@ returns-in-Some-clause-right c before h =
     c.is_true_note.ensures before h
     ∙ ap (is_true_note scene.config.now before (deed_in scene) c.args.note.now)
     (ap (λ x. Some (candidate_at scene.config.now scene.moment x)) c.see.ensures
-    ∙ sym (told-old scene.config.now scene.moment key held (rest_of c.args.left.now (newcomer_in scene)) c.in-Some.told found))
+    ∙ sym (told-old scene.config.now scene.moment key held (newcomer_left c.args.left.now (newcomer_in scene)) c.in-Some.told found))
 
 pub returns-in-Some-clause-taken : goal.returns-in-Some-clause-taken
 returns-in-Some-clause-taken c e =
@@ -33,7 +33,7 @@ returns-in-None-clause-right c before h =
     let key = c.args.note.now.key in
     let found = ap (λ k. find (λ h. same k h.value.key) held) (sym c.as_slice.ensures) ∙ sym c.in-None.ensures.found in
     c.is_true_of_new.ensures.right before h
-    ∙ ap (is_true_note scene.config.now before (deed_in scene) c.args.note.now) (sym (told-new scene.config.now scene.moment key held (rest_of c.args.left.now (newcomer_in scene)) found))
+    ∙ ap (is_true_note scene.config.now before (deed_in scene) c.args.note.now) (sym (told-new scene.config.now scene.moment key held (newcomer_left c.args.left.now (newcomer_in scene)) found))
 
 pub returns-in-None-clause-taken : goal.returns-in-None-clause-taken
 returns-in-None-clause-taken c e =

@@ -1,7 +1,7 @@
 use Rattle.std.proofs.Common.{◌++◌, ◌∷◌, [], refl, sym, ap, ◌∙◌, map, nat_lt}
 use Rattle.std.specs.Map.{values_of}
 use Rattle.audit_model.specs.Situation.{PendingLoad}
-use Rattle.audit_loads.specs.Numbered.{changed_at}
+use Rattle.audit_loads.specs.Numbered.{changed_numbered}
 use Rattle.audit_situation.specs.Listings.{ranked}
 use Rattle.audit_situation.proofs.Listing.{follows, fails, changed-ranked, unchanged-ranked, put-back, changed-listing}
 use Rattle.audit_situation.proofs.Ranked.{falling}
@@ -25,13 +25,13 @@ returns-clause-joined c =
           (follows w.join.result (λ is.
           ap (λ fs. ranked (λ a b. nat_lt b a) (λ (p : PendingLoad). p.number) (values_of fs)) (c.get_mut.follows.holds w.join.new.self).0
           ∙ changed-ranked (λ a b. nat_lt b a) falling (λ (p : PendingLoad). p.number) c.args.number F (λ p. refl) es w.in-Some.load.now w.join.new.self c.self.inside.listing (sym w.in-Some.ensures.value) is
-          ∙ ap (map (changed_at (λ (p : PendingLoad). p.number) c.args.number F)) c.self.view_is) w.join.ensures.joined))
+          ∙ ap (map (changed_numbered (λ (p : PendingLoad). p.number) c.args.number F)) c.self.view_is) w.join.ensures.joined))
       | in-None w ↦
           rw w.result-is
           (rw w.self-inside-is
           (ap (λ (m : _). ranked (λ a b. nat_lt b a) (λ (p : PendingLoad). p.number) (values_of m.entries)) c.get_mut.follows.holds-at-none
           ∙ unchanged-ranked (λ a b. nat_lt b a) falling (λ (p : PendingLoad). p.number) c.args.number F (λ p. refl) es c.self.inside.listing (sym w.in-None.ensures.value)
-          ∙ ap (map (changed_at (λ (p : PendingLoad). p.number) c.args.number F)) c.self.view_is))
+          ∙ ap (map (changed_numbered (λ (p : PendingLoad). p.number) c.args.number F)) c.self.view_is))
     ]
 
 pub returns-clause-unchanged : goal.returns-clause-unchanged

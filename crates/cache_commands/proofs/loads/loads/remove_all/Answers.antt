@@ -1,12 +1,10 @@
-use Rattle.std.proofs.Common.{◌<◌, zero, cond, drop, get_or, refl, ap, ◌∙◌, add-one, arith, ◌≡◌, ◌==◌, ◌||◌, ℕ, suc, Bool, true, false, List, [], ◌∷◌, Option, None, length}
+use Rattle.std.proofs.Common.{◌<◌, zero, cond, drop, get_or, ap, ◌∙◌, add-one, arith, ◌≡◌, ◌==◌, ◌||◌, ℕ, suc, Bool, true, List, [], ◌∷◌, Option, None, length}
 use Rattle.std.specs.List.{list_any}
 use Rattle.audit_loads.specs.Underway.{load_of}
 use Rattle.cache_commands.proofs.loads.loads.remove_all.Goals as goal
 
 either : (old : Option ℕ) (b t : Bool) → cond t None (cond b None old) ≡ cond (b || t) None old
-either old true true = refl
-either old true false = refl
-either old false t = refl
+either old b t = grind arith
 
 one-more : (xs : List ℕ) (i q : ℕ) (old new : Option ℕ) → i < length xs → new ≡ cond (get_or xs i 0 == q) None old → cond (list_any (λ n. n == q) (drop (suc i) xs)) None new ≡ cond (list_any (λ n. n == q) (drop i xs)) None old
 one-more [] i q old new lt is = absurd (omega arith)

@@ -2,7 +2,7 @@ use Rattle.std.proofs.Common.{refl, sym, ◌∙◌, ◌++◌, ◌∷◌, [], map
 use Rattle.std.proofs.lemmas.List.{length-map, length_push}
 use Rattle.slab.specs.Entry.{value_of}
 use Rattle.engine_cells.specs.declared.cell_slab.Drawer.TheVariants as drawer
-use Rattle.engine_cells.specs.Drawers.{entry_of}
+use Rattle.engine_cells.specs.Drawers.{slab_entry}
 use Rattle.engine_cells.proofs.Drawers.{full, before_end, next_not_taken, next_vacant, pushed, filled, filled_len, updated}
 use Rattle.engine_cells.proofs.cell_slab.CellSlab.insert_reserved.Goals as goal
 
@@ -33,8 +33,8 @@ returns-then-key-len-clause-slots g c =
     let counted = c.self.invariant.sound.counted in
     let items = c.self.inside.drawers.items in
     let taken = drawer.Taken c.args.value in
-    let long = length-map (map entry_of items) value_of ∙ length-map items entry_of in
-    let longer = length-map (map entry_of (items ++ taken ∷ [])) value_of ∙ length-map (items ++ taken ∷ []) entry_of ∙ length_push items taken in
+    let long = length-map (map slab_entry items) value_of ∙ length-map items slab_entry in
+    let longer = length-map (map slab_entry (items ++ taken ∷ [])) value_of ∙ length-map (items ++ taken ∷ []) slab_entry ∙ length_push items taken in
     rw (← c.self.view_is, c.push_reserved.ensures.items) (omega (arith, all, counted, long, longer))
 
 pub invariant_of-self-in-Vacant : goal.invariant_of-self-in-Vacant

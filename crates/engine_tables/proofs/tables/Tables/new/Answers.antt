@@ -1,13 +1,13 @@
 use Rattle.std.proofs.Common.{◌≡◌, refl, ap, arith, [], length}
 use Rattle.std.specs.Prelude.{count_by, is_some}
 use Rattle.slab.specs.Slab.{slab_len}
-use Rattle.engine_cells.specs.Cells.{AreNumbered, AreListed}
+use Rattle.engine_cells.specs.Cells.{AreNumberedBelow, AreListed}
 use Rattle.engine_cells.specs.Tallying.{IsTallied}
 use Rattle.engine_cells.proofs.Spotting.{none-spotted}
 use Rattle.engine_tables.proofs.tables.Tables.new.Goals as goal
 
 -- no cells and an empty queue fit together
-none-numbered : {K V : Type 0} → AreNumbered {K = K} {V = V} [] 0
+none-numbered : {K V : Type 0} → AreNumberedBelow {K = K} {V = V} [] 0
 none-numbered = record { apart = λ i j c d e f same. absurd (cc); below = λ i c e. absurd (cc) }
 
 none-listed : {K V : Type 0} → AreListed {K = K} {V = V} [] []

@@ -2,7 +2,7 @@ use Rattle.std.proofs.Common.{ap, sym, ◌∙◌, true≢false}
 use Rattle.std.proofs.lemmas.Bool.{eq-eqb}
 use Rattle.engine_reference.specs.Records.{record_at}
 use Rattle.engine_cells.specs.Kept.{kept_at}
-use Rattle.engine_cells.specs.Spotted.{is_numbered}
+use Rattle.engine_cells.specs.Spotted.{holds_number}
 use Rattle.engine_cells.proofs.Again.{numbered-cell}
 use Rattle.engine_cells.proofs.Listed.{record_at-none}
 use Rattle.engine_cells.proofs.Standing.{number-there}
@@ -30,4 +30,4 @@ returns-clause-none g c =
     let cells = c.self.inside.cells.slots in
     none-map _ _ (λ none.
     ap (λ s. record_at s.state.records c.args.number) (sym c.self.view_is)
-    ∙ record_at-none cells c.args.number c.self.invariant.kept.apart (λ i x at same. true≢false (sym (eq-eqb x.number c.args.number same) ∙ ap (λ o. is_numbered c.args.number o) (sym at) ∙ none i))) c.find_number.result c.find_number.ensures.none
+    ∙ record_at-none cells c.args.number c.self.invariant.kept.apart (λ i x at same. true≢false (sym (eq-eqb x.number c.args.number same) ∙ ap (λ o. holds_number c.args.number o) (sym at) ∙ none i))) c.find_number.result c.find_number.ensures.none

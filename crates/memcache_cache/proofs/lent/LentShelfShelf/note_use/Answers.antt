@@ -13,7 +13,10 @@ returns-in-Ok-clause-used g c =
 pub invariant_of-self : goal.invariant_of-self
 invariant_of-self g c =
     let ways = item_ways g.S.BuildHasher g.S.Hasher.Hasher in
-    record { kept = use_keeps ways.answers ways.hash (λ rules key value. refl) c.look_up-looked.result c.args.key.now (record { now = c.instant.result; step = c.args.self.now.cache.step }) c.args.self.now.cache c.look_up-looked.new.self c.keeps.ensures c.args.self.now.kept c.look_up-looked.ensures.used c.look_up-looked.ensures.err }
+    record {
+      kept = use_keeps ways.answers ways.hash (λ rules key value. refl) c.look_up-looked.result c.args.key.now
+          (record { now = c.instant.result; step = c.args.self.now.cache.step }) c.args.self.now.cache c.look_up-looked.new.self c.keeps.ensures c.args.self.now.kept c.look_up-looked.ensures.used c.look_up-looked.ensures.err;
+    }
 
 pub returns-in-Ok-clause-capacity : goal.returns-in-Ok-clause-capacity
 returns-in-Ok-clause-capacity g c = ap (λ f. unwrap_or f.capacity 0) c.in-Ok.ensures.used.changed

@@ -13,7 +13,10 @@ returns-in-Ok-clause-puts g c =
 pub invariant_of-self : goal.invariant_of-self
 invariant_of-self g c =
     let ways = item_ways g.S.BuildHasher g.S.Hasher.Hasher in
-    record { kept = put_keeps ways.answers ways.hash (λ rules key value. refl) c.insert_with_hash.result c.args.key.now c.args.item c.at-at.result c.args.self.now.cache c.insert_with_hash.new.self c.keeps.ensures c.args.self.now.kept (rw c.in_ok-kept.ensures at c.insert_with_hash.ensures.inserts) c.insert_with_hash.ensures.err }
+    record {
+      kept = put_keeps ways.answers ways.hash (λ rules key value. refl) c.insert_with_hash.result c.args.key.now c.args.item c.at-at.result c.args.self.now.cache c.insert_with_hash.new.self c.keeps.ensures c.args.self.now.kept
+          (rw c.in_ok-kept.ensures at c.insert_with_hash.ensures.inserts) c.insert_with_hash.ensures.err;
+    }
 
 pub returns-in-Ok-clause-capacity : goal.returns-in-Ok-clause-capacity
 returns-in-Ok-clause-capacity g c = ap (λ f. unwrap_or f.capacity 0) c.in-Ok.ensures.inserts.changed

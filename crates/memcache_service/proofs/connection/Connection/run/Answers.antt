@@ -11,7 +11,8 @@ use Rattle.memcache_service.proofs.connection.Connection.run.Goals as goal
 pub loop-moment-init : goal.loop-moment-init
 loop-moment-init g c = record {
   within = omega arith;
-  served = subst (λ (ends : Bool). AreServed g.T.Shelf.view c.args.moment c.args.stock.now.most c.args.stock.now c.args.bytes.now c.args.self.now.skip c.args.self.now.output.items c.args.stock.now c.args.bytes.now c.args.self.now.skip c.args.self.now.output.items ends) (sym c.requires.going) no_more;
+  served =
+      subst (λ (ends : Bool). AreServed g.T.Shelf.view c.args.moment c.args.stock.now.most c.args.stock.now c.args.bytes.now c.args.self.now.skip c.args.self.now.output.items c.args.stock.now c.args.bytes.now c.args.self.now.skip c.args.self.now.output.items ends) (sym c.requires.going) no_more;
   input = refl;
   may_follow = c.requires.in_time;
   most = refl;
@@ -45,7 +46,8 @@ loop-moment-preserved g c =
     record {
       within = omega (arith, m, were.within);
       served = subst (λ (ends : Bool). AreServed g.T.Shelf.view c.args.moment most first bytes skipped before c.serve.new.stock (drop (start + c.min-there.result) bytes) (c.in-Request.used - c.min-there.result) c.serve.new.self.output.items ends) (sym c.in_ok-serve-in-Request.ensures.ended)
-          (served_one g.T.Shelf.view c.args.moment most first bytes skipped before c.loop-moment.stock c.serve.new.stock r c.in-Request.used c.loop-moment.self.skip start c.min-there.result c.loop-moment.self.output.items c.serve.new.self.output.items were.within m going (arrived-from most c.loop-moment.stock.most bytes start (request r c.in-Request.used) c.in-Request.ensures were.most) c.in_ok-serve-in-Request.ensures.served);
+          (served_one g.T.Shelf.view c.args.moment most first bytes skipped before c.loop-moment.stock c.serve.new.stock r c.in-Request.used c.loop-moment.self.skip start c.min-there.result c.loop-moment.self.output.items c.serve.new.self.output.items were.within m going
+          (arrived-from most c.loop-moment.stock.most bytes start (request r c.in-Request.used) c.in-Request.ensures were.most) c.in_ok-serve-in-Request.ensures.served);
       input = c.serve.ensures.kept ∙ were.input;
       may_follow = c.serve.ensures.may_follow;
       most = c.serve.ensures.most ∙ were.most;
@@ -68,4 +70,6 @@ returns-in_err-serve-in-Request-clause-lacks g c =
     let p = err_from_is_err_and c.from_residual.result c.from_residual.ensures.1 in
     let were = c.loop-moment.invariant in
     let refused = c.in_err-serve-in-Request.ensures.refused in
-    rw p.1 (lacked g.T.Shelf.view c.args.moment c.args.stock.now.most c.args.stock.now c.args.bytes.now c.args.self.now.skip c.args.self.now.output.items c.loop-moment.stock c.serve.new.stock (drop c.loop-moment.start c.args.bytes.now) c.loop-moment.self.skip c.loop-moment.self.output.items c.serve.new.self.output.items c.loop-moment.self.is_closed (c.may_run.ensures.going c.loop-moment-test.true) were.served refused.0 refused.1)
+    rw p.1 (lacked g.T.Shelf.view c.args.moment c.args.stock.now.most c.args.stock.now c.args.bytes.now c.args.self.now.skip c.args.self.now.output.items c.loop-moment.stock c.serve.new.stock
+    (drop c.loop-moment.start c.args.bytes.now) c.loop-moment.self.skip c.loop-moment.self.output.items c.serve.new.self.output.items c.loop-moment.self.is_closed
+    (c.may_run.ensures.going c.loop-moment-test.true) were.served refused.0 refused.1)

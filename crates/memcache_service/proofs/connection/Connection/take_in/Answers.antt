@@ -39,7 +39,8 @@ returns-in_ok-used-clause-feeds g c =
     let zero : vec_len v ≡ 0 = eqb-true (vec_len v) 0 (sym c.is_empty.ensures ∙ c.if-is_empty.true) in
     let none : v.items ≡ [] = no-items v.items (omega (arith, zero, v.ok.0)) in
     let empty : s.input.items ≡ [] = sym (ap (λ k. k.input.items) passed) ∙ none in
-    kept-ran view c.args.moment first.most first c.keep.result (s.input.items ++ drop s.skip c.args.piece.now) (s.skip - length c.args.piece.now) s.output.items c.run.new.stock (drop used rest) _ c.run.new.self c.keep.new.self (take_all (length rest - used) (drop used rest) (omega (arith, length-drop used rest))) (ap (λ z. z.items) c.run.ensures.kept ∙ none) c.keep.ensures.kept c.keep.ensures.rest
+    kept-ran view c.args.moment first.most first c.keep.result (s.input.items ++ drop s.skip c.args.piece.now) (s.skip - length c.args.piece.now) s.output.items c.run.new.stock (drop used rest) _ c.run.new.self c.keep.new.self
+    (take_all (length rest - used) (drop used rest) (omega (arith, length-drop used rest))) (ap (λ z. z.items) c.run.ensures.kept ∙ none) c.keep.ensures.kept c.keep.ensures.rest
     (moved view c.args.moment first.most first (λ b k o. HasRun view c.args.moment first.most first b k o c.run.new.stock (drop used rest) c.run.new.self) _ _ _ _ _ _
     (c.pass_over-piece.ensures.left ∙ sym (ap (λ z. z ++ drop s.skip c.args.piece.now) empty)) (ap (λ k. k.skip) passed) (ap (λ k. k.output.items) passed) c.in_ok-used.ensures.ran)
 

@@ -7,7 +7,8 @@ use Rattle.memcache_service.proofs.stock.Stock.touch_all.Goals as goal
 pub loop-key-preserved : goal.loop-key-preserved
 loop-key-preserved g c =
     let key = c.in-Some.key.now in
-    reached_more g.T.Shelf.view c.args.moment c.args.deadline (tokens c.args.keys.now) c.args.self.now key (tokens c.in-Some.behind.now) c.loop-key.self c.retime.new.self (reply_text c.in_ok-retime.field-0) key (rw c.in-Some.ensures.word at c.loop-key.invariant) (rw c.in_ok-fill.ensures at c.in_ok-retime.ensures.ok)
+    reached_more g.T.Shelf.view c.args.moment c.args.deadline (tokens c.args.keys.now) c.args.self.now key (tokens c.in-Some.behind.now) c.loop-key.self c.retime.new.self (reply_text c.in_ok-retime.field-0) key
+    (rw c.in-Some.ensures.word at c.loop-key.invariant) (rw c.in_ok-fill.ensures at c.in_ok-retime.ensures.ok)
 
 pub returns-clause-ok : goal.returns-clause-ok
 returns-clause-ok g c =

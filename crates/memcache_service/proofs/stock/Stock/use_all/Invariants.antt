@@ -1,9 +1,9 @@
 use Rattle.std.proofs.Common.{length}
-use Rattle.memcache_service.specs.Stocks.{Keeps}
+use Rattle.memcache_service.specs.Stocks.{LeavesStock}
 use Rattle.memcache_service.proofs.stock.Stock.use_all.Given as goal
 
 abbrev pub invariant-loop-key : goal.invariant-loop-key
-invariant-loop-key g l = Keeps (g.T.Shelf.view) l.moment l.fn.self l.self
+invariant-loop-key g l = LeavesStock (g.T.Shelf.view) l.moment l.fn.self l.self
 
 abbrev pub decreases-loop-key : goal.decreases-loop-key
 decreases-loop-key g l = length l.rest

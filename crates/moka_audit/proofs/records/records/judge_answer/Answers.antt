@@ -26,6 +26,6 @@ returns-clause-reaches c =
     subst (λ o. IfOk c.judge_stored.result (λ b. Reaches b (shown_situation c.judge_stored.new.s) c.judge_stored.new.parts o))
     (ap (λ u. audited_steps config parts u (Store (option_map (λ k. k.now.items) c.as_ref.result) outcome ∷ tasks) steps) c.settle.ensures
     ∙ ap (λ k. audited_steps config parts s1 (Store k outcome ∷ tasks) steps) (copied c.as_ref.result ∙ ap (option_map (λ k. k.items)) c.as_ref.ensures.value ∙ c.in_ok-key.ensures)
-    ∙ ap (λ ts. audited_steps config parts s1 (Store (Rattle.audit_model.specs.Situation.key_in c.args.load s) outcome ∷ ts) steps)
+    ∙ ap (λ ts. audited_steps config parts s1 (Store (Rattle.audit_model.specs.Situation.pending_key c.args.load s) outcome ∷ ts) steps)
     (ap (map task_of) c.as_slice-2.ensures.value ∙ c.in_ok-duties.ensures ∙ ap (λ cs. map (λ conn. Deliver conn outcome) cs ++ map RunLines cs) (c.as_slice.ensures.value ∙ c.in_ok-conns.ensures)))
     c.judge_stored.ensures.reaches

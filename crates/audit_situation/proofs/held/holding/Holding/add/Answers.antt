@@ -2,7 +2,7 @@ use Rattle.std.proofs.Common.{true, cond, ◌≡◌, ℕ, List, ◌++◌, ◌∷
 use Rattle.std.specs.List.{find, list_all}
 use Rattle.std.proofs.lemmas.Bool.{and_parts, and_from}
 use Rattle.audit_model.specs.Bytewise.{same}
-use Rattle.audit_situation.specs.Held.Slots.{HeldSlot, slot_of, slot_at}
+use Rattle.audit_situation.specs.Held.Slots.{HeldSlot, slot_of, slot_of_key}
 use Rattle.audit_situation.specs.Held.Holds.{held_by, is_open_key, are_sound, RepresentsHeld}
 use Rattle.audit_situation.proofs.held.Keeping.{keeps-more, view-more, absent-slot}
 use Rattle.audit_situation.proofs.held.holding.Holding.add.Goals as goal
@@ -18,7 +18,7 @@ add-requires c =
     let inside = c.self.inside in
     record {
       absent =
-          ap (λ (s : HeldSlot). slot_at s.value.key inside.table) c.into_kept-key.ensures
+          ap (λ (s : HeldSlot). slot_of_key s.value.key inside.table) c.into_kept-key.ensures
           ∙ absent-slot inside.open_keys inside.marks.items c.args.held.value.key inside.table
           (ap (find (λ h. same c.args.held.value.key h.value.key)) c.self.view_is ∙ c.requires.absent);
       newest =

@@ -1,5 +1,5 @@
 use Rattle.std.proofs.Common.{length, sym, ap, ◌∙◌}
-use Rattle.audit_situation.specs.Held.Slots.{slot_at, slots_without}
+use Rattle.audit_situation.specs.Held.Slots.{slot_of_key, slots_without}
 use Rattle.audit_situation.proofs.held.Listing.{length-slots, gone}
 use Rattle.audit_situation.proofs.held.table.Table.len.Goals as goal
 
@@ -7,4 +7,4 @@ pub returns-clause-number : goal.returns-clause-number
 returns-clause-number c = c.len.ensures.len ∙ sym (length-slots c.self.inside.values.entries) ∙ ap length c.self.view_is
 
 pub returns-clause-apart : goal.returns-clause-apart
-returns-clause-apart c key = ap (λ xs. slot_at key (slots_without key xs)) (sym c.self.view_is) ∙ gone key c.self.inside.values.entries c.self.inside.apart c.self.inside.numbered
+returns-clause-apart c key = ap (λ xs. slot_of_key key (slots_without key xs)) (sym c.self.view_is) ∙ gone key c.self.inside.values.entries c.self.inside.apart c.self.inside.numbered

@@ -1,5 +1,5 @@
 use Rattle.std.proofs.Common.{ap, ◌∙◌}
-use Rattle.audit_situation.specs.Held.Slots.{slot_at, slots_without}
+use Rattle.audit_situation.specs.Held.Slots.{slot_of_key, slots_without}
 use Rattle.audit_situation.proofs.held.Listing.{taken_is, left_is, keys-out, stamps-out}
 use Rattle.audit_situation.proofs.held.table.Table.take.Goals as goal
 
@@ -10,7 +10,7 @@ invariant_of-self-inside c =
 
 pub returns-clause-found : goal.returns-clause-found
 returns-clause-found c =
-    taken_is c.args.key.now c.self.inside.values.entries c.swap_remove_entry.result c.self.inside.apart c.swap_remove_entry.ensures.key c.swap_remove_entry.ensures.value ∙ ap (slot_at c.args.key.now) c.self.view_is
+    taken_is c.args.key.now c.self.inside.values.entries c.swap_remove_entry.result c.self.inside.apart c.swap_remove_entry.ensures.key c.swap_remove_entry.ensures.value ∙ ap (slot_of_key c.args.key.now) c.self.view_is
 
 pub returns-clause-rest : goal.returns-clause-rest
 returns-clause-rest c =

@@ -1,7 +1,7 @@
 use Rattle.std.proofs.Common.{sym, ap, ◌∙◌, ℕ, map}
 use Rattle.std.specs.BTreeMap.{BTreeMap}
 use Rattle.std.specs.declared.cmp.Reverse.{Reverse}
-use Rattle.audit_loads.specs.Numbered.{changed_at}
+use Rattle.audit_loads.specs.Numbered.{changed_numbered}
 use Rattle.audit_model.specs.Situation.{PendingLoad}
 use Rattle.cache_commands.specs.Loads.Numbers.{loads_of}
 use Rattle.cache_commands.specs.declared.loads.load.Load.{Load}
@@ -27,12 +27,12 @@ returns-clause-joined c =
           (rw w.self-inside-is
           (follows w.join.result (λ is. ap loads_of (c.get_mut.follows.holds w.join.new.load).0
           ∙ changed-is c.args.number F inside.loads.entries w.in-Some.load.now w.join.new.load inside.own inside.falling (sym w.in-Some.ensures.value) is
-          ∙ ap (map (changed_at (λ (p : PendingLoad). p.number) c.args.number F)) c.self.view_is) w.join.ensures.joined))
+          ∙ ap (map (changed_numbered (λ (p : PendingLoad). p.number) c.args.number F)) c.self.view_is) w.join.ensures.joined))
       | in-None w ↦
           rw w.result-is
           (rw w.self-inside-is
           (ap (λ (m : BTreeMap (Reverse ℕ) Load). loads_of m.entries) c.get_mut.follows.holds-at-none ∙ sym (unchanged-is c.args.number F inside.loads.entries inside.own (sym w.in-None.ensures.value))
-          ∙ ap (map (changed_at (λ (p : PendingLoad). p.number) c.args.number F)) c.self.view_is))
+          ∙ ap (map (changed_numbered (λ (p : PendingLoad). p.number) c.args.number F)) c.self.view_is))
     ]
 
 pub returns-clause-same : goal.returns-clause-same

@@ -1,7 +1,7 @@
 use Rattle.std.proofs.Common.{refl, sym, ap, ◌∙◌, ℕ, map}
 use Rattle.std.specs.BTreeMap.{BTreeMap}
 use Rattle.std.specs.declared.cmp.Reverse.{Reverse}
-use Rattle.audit_loads.specs.Numbered.{changed_at}
+use Rattle.audit_loads.specs.Numbered.{changed_numbered}
 use Rattle.audit_model.specs.Situation.{PendingLoad, without_waiting}
 use Rattle.cache_commands.specs.Loads.Numbers.{loads_of}
 use Rattle.cache_commands.specs.declared.loads.load.Load.{Load}
@@ -25,9 +25,9 @@ returns c =
           rw w.self-inside-is
           (ap loads_of (c.get_mut.follows.holds w.leave.new.load).0
           ∙ changed-is c.args.number F inside.loads.entries w.in-Some.load.now w.leave.new.load inside.own inside.falling (sym w.in-Some.ensures.value) w.leave.ensures.left
-          ∙ ap (map (changed_at (λ (p : PendingLoad). p.number) c.args.number F)) c.self.view_is)
+          ∙ ap (map (changed_numbered (λ (p : PendingLoad). p.number) c.args.number F)) c.self.view_is)
       | in_default w ↦
           rw w.self-inside-is
           (ap (λ (m : BTreeMap (Reverse ℕ) Load). loads_of m.entries) c.get_mut.follows.holds-at-none ∙ sym (unchanged-is c.args.number F inside.loads.entries inside.own (sym w.in_default.ensures.value))
-          ∙ ap (map (changed_at (λ (p : PendingLoad). p.number) c.args.number F)) c.self.view_is)
+          ∙ ap (map (changed_numbered (λ (p : PendingLoad). p.number) c.args.number F)) c.self.view_is)
     ]

@@ -26,11 +26,13 @@ returns-clause-does g c =
     let store = c.self.inside in
     let word = word_of g.S.BuildHasher g.S.Hasher.Hasher in
     let d : FrontData (WordBuilder g.row.S.Denot) = record { config = store.config; made = store.made; dropped = store.dropped; queue = store.notes.items; stream = g.R.Rng.stream store.generator; front = store.front } in
-    rw (← c.self.view_is) (covered_does word d c.cover.new.front (g.R.Rng.stream c.cover.new.generator) store.count (deque_capacity store.notes) c.args.now c.args.prefix.now c.in_ok-covers.covers _ c.self.invariant (rw (← c.self.view_is) at c.requires) refl c.in_ok-covers.ensures.covers c.in_ok-covers.ensures.lacks)
+    rw (← c.self.view_is) (covered_does word d c.cover.new.front (g.R.Rng.stream c.cover.new.generator) store.count (deque_capacity store.notes) c.args.now c.args.prefix.now c.in_ok-covers.covers _ c.self.invariant
+    (rw (← c.self.view_is) at c.requires) refl c.in_ok-covers.ensures.covers c.in_ok-covers.ensures.lacks)
 
 pub returns-clause-lacks : goal.returns-clause-lacks
 returns-clause-lacks g c =
     let store = c.self.inside in
     let word = word_of g.S.BuildHasher g.S.Hasher.Hasher in
     let d : FrontData (WordBuilder g.row.S.Denot) = record { config = store.config; made = store.made; dropped = store.dropped; queue = store.notes.items; stream = g.R.Rng.stream store.generator; front = store.front } in
-    rw (← c.self.view_is) (covered_lacks word d c.cover.new.front (g.R.Rng.stream c.cover.new.generator) store.count (deque_capacity store.notes) c.args.now c.args.prefix.now c.in_ok-covers.covers _ c.self.invariant (rw (← c.self.view_is) at c.requires) refl c.in_ok-covers.ensures.covers c.in_ok-covers.ensures.lacks)
+    rw (← c.self.view_is) (covered_lacks word d c.cover.new.front (g.R.Rng.stream c.cover.new.generator) store.count (deque_capacity store.notes) c.args.now c.args.prefix.now c.in_ok-covers.covers _ c.self.invariant
+    (rw (← c.self.view_is) at c.requires) refl c.in_ok-covers.ensures.covers c.in_ok-covers.ensures.lacks)

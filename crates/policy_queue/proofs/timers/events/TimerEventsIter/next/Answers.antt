@@ -1,13 +1,9 @@
-use Rattle.std.proofs.Common.{◌≡◌, ◌∷◌, sym, ap, ◌∙◌, get_or, Bool, true, false, subst, ℕ, Some}
+use Rattle.std.proofs.Common.{◌≡◌, ◌∷◌, sym, ap, ◌∙◌, get_or, subst, ℕ, Some}
 use Rattle.policy_queue.specs.Timers.Events.{EventIs}
-use Rattle.std.specs.Bool.{OnTrue}
+use Rattle.std.proofs.lemmas.Bool.{OnTrue_from}
 use Rattle.policy_queue.specs.declared.timers.array.Timer.{Timer}
-use Rattle.policy_queue.proofs.timers.Advance.{Advancing-gone, Step-from, advanced_times, advancing_times, pending_fewer}
+use Rattle.policy_queue.proofs.timers.Advance.{Advancing-gone, AdvanceStep-from, advanced_times, advancing_times, pending_fewer}
 use Rattle.policy_queue.proofs.timers.events.TimerEventsIter.next.Goals as goal
-
-on_true : (b : Bool) (P : Type 0) → P → OnTrue b P
-on_true true P p = p
-on_true false P p = tt
 
 pub loop-timer-preserved : goal.loop-timer-preserved
 loop-timer-preserved g c =
@@ -23,13 +19,13 @@ returns-in-Some-due_of-clause-times g c = advanced_times _ c.loop-timer.self.ent
 pub returns-in-Some-due_of-clause-steps : goal.returns-in-Some-due_of-clause-steps
 returns-in-Some-due_of-clause-steps g c =
     let event = subst (λ (now : ℕ). EventIs c.loop-timer.self.entries.now now c.loop-timer.self.wheel.now.timers c.settle-event.new.wheel.timers (Some c.settle-event.result)) c.loop-timer.invariant.2 c.settle-event.ensures.event in
-    on_true _ _ (Step-from _ c.loop-timer.self.entries.now _ c.loop-timer.self.wheel.now c.loop-timer.invariant.4 c.settle-event.new.entries c.args.self.now.now c.settle-event.new.wheel.timers _ event c.settle-event.ensures.entries)
+    OnTrue_from _ _ (λ _. AdvanceStep-from _ c.loop-timer.self.entries.now _ c.loop-timer.self.wheel.now c.loop-timer.invariant.4 c.settle-event.new.entries c.args.self.now.now c.settle-event.new.wheel.timers _ event c.settle-event.ensures.entries)
 
 pub returns-in-Some-due_of-clause-fewer : goal.returns-in-Some-due_of-clause-fewer
 returns-in-Some-due_of-clause-fewer g c =
     let event = subst (λ (now : ℕ). EventIs c.loop-timer.self.entries.now now c.loop-timer.self.wheel.now.timers c.settle-event.new.wheel.timers (Some c.settle-event.result)) c.loop-timer.invariant.2 c.settle-event.ensures.event in
-    let step = Step-from c.args.self.now.entries.now c.loop-timer.self.entries.now c.args.self.now.wheel.now c.loop-timer.self.wheel.now c.loop-timer.invariant.4 c.settle-event.new.entries c.args.self.now.now c.settle-event.new.wheel.timers _ event c.settle-event.ensures.entries in
-    on_true _ _ (pending_fewer _ _ c.args.self.now.now _ _ c.settle-event.result step)
+    let step = AdvanceStep-from c.args.self.now.entries.now c.loop-timer.self.entries.now c.args.self.now.wheel.now c.loop-timer.self.wheel.now c.loop-timer.invariant.4 c.settle-event.new.entries c.args.self.now.now c.settle-event.new.wheel.timers _ event c.settle-event.ensures.entries in
+    OnTrue_from _ _ (λ _. pending_fewer _ _ c.args.self.now.now _ _ c.settle-event.result step)
 
 pub returns-clause-times : goal.returns-clause-times
 returns-clause-times g c = advancing_times _ _ _ _ c.loop-timer.invariant.4

@@ -1,8 +1,9 @@
 use Rattle.std.proofs.Common.{◌≡◌, ◌-◌, ◌++◌, ◌∷◌, ℕ, [], List, length, take, drop, cond, ap, ◌∙◌, arith}
 use Rattle.std.proofs.lemmas.List.{length-append}
+use Rattle.std.proofs.lemmas.Bool.{OnTrue_from}
 use Rattle.std.proofs.lemmas.Slice.{between_to_end}
 use Rattle.policy_queue.specs.declared.timers.places.Place.{Place}
-use Rattle.policy_queue.proofs.timers.Comings.{IsRow-front, on_true, row_came, pushed_is}
+use Rattle.policy_queue.proofs.timers.Comings.{IsRow-front, row_came, pushed_is}
 use Rattle.policy_queue.proofs.timers.row.Row.put_near.Goals as goal
 
 live_is : (ps items : List Place) (front : ℕ) → ps ≡ items → take (length ps - front) (drop front ps) ≡ drop front items
@@ -45,4 +46,4 @@ returns-then-len-capacity-clause-comes c =
     let within = c.self.invariant.within in
     let new : c.push.new.self.items ≡ items ++ p ∷ [] = c.push.ensures.items ∙ ap (λ b. cond b (items ++ p ∷ []) items) (c.push.ensures.succeeds (omega arith)) in
     let len = length-append items (p ∷ []) in
-    rw (← c.self.view_is, new) (on_true _ _ (row_came items (items ++ p ∷ []) front c.lower_bound-at.result p c.self.invariant (omega arith) (pushed_is items front c.lower_bound-at.result p within end) q.taken at.under at.from q.new).1)
+    rw (← c.self.view_is, new) (OnTrue_from _ _ (λ _. (row_came items (items ++ p ∷ []) front c.lower_bound-at.result p c.self.invariant (omega arith) (pushed_is items front c.lower_bound-at.result p within end) q.taken at.under at.from q.new).1))
