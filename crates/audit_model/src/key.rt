@@ -72,6 +72,7 @@ impl Key {
     }
 
     /// Replaces the bytes of the key. Returns an error if there is not enough memory, which is not needed if there is room for the bytes.
+    #[inline(always)]
     pub fn fill(&mut self, bytes: &[u8]) -> Result<(), AllocError>
         ensures { OnOk result (self.new ≡ bytes.now) }
     {

@@ -10,6 +10,7 @@ use crate::keys::Keys;
 use policy_queue::IndexQueue;
 
 /// Makes room for `more` records, if `waiting` of those that are there are in no queue. Returns whether there was enough memory.
+#[inline(always)]
 pub fn grow<K, V>(
     cells: &mut CellSlab<Cell<K, V>>,
     access: &mut IndexQueue,

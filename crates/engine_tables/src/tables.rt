@@ -134,6 +134,7 @@ impl<K: Eq + Hash, V, S: BuildHasher, R: Rules<K, V>> Tables<K, V, S, R> {
 
     /// Makes room for `by` more writes or predicates, which are then not refused. Returns `UsedUp` if the 64-bit tickets of writes are used
     /// up, and `OutOfMemory` if there is not enough memory; then nothing has changed.
+    #[inline(always)]
     pub fn make_room(&mut self, by: u64) -> Result<(), Refusal>
         ensures ok { OnOk result (self.new ≡ record self.old
             { state = record self.old.state { reserved = self.old.state.reserved + by } }) }

@@ -194,6 +194,7 @@ impl IndexQueue {
     }
 
     /// Removes an index that is in the queue.
+    #[inline(always)]
     #[tactic(auto, using(crate::proofs::Listed::length_without))]
     pub fn remove(&mut self, index: u32)
         requires { IsTrue (has_index index self.old.indices) }
@@ -320,6 +321,7 @@ fn trim(places: &mut Vec<u32>, cursors: &mut Cursors)
 }
 
 /// Takes an index out of its place.
+#[inline(always)]
 #[tactic(auto, using(crate::proofs::Arranged::seat_there, crate::proofs::Arranged::place_there))]
 fn take_off(places: &mut Vec<u32>, seats: &mut Vec<u32>, cursors: &mut Cursors, index: u32)
     requires arranged { AreArranged places.old.items seats.old.items cursors.old }
@@ -481,6 +483,7 @@ fn compact(places: &mut Vec<u32>, seats: &mut Vec<u32>, cursors: &mut Cursors)
 }
 
 /// Keeps a place free at the end. With more places than `closes_at`, the next ones are compacted.
+#[inline(always)]
 fn make_place(places: &mut Vec<u32>, seats: &mut Vec<u32>, cursors: &mut Cursors, closes_at: usize)
     requires arranged { AreArranged places.old.items seats.old.items cursors.old }
     requires place { length (order places.old.items) < min (vec_capacity places.old) (2 ^ 32 - 1) }

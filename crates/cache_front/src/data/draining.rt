@@ -32,6 +32,7 @@ pub fn drain<S: BuildHasher>(front: &mut Front<S>, notes: &mut Notes, count: &mu
 }
 
 /// Takes what the part at an index reported, and appends it in the same way. `count` falls by as many.
+#[inline(always)]
 pub fn drain_at<S: BuildHasher>(
     front: &mut Front<S>,
     place: usize,
