@@ -1,11 +1,11 @@
 -- What is moved out of a service, and what an input adds to it.
-use Rattle.std.proofs.Common.{◌&&◌, drop, is_none, ◌≡◌, ◌≢◌, ℕ, zero, suc, ◌-◌, ◌==◌, Bool, true, false, cond, List, [], ◌∷◌, ◌++◌, length, map, Option, None, Some, refl, sym, ap, ◌∙◌, subst, arith, inl, inr, ◌⊎◌, Vec, Global}
+use Rattle.std.proofs.Common.{◌&&◌, drop, is_none, ◌≡◌, ◌≢◌, ℕ, zero, suc, ◌-◌, ◌<◌, ◌==◌, Bool, true, false, cond, List, [], ◌∷◌, ◌++◌, length, map, Option, None, Some, refl, sym, ap, ◌∙◌, subst, arith, inl, inr, ◌⊎◌, Vec, Global}
 use Rattle.std.specs.Prelude.{slice_set, Result, Ok, Err, OnErr, OnOk, IfOk, MatchOption, IfSome, is_some, if◌then◌else◌, unwrap_or, nat_lt, nat_le}
 use Rattle.std.specs.List.{flat_map, slice_get}
 use Rattle.std.specs.Option.{option_map, option_map_or, option_to_list}
 use Rattle.std.proofs.Math.Seq.{drop-append_seam}
 use Rattle.std.proofs.lemmas.Bool.{and_parts, cases_eq, eq-eqb, ltb-true, ne_eqb}
-use Rattle.std.proofs.lemmas.List.{append-nil, map-set, set-set}
+use Rattle.std.proofs.lemmas.List.{append-nil, length-map, map-set, set-set}
 use Rattle.std.proofs.lemmas.Option.{none-some, same_Some, slice_get_within}
 use Rattle.audit_laws.proofs.Following.{passed}
 use Rattle.audit_laws.specs.declared.receipts.output.Output.{Output}
@@ -47,7 +47,7 @@ use Rattle.cache_spaces.specs.Recorded.{GainsRecord, Recorded, TakesNote, TakesR
 use Rattle.cache_spaces.specs.Services.{BareSpace, bare_tape}
 use Rattle.cache_spaces.specs.Spaces.{Shown, Space, closing_of, config_of, is_waiting_for, untaken_notes, outgoing_of, shown_space, shown_tape, untaken_output}
 use Rattle.cache_shared.proofs.Performing.{first-note, loads-leave, loads-shown, no-note}
-use Rattle.cache_shared.specs.Events.{IsReachedFrom}
+use Rattle.cache_shared.specs.Events.{IsReachedFrom, configs_of}
 use Rattle.cache_shared.specs.Looked.{HeldAtSomeMoment, IsWhatIsOwed, MovesNotes, Owes, WereOut, WereUntaken}
 use Rattle.cache_shared.specs.Recordings.{bare_spaces, spaces_in, untaken_of, untold_of}
 use Rattle.cache_shared.specs.Taken.{GainsFrom, KeepsNotes, MovesAll, MovesLoads, MovesNote, MovesNotesOf, MovesOwed, MovesReplies, TakesInput, outgoing_in}
@@ -95,6 +95,12 @@ told-of A B (Some l) all there same e = e.0 ∙ same
 none-where : {X : Type 0} (o : Option X) → is_some o ≡ false → o ≡ None
 none-where None e = refl
 none-where (Some x) e = let no : true ≡ false = e in cc
+
+-- a namespace that was there is there
+pub still-there : (old new : List Shown) (n : ℕ) (space : Shown) → configs_of new ≡ configs_of old → slice_get old n ≡ Some space → n < length new
+still-there old new n space same at =
+    let long : length old ≡ length new = sym (length-map old config_of) ∙ sym (ap (λ cs. length cs) same) ∙ length-map new config_of in
+    subst (λ m. n < m) long (slice_get_within old n space at)
 
 module _ {C : Type 0} (spaces : C → List Shown) (untaken : C → Conn → List ℕ) (untold : C → ℕ → List Note) where
   -- loads, if any are given
@@ -155,13 +161,13 @@ module _ {C : Type 0} (spaces : C → List Shown) (untaken : C → Conn → List
 
   -- and this is what it was owed
   pub owed-parts : (old new : C) (conn : Conn) (wants : Bool) (owed : Owed) → MovesOwed spaces untaken untold old new conn owed → InSpace (spaces old) conn.namespace (λ space. owed.closing ≡ closing_of space conn.number)
-      → InSpace (spaces old) conn.namespace (λ space. owed.waits ≡ is_waiting_for space conn.number) → (wants ≡ false → owed.loads ≡ None) → InSpace (spaces old) conn.namespace (λ space. IsWhatIsOwed space conn.number wants owed)
-  owed-parts old new conn wants owed moved i j unwanted = record {
+      → InSpace (spaces old) conn.namespace (λ space. owed.waits ≡ is_waiting_for space conn.number) → is_some owed.loads ≡ wants → InSpace (spaces old) conn.namespace (λ space. IsWhatIsOwed space conn.number wants owed)
+  owed-parts old new conn wants owed moved i j wanted = record {
     space = i.space;
     at = i.at;
     fact = record {
       loads = told-of _ _ owed.loads (outgoing_in (spaces old) conn.namespace) (outgoing_of i.space) (seen-at outgoing_of (spaces old) conn.namespace i.space i.at) moved.loads;
-      unwanted = unwanted;
+      wanted = wanted;
       closing = i.fact;
       waits = fact-here (λ space. owed.waits ≡ is_waiting_for space conn.number) (spaces old) conn.namespace i.space i.at j;
     };
@@ -210,7 +216,7 @@ module _ {C : Type 0} (configs : List Config) (spaces : C → List Shown) (untak
   owes-due wants owed moved i = record {
     replies = replies-due owed.replies moved.replies;
     loads = loads-due i.space i.at owed.loads i.fact.loads;
-    unwanted = i.fact.unwanted;
+    unwanted = λ no. none-where owed.loads (i.fact.wanted ∙ no);
     closed = closing-due i.space i.at owed.closing i.fact.closing;
     waits = λ yes. record { core = old; events = events; reached = reached; fact = record { space = i.space; at = i.at; fact = sym i.fact.waits ∙ yes } };
   }
@@ -353,7 +359,7 @@ module _ (conn : Conn) (wants : Bool) (old new : List BareSpace) where
       owed-parts bare_spaces untaken_of untold_of old new conn wants owed (owed-moved owed a).0
       (record { space = shown_space bare_tape a.was; at = at; fact = a.fact.1.closing })
       (record { space = shown_space bare_tape a.was; at = at; fact = a.fact.1.waits })
-      (λ no. none-where owed.loads (a.fact.1.wanted ∙ no))
+      a.fact.1.wanted
 
   pub bare-configs : (owed : Owed) (was is : BareSpace) → Given was is owed → config_of is ≡ config_of was
   bare-configs owed was is g = go (option_map (λ l. l.items) owed.loads) g.1.loads

@@ -1,5 +1,5 @@
 -- What a look at a shared service saw, and what nobody had taken then.
-use Rattle.std.specs.Prelude.{◌≡◌, ◌⊎◌, ℕ, List, ◌++◌, Bool, true, false, Option, [], Some, None, IfSome, IsNone}
+use Rattle.std.specs.Prelude.{◌≡◌, ◌⊎◌, ℕ, List, ◌++◌, Bool, true, false, Option, [], Some, None, IfSome, IsNone, is_some}
 use Rattle.std.specs.Option.{option_to_list}
 use Rattle.audit_model.specs.declared.config.Config.{Config}
 use Rattle.audit_model.specs.declared.input.Conn.{Conn}
@@ -23,11 +23,11 @@ pub record MovesNotes (behind behind' notes notes' : List Note) : Type 0 where
   pub gained : behind' ≡ behind ++ moved
   pub left : notes ≡ moved ++ notes'
 
--- this is what a connection of a namespace is owed: loads only if they are requested
+-- this is what a connection of a namespace is owed: loads where they are requested, and only there
 pub record IsWhatIsOwed {T : Type 0} (space : Space T) (number : ℕ) (wants_loads : Bool) (owed : Owed) :
     Type 0 where
   pub loads : IfSome owed.loads (λ loads. loads.items ≡ outgoing_of space)
-  pub unwanted : wants_loads ≡ false → owed.loads ≡ None
+  pub wanted : is_some owed.loads ≡ wants_loads
   pub closing : owed.closing ≡ closing_of space number
   pub waits : owed.waits ≡ is_waiting_for space number
 

@@ -1,5 +1,5 @@
 //! The core that keeps its journals.
-ghost use Rattle.std.specs.Prelude.{◌≡◌, false, None, IfErr, IfOk, MatchOption, OnErr};
+ghost use Rattle.std.specs.Prelude.{◌≡◌, ◌<◌, length, is_some, IfErr, IfOk, MatchOption, OnErr};
 ghost use Rattle.std.specs.Option.{option_copied};
 ghost use Rattle.cache_shared.specs.Events.{KeepsStanding};
 ghost use Rattle.cache_shared.specs.Looked.{IsWhatIsOwed, RefusesCopy};
@@ -121,7 +121,7 @@ fn take_wanted(
     ensures all { MatchOption result (recorded.new ≡ recorded.old) (λ loads.
         MovesLoads spaces_in untaken_in untold_in recorded.old recorded.new namespace
         loads.items) }
-    ensures unwanted { wants_loads ≡ false → result ≡ None }
+    ensures wanted { namespace < length (spaces_in recorded.old) → is_some result ≡ wants_loads }
     ensures standing { KeepsStanding spaces_in journals_in recorded.old recorded.new }
 {
     if !wants_loads {
