@@ -732,7 +732,9 @@ macro_rules! whole_commands {
 /// Time limits, each above zero, and the size of a pool.
 #[derive(Clone, Copy, Debug, PartialEq, Eq)]
 pub struct Options {
-    /// The time limit for connecting to an address. 2 s by default.
+    /// The time limit for connecting to each socket address of a host and port. 2 s by default.
+    /// Connecting to a path has no limit: it waits only while the server's queue of connections
+    /// that it has not accepted yet is full.
     pub connect: Duration,
     /// The time limit for sending, and for each line of a reply, counted from the sending
     /// or from the line before. 5 s by default.
