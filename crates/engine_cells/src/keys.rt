@@ -149,19 +149,6 @@ fn home_of(tag: u32, many: usize) -> usize
     ((tag as u128 * many as u128) >> 32) as usize
 }
 
-/// The slot to which so many steps lead.
-fn steps_on(many: usize, from: usize, steps: usize) -> usize
-    requires from { from < many }
-    requires steps { steps ≤ many }
-    ensures { result ≡ steps_on many from steps }
-{
-    if steps < many - from {
-        from + steps
-    } else {
-        steps - (many - from)
-    }
-}
-
 /// The slot behind another: the first one behind the last.
 fn next_slot(many: usize, at: usize) -> usize
     requires { at < many }
@@ -306,17 +293,20 @@ fn move_up(slots: &mut Vec<Slot>, from: usize) -> usize
 {
     let many = slots.len();
     let mut hole = from;
-    let mut passed = 0;
-    for steps in 1..many {
-        let at = steps_on(many, from, steps);
+    let mut at = from;
+    // so many steps lead from the hole to there
+    let mut gap = 0;
+    for _steps in 1..many {
+        at = next_slot(many, at);
+        gap += 1;
         let slot = slots[at];
         if slot.place == NOWHERE {
             return hole;
         }
-        if is_on_way(many, slot.tag, at, steps - passed) {
+        if is_on_way(many, slot.tag, at, gap) {
             slots[hole] = slot;
             hole = at;
-            passed = steps;
+            gap = 0;
         }
     }
     unreachable!()

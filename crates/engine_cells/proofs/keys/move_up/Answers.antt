@@ -1,5 +1,5 @@
-use Rattle.std.proofs.Common.{◌≡◌, ap, sym, ◌∙◌, ◌<◌, length, true≢false, arith}
-use Rattle.engine_cells.specs.Keys.Slots.{nowhere, steps_to}
+use Rattle.std.proofs.Common.{◌≡◌, ap, sym, ◌∙◌, ◌<◌, ◌-◌, ◌+◌, length, true≢false, arith}
+use Rattle.engine_cells.specs.Keys.Slots.{nowhere, steps_on, steps_to}
 use Rattle.engine_cells.proofs.keys.Around.{reaches, ahead}
 use Rattle.engine_cells.proofs.keys.Tables.{taken-within, read}
 use Rattle.engine_cells.proofs.keys.Moving.{moved-yes, moved-no, moved-end, moved-never}
@@ -12,9 +12,11 @@ returns-then-slot-clause-apart c =
     let now = c.loop-steps.slots.items in
     let f = taken-within old c.args.from c.requires.there in
     let many : c.len-many.result ≡ length old = omega (arith, c.len-many.ensures, c.args.slots.now.ok.0) in
-    let at = reaches c.len-many.result (length old) c.args.from c.loop-steps.steps c.steps_on-at.result many f (omega arith) c.steps_on-at.ensures in
-    let slot = read now c.steps_on-at.result (length old) c.index-slot.result.now (sym c.loop-steps.invariant.moved.holed.long) at.1 c.index-slot.ensures in
-    moved-end old now c.args.from c.loop-steps.hole c.loop-steps.steps c.steps_on-at.result f c.loop-steps.invariant.moved at.0 at.1 (omega (arith, ap (λ s. s.place) slot))
+    let on = c.next_slot-at.ensures c.args.from (c.loop-steps._steps - 1) (omega (arith, many, f)) (omega arith) c.loop-steps.invariant.at in
+    let here = on ∙ ap (λ n. steps_on c.len-many.result c.args.from n) (omega arith) in
+    let at = reaches c.len-many.result (length old) c.args.from c.loop-steps._steps c.next_slot-at.result many f (omega arith) here in
+    let slot = read now c.next_slot-at.result (length old) c.index-slot.result.now (sym c.loop-steps.invariant.moved.holed.long) at.1 c.index-slot.ensures in
+    moved-end old now c.args.from c.loop-steps.hole c.loop-steps._steps c.next_slot-at.result f c.loop-steps.invariant.moved at.0 at.1 (omega (arith, ap (λ s. s.place) slot))
 
 pub loop-steps-preserved : goal.loop-steps-preserved
 loop-steps-preserved c =
@@ -22,24 +24,28 @@ loop-steps-preserved c =
     let now = c.loop-steps.slots.items in
     let f = taken-within old c.args.from c.requires.there in
     let many : c.len-many.result ≡ length old = omega (arith, c.len-many.ensures, c.args.slots.now.ok.0) in
-    let at = reaches c.len-many.result (length old) c.args.from c.loop-steps.steps c.steps_on-at.result many f (omega arith) c.steps_on-at.ensures in
-    let slot = read now c.steps_on-at.result (length old) c.index-slot.result.now (sym c.loop-steps.invariant.moved.holed.long) at.1 c.index-slot.ensures in
+    let on = c.next_slot-at.ensures c.args.from (c.loop-steps._steps - 1) (omega (arith, many, f)) (omega arith) c.loop-steps.invariant.at in
+    let here = on ∙ ap (λ n. steps_on c.len-many.result c.args.from n) (omega arith) in
+    let at = reaches c.len-many.result (length old) c.args.from c.loop-steps._steps c.next_slot-at.result many f (omega arith) here in
+    let slot = read now c.next_slot-at.result (length old) c.index-slot.result.now (sym c.loop-steps.invariant.moved.holed.long) at.1 c.index-slot.ensures in
     let place : c.index-slot.result.now.place < nowhere = omega arith in
     let was = c.loop-steps.invariant in
-    let far = ahead (length old) c.args.from c.loop-steps.hole c.steps_on-at.result f was.moved.holed.within at.1 (omega (arith, at.0, was.moved.before)) in
-    let way = c.is_on_way.ensures c.loop-steps.hole (omega (arith, many, was.moved.holed.within)) (ap (λ n. steps_to n c.loop-steps.hole c.steps_on-at.result) many ∙ omega (arith, far, at.0, was.passed)) in
+    let far = ahead (length old) c.args.from c.loop-steps.hole c.next_slot-at.result f was.moved.holed.within at.1 (omega (arith, at.0, was.moved.before)) in
+    let way = c.is_on_way.ensures c.loop-steps.hole (omega (arith, many, was.moved.holed.within)) (ap (λ n. steps_to n c.loop-steps.hole c.next_slot-at.result) many ∙ omega (arith, far, at.0, was.gap)) in
     elim c.if-is_on_way.branch [
-      | then-is_on_way w ↦ rw (w.slots-is, w.hole-is, w.passed-is) (record {
-        moved = moved-yes old now c.args.from c.loop-steps.hole c.loop-steps.steps c.steps_on-at.result f was.moved at.0 at.1 c.index-slot.result.now c.len-many.result slot place many (way.0 w.if-is_on_way.true);
-        passed = sym at.0;
+      | then-is_on_way w ↦ rw (w.slots-is, w.hole-is, w.gap-is) (record {
+        moved = moved-yes old now c.args.from c.loop-steps.hole c.loop-steps._steps c.next_slot-at.result f was.moved at.0 at.1 c.index-slot.result.now c.len-many.result slot place many (way.0 w.if-is_on_way.true);
+        at = on ∙ ap (λ n. steps_on c.len-many.result c.args.from n) (omega arith);
+        gap = omega (arith, at.0);
       })
-      | else-is_on_way w ↦ rw (w.slots-is, w.hole-is, w.passed-is) (record {
-        moved = moved-no old now c.args.from c.loop-steps.hole c.loop-steps.steps c.steps_on-at.result f was.moved at.0 at.1 c.index-slot.result.now c.len-many.result slot place many (λ on. true≢false (sym (way.1 on) ∙ w.if-is_on_way.false));
-        passed = was.passed;
+      | else-is_on_way w ↦ rw (w.slots-is, w.hole-is, w.gap-is) (record {
+        moved = moved-no old now c.args.from c.loop-steps.hole c.loop-steps._steps c.next_slot-at.result f was.moved at.0 at.1 c.index-slot.result.now c.len-many.result slot place many (λ on. true≢false (sym (way.1 on) ∙ w.if-is_on_way.false));
+        at = on ∙ ap (λ n. steps_on c.len-many.result c.args.from n) (omega arith);
+        gap = omega (arith, was.gap);
       })
     ]
 
 pub unreachable-requires : goal.unreachable-requires
 unreachable-requires c =
     let many : c.len-many.result ≡ length c.args.slots.now.items = omega (arith, c.len-many.ensures, c.args.slots.now.ok.0) in
-    moved-never c.args.slots.now.items c.loop-steps.slots.items c.args.from c.loop-steps.hole c.loop-steps.steps (taken-within _ _ c.requires.there) c.requires.loose (omega arith) c.loop-steps.invariant.moved
+    moved-never c.args.slots.now.items c.loop-steps.slots.items c.args.from c.loop-steps.hole c.loop-steps._steps (taken-within _ _ c.requires.there) c.requires.loose (omega arith) c.loop-steps.invariant.moved
