@@ -15,7 +15,6 @@ use Rattle.audit_model.specs.Follows.{Follows, after_event, after_steps, known_i
 use Rattle.audit_model.specs.Obeys.{has_right_own_value, is_numbered}
 use Rattle.audit_model.specs.Places.{steps_of}
 use Rattle.audit_model.specs.Situation.{Situation}
-use Rattle.audit_model.specs.declared.command.Closing.{Closing}
 use Rattle.audit_model.specs.declared.config.Config.{Config}
 use Rattle.audit_model.specs.declared.event.Event.{Event}
 use Rattle.audit_model.specs.declared.event.Event.TheVariants as event
@@ -39,7 +38,7 @@ use Rattle.cache_spaces.proofs.Placing.{at-is, at-map, at-others, fact-here}
 use Rattle.cache_spaces.proofs.Reaching.{at-shown, performs-shown}
 use Rattle.cache_spaces.proofs.Reading.{same-conn}
 use Rattle.cache_spaces.specs.Calls as calls
-use Rattle.cache_spaces.specs.Calls.{At, InSpace, IsOpened, Performs, PerformsFrom, TakesLoads, TakesNotice, TakesOutput, namespace_of}
+use Rattle.cache_spaces.specs.Calls.{At, InSpace, IsOpened, IsUnknown, Performs, PerformsFrom, Refuses, TakesLoads, TakesNotice, TakesOutput, namespace_of}
 use Rattle.cache_spaces.specs.Cursors.{lists_joined, lists_of, notes_from, notes_of_records, records_at, replies_for, reply_for, taken_through}
 use Rattle.cache_spaces.specs.Journals.{journals_of, kept_by}
 use Rattle.cache_spaces.specs.Played.{journal_of}
@@ -48,7 +47,7 @@ use Rattle.cache_spaces.specs.Services.{BareSpace, bare_tape}
 use Rattle.cache_spaces.specs.Spaces.{Shown, Space, closing_of, config_of, is_waiting_for, untaken_notes, outgoing_of, shown_space, shown_tape, untaken_output}
 use Rattle.cache_shared.proofs.Performing.{first-note, loads-leave, loads-shown, no-note}
 use Rattle.cache_shared.specs.Events.{IsReachedFrom, configs_of}
-use Rattle.cache_shared.specs.Looked.{HeldAtSomeMoment, IsWhatIsOwed, MovesNotes, Owes, WereOut, WereUntaken}
+use Rattle.cache_shared.specs.Looked.{HeldAtSomeMoment, IsWhatIsOwed, MovesNotes, Owes, WereOut, WereUntaken, nothing_owed}
 use Rattle.cache_shared.specs.Recordings.{bare_spaces, spaces_in, untaken_of, untold_of}
 use Rattle.cache_shared.specs.Taken.{GainsFrom, KeepsNotes, MovesAll, MovesLoads, MovesNote, MovesNotesOf, MovesOwed, MovesReplies, TakesInput, outgoing_in}
 
@@ -202,24 +201,37 @@ module _ {C : Type 0} (configs : List Config) (spaces : C → List Shown) (untak
   replies-due None e = tt
   replies-due (Some t) e = record { core = old; events = events; reached = reached; same = e.0 }
 
-  module _ (space : Shown) (at : slice_get (spaces old) conn.namespace ≡ Some space) where
-    loads-due : (loads : Option (Vec (LoadId × List ℕ) Global)) → IfSome loads (λ l. l.items ≡ outgoing_of space) → IfSome loads (λ l. WereOut configs spaces conn.namespace l.items)
-    loads-due None e = tt
-    loads-due (Some l) e = record { core = old; events = events; reached = reached; out = record { space = space; at = at; fact = e } }
-
-    closing-due : (closing : Option Closing) → closing ≡ closing_of space conn.number
-        → IfSome closing (λ why. HeldAtSomeMoment configs spaces (λ all. InSpace all conn.namespace (λ s. closing_of s conn.number ≡ Some why)))
-    closing-due None e = tt
-    closing-due (Some why) e = record { core = old; events = events; reached = reached; fact = record { space = space; at = at; fact = sym e } }
-
   pub owes-due : (wants : Bool) (owed : Owed) → MovesOwed spaces untaken untold old new conn owed → InSpace (spaces old) conn.namespace (λ space. IsWhatIsOwed space conn.number wants owed) → Owes configs spaces untaken conn wants owed
-  owes-due wants owed moved i = record {
-    replies = replies-due owed.replies moved.replies;
-    loads = loads-due i.space i.at owed.loads i.fact.loads;
-    unwanted = λ no. none-where owed.loads (i.fact.wanted ∙ no);
-    closed = closing-due i.space i.at owed.closing i.fact.closing;
-    waits = λ yes. record { core = old; events = events; reached = reached; fact = record { space = i.space; at = i.at; fact = sym i.fact.waits ∙ yes } };
-  }
+  owes-due wants owed moved i = record { replies = replies-due owed.replies moved.replies; told = record { core = old; events = events; reached = reached; fact = inl i } }
+
+-- the loads among it, which are there only where they are requested
+abbrev pub IsOwedIn : Conn → Bool → Owed → List Shown → Type 0
+IsOwedIn conn wants owed spaces =
+    InSpace spaces conn.namespace (λ space. IsWhatIsOwed space conn.number wants owed)
+    ⊎ ((e : ServiceError) × Refuses spaces conn.namespace e (λ space. IsUnknown space conn.number e) × (owed ≡ nothing_owed))
+
+module _ {C : Type 0} (configs : List Config) (spaces : C → List Shown) (conn : Conn) (wants : Bool) where
+  pub owed-out : (owed : Owed) → HeldAtSomeMoment configs spaces (IsOwedIn conn wants owed) → IfSome owed.loads (λ loads. WereOut configs spaces conn.namespace loads.items)
+  owed-out owed held = go owed.loads (out-of owed held.fact)
+    where
+      Out : Option (Vec (LoadId × List ℕ) Global) → Type 0
+      Out loads = IfSome loads (λ l. InSpace (spaces held.core) conn.namespace (λ space. l.items ≡ outgoing_of space))
+
+      here : (loads : Option (Vec (LoadId × List ℕ) Global)) (space : Shown) → slice_get (spaces held.core) conn.namespace ≡ Some space → IfSome loads (λ l. l.items ≡ outgoing_of space) → Out loads
+      here None space at same = tt
+      here (Some l) space at same = record { space = space; at = at; fact = same }
+
+      out-of : (o : Owed) → IsOwedIn conn wants o (spaces held.core) → Out o.loads
+      out-of o (inl i) = here o.loads i.space i.at i.fact.loads
+      out-of o (inr n) = subst (λ (p : Owed). Out p.loads) (sym n.2) tt
+
+      go : (loads : Option (Vec (LoadId × List ℕ) Global)) → Out loads → IfSome loads (λ l. WereOut configs spaces conn.namespace l.items)
+      go None out = tt
+      go (Some l) out = record { core = held.core; events = held.events; reached = held.reached; out = out }
+
+  pub owed-unwanted : (owed : Owed) (all : List Shown) → IsOwedIn conn wants owed all → wants ≡ false → owed.loads ≡ None
+  owed-unwanted owed all (inl i) unwanted = none-where owed.loads (i.fact.wanted ∙ unwanted)
+  owed-unwanted owed all (inr n) unwanted = ap (λ (o : Owed). o.loads) n.2
 
 -- ---- takings of a service that keeps no journal
 

@@ -1,12 +1,12 @@
 -- What a look at a shared service saw, and what nobody had taken then.
-use Rattle.std.specs.Prelude.{◌≡◌, ◌⊎◌, ℕ, List, ◌++◌, Bool, true, false, Option, [], Some, None, IfSome, IsNone, is_some}
+use Rattle.std.specs.Prelude.{◌≡◌, ◌⊎◌, ℕ, List, ◌++◌, Bool, true, false, Option, [], None, IfSome, IsNone, is_some}
 use Rattle.std.specs.Option.{option_to_list}
 use Rattle.audit_model.specs.declared.config.Config.{Config}
 use Rattle.audit_model.specs.declared.input.Conn.{Conn}
 use Rattle.audit_model.specs.declared.input.LoadId.{LoadId}
 use Rattle.audit_model.specs.declared.input.ServiceError.{ServiceError}
 use Rattle.audit_model.specs.declared.transcript.Note.{Note}
-use Rattle.cache_spaces.specs.Calls.{InSpace, IsOpened, IsUnknown}
+use Rattle.cache_spaces.specs.Calls.{InSpace, IsOpened, IsUnknown, Refuses}
 use Rattle.cache_shared.specs.Events.{IsReachedFrom}
 use Rattle.cache_spaces.specs.Spaces.{Shown, Space, outgoing_of, closing_of, is_waiting_for}
 use Rattle.cache_core.specs.declared.owing.Owed.{Owed}
@@ -30,6 +30,10 @@ pub record IsWhatIsOwed {T : Type 0} (space : Space T) (number : ℕ) (wants_loa
   pub wanted : is_some owed.loads ≡ wants_loads
   pub closing : owed.closing ≡ closing_of space number
   pub waits : owed.waits ≡ is_waiting_for space number
+
+-- nothing is
+abbrev pub nothing_owed : Owed
+nothing_owed = record { replies = None; loads = None; closing = None; waits = false }
 
 -- What was so at some moment, in a service of these configurations to which some journals that obey lead.
 module _ {C : Type 0} (configs : List Config) (spaces : C → List Shown) where
@@ -81,14 +85,13 @@ module _ {C : Type 0} (configs : List Config) (spaces : C → List Shown) where
     pub left : List Note
     pub moved : MovesNotes behind behind' (untold core namespace) left
 
-  -- What a connection is owed: its replies, and the loads of its namespace, which are there only if they are requested, were there, and so
-  -- were the reason for which it is closed and the load for which it waits, each at a moment of its own.
+  -- What a connection is owed: its replies, and the loads of its namespace where they are requested, why it is closed and whether it waits;
+  -- the replies at a moment of their own. Nothing, if it was unknown.
   pub record Owes (untaken : C → Conn → List ℕ) (conn : Conn) (wants_loads : Bool) (owed : Owed) :
       Type 0 where
     pub replies : IfSome owed.replies (λ text. WereUntaken untaken conn text.items)
-    pub loads : IfSome owed.loads (λ loads. WereOut conn.namespace loads.items)
-    pub unwanted : wants_loads ≡ false → owed.loads ≡ None
-    pub closed : IfSome owed.closing (λ closing. HeldAtSomeMoment (λ spaces.
-        InSpace spaces conn.namespace (λ space. closing_of space conn.number ≡ Some closing)))
-    pub waits : owed.waits ≡ true → HeldAtSomeMoment (λ spaces.
-        InSpace spaces conn.namespace (λ space. is_waiting_for space conn.number ≡ true))
+    pub told : HeldAtSomeMoment (λ spaces.
+        InSpace spaces conn.namespace
+        (λ space. IsWhatIsOwed space conn.number wants_loads owed)
+        ⊎ ((e : ServiceError) × Refuses spaces conn.namespace e
+        (λ space. IsUnknown space conn.number e) × (owed ≡ nothing_owed)))

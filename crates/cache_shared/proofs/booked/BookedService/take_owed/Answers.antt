@@ -1,4 +1,4 @@
-use Rattle.std.proofs.Common.{refl, false, true, ◌≡◌}
+use Rattle.std.proofs.Common.{refl, inr}
 use Rattle.cache_shared.proofs.Moving.{moves-nothing, moves-owed, owes-due}
 use Rattle.cache_shared.proofs.booked.BookedService.take_owed.Goals as goal
 
@@ -15,7 +15,15 @@ returns-in-Ok-clause-owed g c =
     owes-due g.L.Seating.configs g.C.Shareable.spaces g.C.Shareable.untaken g.C.Shareable.untold _ _ _ c.take_notices.new.self.stands.reached c.args.conn c.args.wants_loads c.in-Ok.owed c.in-Ok.ensures.moved c.in-Ok.ensures.told
 
 pub returns-in-Err-clause-owed : goal.returns-in-Err-clause-owed
-returns-in-Err-clause-owed g c = record { replies = tt; loads = tt; unwanted = λ no. refl; closed = tt; waits = λ yes. let no : false ≡ true = yes in cc }
+returns-in-Err-clause-owed g c = record {
+  replies = tt;
+  told = record {
+    core = c.take_notices.new.self.core;
+    events = _;
+    reached = c.take_notices.new.self.stands.reached;
+    fact = inr (_, c.in-Err.ensures.refused, refl);
+  };
+}
 
 pub returns-in-Ok-clause-moved : goal.returns-in-Ok-clause-moved
 returns-in-Ok-clause-moved g c = record { core = c.args.self.now.core; events = _; reached = c.args.self.now.stands.reached; left = _; moved = c.take_notices.ensures.moved }
