@@ -1,51 +1,12 @@
 //! What a step does.
-use audit_model::{LineError, Outcome};
+use audit_lines::Request;
+use audit_model::Outcome;
 
-/// What a step does: the commands, with deadlines in milliseconds, and what else there is.
+/// What a step does: what its line says, and what else there is.
 #[derive(Clone, Copy)]
 pub enum Doing<'a> {
-    /// `SET`.
-    Set {
-        key: &'a [u8],
-        ms: Option<u64>,
-        value: &'a [u8],
-    },
-    /// `GET`.
-    Get {
-        key: &'a [u8],
-    },
-    /// `HAS`.
-    Has {
-        key: &'a [u8],
-    },
-    /// `LOAD`.
-    Load {
-        key: &'a [u8],
-    },
-    /// `DEL`.
-    Del {
-        key: &'a [u8],
-    },
-    /// `ADD`.
-    Add {
-        key: &'a [u8],
-        ms: Option<u64>,
-        number: u64,
-    },
-    /// `CLEAR`.
-    Clear,
-    /// `DROPIF`.
-    DropIf {
-        prefix: &'a [u8],
-    },
-    /// `KEYS`.
-    Keys,
-    /// `SYNC`.
-    Sync,
-    /// `QUIT`.
-    Quit,
-    /// The step answers a line that cannot be read.
-    Fault(LineError),
+    /// The step runs its line's command, or answers its fault.
+    Line(Request<'a>),
     /// The step is held back.
     Hold,
     /// The step hands a waiting `LOAD` its outcome.

@@ -14,6 +14,7 @@ use crate::actions::doing::Doing;
 use crate::held::Seen;
 use crate::notes::live;
 use crate::{State, find_load};
+use audit_lines::Request;
 use audit_model::Config;
 
 /// Returns the live value of a key, or `None` if there is none.
@@ -30,10 +31,13 @@ pub fn may_refuse(s: &State, doing: Doing<'_>) -> bool
         → result ≡ may_refuse (view_in config (shown_situation s.now)) (action_of doing.entry) }
 {
     match doing {
-        Doing::DropIf { .. } => s.dropped,
-        Doing::Set { .. } | Doing::Get { .. } | Doing::Has { .. } | Doing::Load { .. } => false,
-        Doing::Del { .. } | Doing::Add { .. } | Doing::Clear | Doing::Keys => false,
-        Doing::Sync | Doing::Quit | Doing::Fault(_) | Doing::Hold => false,
+        Doing::Line(Request::DropIf { .. }) => s.dropped,
+        Doing::Line(
+            Request::Set { .. } | Request::Get { .. } | Request::Has { .. } | Request::Load { .. },
+        ) => false,
+        Doing::Line(Request::Del { .. } | Request::Add { .. } | Request::Clear | Request::Keys) =>
+            false,
+        Doing::Line(Request::Sync | Request::Quit | Request::Fault(_)) | Doing::Hold => false,
         Doing::Deliver(_) | Doing::Abandon | Doing::Store(_, _) => false,
     }
 }
@@ -74,12 +78,15 @@ pub fn loads_rightly(config: &Config, s: &State, doing: Doing<'_>, load: Option<
         (load_sent_by (view_in config.now (shown_situation s.now)) (action_of doing.entry)) }
 {
     match doing {
-        Doing::Load { key } => loads_key_rightly(config, s, key, load),
-        Doing::Set { .. } | Doing::Get { .. } | Doing::Has { .. } | Doing::Del { .. } => {
-            load.is_none()
-        }
-        Doing::Add { .. } | Doing::Clear | Doing::DropIf { .. } | Doing::Keys => load.is_none(),
-        Doing::Sync | Doing::Quit | Doing::Fault(_) | Doing::Hold => load.is_none(),
+        Doing::Line(Request::Load { key }) => loads_key_rightly(config, s, key, load),
+        Doing::Line(
+            Request::Set { .. } | Request::Get { .. } | Request::Has { .. } | Request::Del { .. },
+        ) => { load.is_none() }
+        Doing::Line(
+            Request::Add { .. } | Request::Clear | Request::DropIf { .. } | Request::Keys,
+        ) => load.is_none(),
+        Doing::Line(Request::Sync | Request::Quit | Request::Fault(_)) | Doing::Hold =>
+            load.is_none(),
         Doing::Deliver(_) | Doing::Abandon | Doing::Store(_, _) => load.is_none(),
     }
 }

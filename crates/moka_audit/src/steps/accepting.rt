@@ -14,6 +14,7 @@ ghost use Rattle.audit_situation.specs.Held.Known.{agrees, agrees_with, with_par
 ghost use Rattle.moka_audit.specs.Steps.Judging.{offer_from, AcceptsOffer, Accepts};
 
 use crate::steps::replies::{accepts, digits_of, sum_with};
+use audit_lines::Request;
 use audit_model::{Accepted, Bytes, Config, Outcome, Seq, Weight};
 use audit_situation::{Doing, Held, Parts, State, found, part_count};
 use std::alloc::{AllocError, Global};
@@ -40,17 +41,35 @@ fn offered(
         ≡ offered (view_in config.now (shown_situation s.now)) (action_of doing.entry)) }
 {
     match doing {
-        Doing::Set { key, ms, value } => offer_some(alloc, key, value, ms),
-        Doing::Add { key, ms, number } => offered_sum(alloc, config, s, key, ms, number),
+        Doing::Line(
+            Request::Set {
+                key,
+                deadline,
+                value,
+            },
+        ) => offer_some(alloc, key, value, deadline),
+        Doing::Line(
+            Request::Add {
+                key,
+                deadline,
+                number,
+            },
+        ) => offered_sum(alloc, config, s, key, deadline, number),
         Doing::Store(Some(key), Outcome::Value(bytes, ms)) => {
             offer_some(alloc, key, bytes.as_slice(), *ms)
         }
         Doing::Store(Some(_), Outcome::None) => Ok(None),
         Doing::Store(Some(_), Outcome::Fault(_)) => Ok(None),
         Doing::Store(None, _) => Ok(None),
-        Doing::Get { .. } | Doing::Has { .. } | Doing::Load { .. } | Doing::Del { .. } => Ok(None),
-        Doing::Clear | Doing::DropIf { .. } | Doing::Keys | Doing::Sync => Ok(None),
-        Doing::Quit | Doing::Fault(_) | Doing::Hold | Doing::Deliver(_) => Ok(None),
+        Doing::Line(
+            Request::Get { .. } | Request::Has { .. } | Request::Load { .. } | Request::Del { .. },
+        ) => Ok(None),
+        Doing::Line(Request::Clear | Request::DropIf { .. } | Request::Keys | Request::Sync) => Ok(
+            None,
+        ),
+        Doing::Line(Request::Quit | Request::Fault(_)) | Doing::Hold | Doing::Deliver(_) => Ok(
+            None,
+        ),
         Doing::Abandon => Ok(None),
     }
 }

@@ -14,57 +14,22 @@ ghost use Rattle.audit_situation.specs.Notes.Deeds.{covering_by, deed_with};
 ghost use Rattle.audit_situation.specs.Actions.Doings.{action_of};
 ghost use Rattle.moka_audit.specs.Steps.Doings.{acting};
 
-use audit_lines::{Request, read_line};
-use audit_model::Config;
+use audit_lines::Request;
 use audit_situation::{Covering, Deed, Doing};
-
-/// Returns what a line does.
-pub fn do_line<'a>(config: &Config, line: &'a [u8]) -> Doing<'a>
-    ensures { action_of result ≡ action_by (reading config.now line.now) }
-{
-    match read_line(config, line) {
-        Request::Set {
-            key,
-            deadline,
-            value,
-        } => Doing::Set {
-            key,
-            ms: deadline,
-            value,
-        },
-        Request::Get { key } => Doing::Get { key },
-        Request::Has { key } => Doing::Has { key },
-        Request::Load { key } => Doing::Load { key },
-        Request::Del { key } => Doing::Del { key },
-        Request::Add {
-            key,
-            deadline,
-            number,
-        } => Doing::Add {
-            key,
-            ms: deadline,
-            number,
-        },
-        Request::Clear => Doing::Clear,
-        Request::DropIf { prefix } => Doing::DropIf { prefix },
-        Request::Keys => Doing::Keys,
-        Request::Sync => Doing::Sync,
-        Request::Quit => Doing::Quit,
-        Request::Fault(error) => Doing::Fault(error),
-    }
-}
 
 /// The key that a step looks up.
 fn key_used<'a>(doing: Doing<'a>) -> Option<&'a [u8]>
     ensures { option_map (λ k. k.now) result ≡ key_used (action_of doing.entry) }
 {
     match doing {
-        Doing::Get { key } => Some(key),
-        Doing::Load { key } => Some(key),
-        Doing::Add { key, .. } => Some(key),
-        Doing::Set { .. } | Doing::Has { .. } | Doing::Del { .. } | Doing::Clear => None,
-        Doing::DropIf { .. } | Doing::Keys | Doing::Sync | Doing::Quit => None,
-        Doing::Fault(_) | Doing::Hold | Doing::Deliver(_) | Doing::Abandon => None,
+        Doing::Line(Request::Get { key }) => Some(key),
+        Doing::Line(Request::Load { key }) => Some(key),
+        Doing::Line(Request::Add { key, .. }) => Some(key),
+        Doing::Line(
+            Request::Set { .. } | Request::Has { .. } | Request::Del { .. } | Request::Clear,
+        ) => None,
+        Doing::Line(Request::DropIf { .. } | Request::Keys | Request::Sync | Request::Quit) => None,
+        Doing::Line(Request::Fault(_)) | Doing::Hold | Doing::Deliver(_) | Doing::Abandon => None,
         Doing::Store(_, _) => None,
     }
 }
@@ -74,10 +39,14 @@ fn key_deleted<'a>(doing: Doing<'a>) -> Option<&'a [u8]>
     ensures { option_map (λ k. k.now) result ≡ key_deleted (action_of doing.entry) }
 {
     match doing {
-        Doing::Del { key } => Some(key),
-        Doing::Set { .. } | Doing::Get { .. } | Doing::Has { .. } | Doing::Load { .. } => None,
-        Doing::Add { .. } | Doing::Clear | Doing::DropIf { .. } | Doing::Keys => None,
-        Doing::Sync | Doing::Quit | Doing::Fault(_) | Doing::Hold => None,
+        Doing::Line(Request::Del { key }) => Some(key),
+        Doing::Line(
+            Request::Set { .. } | Request::Get { .. } | Request::Has { .. } | Request::Load { .. },
+        ) => None,
+        Doing::Line(
+            Request::Add { .. } | Request::Clear | Request::DropIf { .. } | Request::Keys,
+        ) => None,
+        Doing::Line(Request::Sync | Request::Quit | Request::Fault(_)) | Doing::Hold => None,
         Doing::Deliver(_) | Doing::Abandon | Doing::Store(_, _) => None,
     }
 }
@@ -87,10 +56,14 @@ pub fn key_loaded<'a>(doing: Doing<'a>) -> Option<&'a [u8]>
     ensures { option_map (λ k. k.now) result ≡ key_loaded (action_of doing.entry) }
 {
     match doing {
-        Doing::Load { key } => Some(key),
-        Doing::Set { .. } | Doing::Get { .. } | Doing::Has { .. } | Doing::Del { .. } => None,
-        Doing::Add { .. } | Doing::Clear | Doing::DropIf { .. } | Doing::Keys => None,
-        Doing::Sync | Doing::Quit | Doing::Fault(_) | Doing::Hold => None,
+        Doing::Line(Request::Load { key }) => Some(key),
+        Doing::Line(
+            Request::Set { .. } | Request::Get { .. } | Request::Has { .. } | Request::Del { .. },
+        ) => None,
+        Doing::Line(
+            Request::Add { .. } | Request::Clear | Request::DropIf { .. } | Request::Keys,
+        ) => None,
+        Doing::Line(Request::Sync | Request::Quit | Request::Fault(_)) | Doing::Hold => None,
         Doing::Deliver(_) | Doing::Abandon | Doing::Store(_, _) => None,
     }
 }
@@ -112,13 +85,15 @@ fn covering<'a>(doing: Doing<'a>, reply: Option<&[u8]>) -> Covering<'a>
         ≡ covers_by (acting (action_of doing.entry) (option_map (λ r. r.now) reply.entry) load) }
 {
     match doing {
-        Doing::Clear => Covering::Everything,
-        Doing::DropIf { prefix } => covering_prefix(prefix, is_ok(reply)),
-        Doing::Set { .. } | Doing::Get { .. } | Doing::Has { .. } | Doing::Load { .. } => {
-            Covering::Nothing
-        }
-        Doing::Del { .. } | Doing::Add { .. } | Doing::Keys | Doing::Sync => Covering::Nothing,
-        Doing::Quit | Doing::Fault(_) | Doing::Hold | Doing::Deliver(_) => Covering::Nothing,
+        Doing::Line(Request::Clear) => Covering::Everything,
+        Doing::Line(Request::DropIf { prefix }) => covering_prefix(prefix, is_ok(reply)),
+        Doing::Line(
+            Request::Set { .. } | Request::Get { .. } | Request::Has { .. } | Request::Load { .. },
+        ) => { Covering::Nothing }
+        Doing::Line(Request::Del { .. } | Request::Add { .. } | Request::Keys | Request::Sync) =>
+            Covering::Nothing,
+        Doing::Line(Request::Quit | Request::Fault(_)) | Doing::Hold | Doing::Deliver(_) =>
+            Covering::Nothing,
         Doing::Abandon | Doing::Store(_, _) => Covering::Nothing,
     }
 }
@@ -139,10 +114,14 @@ pub fn is_sync(doing: Doing<'_>) -> bool
     ensures { result ≡ is_sync (action_of doing.entry) }
 {
     match doing {
-        Doing::Sync => true,
-        Doing::Set { .. } | Doing::Get { .. } | Doing::Has { .. } | Doing::Load { .. } => false,
-        Doing::Del { .. } | Doing::Add { .. } | Doing::Clear | Doing::DropIf { .. } => false,
-        Doing::Keys | Doing::Quit | Doing::Fault(_) | Doing::Hold => false,
+        Doing::Line(Request::Sync) => true,
+        Doing::Line(
+            Request::Set { .. } | Request::Get { .. } | Request::Has { .. } | Request::Load { .. },
+        ) => false,
+        Doing::Line(
+            Request::Del { .. } | Request::Add { .. } | Request::Clear | Request::DropIf { .. },
+        ) => false,
+        Doing::Line(Request::Keys | Request::Quit | Request::Fault(_)) | Doing::Hold => false,
         Doing::Deliver(_) | Doing::Abandon | Doing::Store(_, _) => false,
     }
 }
@@ -153,10 +132,14 @@ pub fn quits(doing: Doing<'_>) -> bool
         → result ≡ quits (acting (action_of doing.entry) reply load) }
 {
     match doing {
-        Doing::Quit => true,
-        Doing::Set { .. } | Doing::Get { .. } | Doing::Has { .. } | Doing::Load { .. } => false,
-        Doing::Del { .. } | Doing::Add { .. } | Doing::Clear | Doing::DropIf { .. } => false,
-        Doing::Keys | Doing::Sync | Doing::Fault(_) | Doing::Hold => false,
+        Doing::Line(Request::Quit) => true,
+        Doing::Line(
+            Request::Set { .. } | Request::Get { .. } | Request::Has { .. } | Request::Load { .. },
+        ) => false,
+        Doing::Line(
+            Request::Del { .. } | Request::Add { .. } | Request::Clear | Request::DropIf { .. },
+        ) => false,
+        Doing::Line(Request::Keys | Request::Sync | Request::Fault(_)) | Doing::Hold => false,
         Doing::Deliver(_) | Doing::Abandon | Doing::Store(_, _) => false,
     }
 }
@@ -170,9 +153,13 @@ pub fn is_hold(doing: Doing<'_>) -> bool
 {
     match doing {
         Doing::Hold => true,
-        Doing::Set { .. } | Doing::Get { .. } | Doing::Has { .. } | Doing::Load { .. } => false,
-        Doing::Del { .. } | Doing::Add { .. } | Doing::Clear | Doing::DropIf { .. } => false,
-        Doing::Keys | Doing::Sync | Doing::Fault(_) | Doing::Quit => false,
+        Doing::Line(
+            Request::Set { .. } | Request::Get { .. } | Request::Has { .. } | Request::Load { .. },
+        ) => false,
+        Doing::Line(
+            Request::Del { .. } | Request::Add { .. } | Request::Clear | Request::DropIf { .. },
+        ) => false,
+        Doing::Line(Request::Keys | Request::Sync | Request::Fault(_) | Request::Quit) => false,
         Doing::Deliver(_) | Doing::Abandon | Doing::Store(_, _) => false,
     }
 }
@@ -182,10 +169,15 @@ pub fn is_silent(doing: Doing<'_>) -> bool
     ensures { result ≡ is_silent (action_of doing.entry) }
 {
     match doing {
-        Doing::Has { .. } | Doing::Keys | Doing::Clear | Doing::DropIf { .. } => true,
-        Doing::Quit | Doing::Hold | Doing::Abandon => true,
-        Doing::Set { .. } | Doing::Get { .. } | Doing::Load { .. } | Doing::Del { .. } => false,
-        Doing::Add { .. } | Doing::Sync | Doing::Fault(_) | Doing::Deliver(_) => false,
+        Doing::Line(
+            Request::Has { .. } | Request::Keys | Request::Clear | Request::DropIf { .. },
+        ) => true,
+        Doing::Line(Request::Quit) | Doing::Hold | Doing::Abandon => true,
+        Doing::Line(
+            Request::Set { .. } | Request::Get { .. } | Request::Load { .. } | Request::Del { .. },
+        ) => false,
+        Doing::Line(Request::Add { .. } | Request::Sync | Request::Fault(_)) | Doing::Deliver(_) =>
+            false,
         Doing::Store(_, _) => false,
     }
 }
@@ -196,10 +188,13 @@ pub fn is_drop(doing: Doing<'_>, reply: Option<&[u8]>) -> bool
         ≡ drops (acting (action_of doing.entry) (option_map (λ r. r.now) reply.entry) load) }
 {
     match doing {
-        Doing::DropIf { .. } => is_ok(reply),
-        Doing::Set { .. } | Doing::Get { .. } | Doing::Has { .. } | Doing::Load { .. } => false,
-        Doing::Del { .. } | Doing::Add { .. } | Doing::Clear | Doing::Keys => false,
-        Doing::Sync | Doing::Quit | Doing::Fault(_) | Doing::Hold => false,
+        Doing::Line(Request::DropIf { .. }) => is_ok(reply),
+        Doing::Line(
+            Request::Set { .. } | Request::Get { .. } | Request::Has { .. } | Request::Load { .. },
+        ) => false,
+        Doing::Line(Request::Del { .. } | Request::Add { .. } | Request::Clear | Request::Keys) =>
+            false,
+        Doing::Line(Request::Sync | Request::Quit | Request::Fault(_)) | Doing::Hold => false,
         Doing::Deliver(_) | Doing::Abandon | Doing::Store(_, _) => false,
     }
 }

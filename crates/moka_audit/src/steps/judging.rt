@@ -24,6 +24,7 @@ use crate::steps::replies::{counts_of, is_said};
 use crate::steps::shown::{
     Duty, Shown, do_due, is_duty_of, is_held_rightly, is_run_lines, is_store,
 };
+use audit_lines::Request;
 use audit_model::{Config, Note};
 use audit_situation::{
     Doing, Held, Holding, Link, Moved, Moving, PARTS, Parts, State, do_deed, find_link, first_line,
@@ -130,14 +131,18 @@ fn is_synced(
         (option_map (λ r. r.now) reply.entry) (values_of held.now)) }
 {
     match doing {
-        Doing::Sync => {
+        Doing::Line(Request::Sync) => {
             let counts = counts_of(alloc, held)?;
             let within = are_within(config, held);
             Ok(is_said(reply, Some(counts.as_slice())) && within)
         }
-        Doing::Set { .. } | Doing::Get { .. } | Doing::Has { .. } | Doing::Load { .. } => Ok(true),
-        Doing::Del { .. } | Doing::Add { .. } | Doing::Clear | Doing::DropIf { .. } => Ok(true),
-        Doing::Keys | Doing::Quit | Doing::Fault(_) | Doing::Hold => Ok(true),
+        Doing::Line(
+            Request::Set { .. } | Request::Get { .. } | Request::Has { .. } | Request::Load { .. },
+        ) => Ok(true),
+        Doing::Line(
+            Request::Del { .. } | Request::Add { .. } | Request::Clear | Request::DropIf { .. },
+        ) => Ok(true),
+        Doing::Line(Request::Keys | Request::Quit | Request::Fault(_)) | Doing::Hold => Ok(true),
         Doing::Deliver(_) | Doing::Abandon | Doing::Store(_, _) => Ok(true),
     }
 }

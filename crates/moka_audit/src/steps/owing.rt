@@ -6,6 +6,8 @@ ghost use Rattle.audit_model.specs.declared.command.Command.TheVariants as says;
 ghost use Rattle.audit_model.specs.Replies.{reply_of};
 ghost use Rattle.audit_model.specs.Situation.{view_in};
 ghost use Rattle.audit_situation.specs.States.{shown_situation};
+ghost use Rattle.audit_lines.specs.Request.{said};
+ghost use Rattle.audit_model.specs.Steps.{action_by};
 ghost use Rattle.audit_situation.specs.Actions.Doings.{action_of};
 ghost use Rattle.moka_audit.specs.Steps.Judging.{reply_owed, is_owed_or_refusal, replies_so};
 
@@ -15,6 +17,7 @@ use crate::steps::replies::{
     accepts, fault_text, is_said, ok_or_off, outcome_text, sum_or_error, sum_with, value_or_none,
     value_reply, yes_or_no,
 };
+use audit_lines::Request;
 use audit_model::Config;
 use audit_situation::{Doing, State, found, may_refuse};
 use std::alloc::{AllocError, Global};
@@ -62,6 +65,33 @@ fn text(alloc: Global, bytes: &[u8]) -> Result<Option<Vec<u8>>, AllocError>
     Ok(Some(Vec::from_slice(alloc, bytes)?))
 }
 
+/// The reply that a step which runs its line owes, other than a `SYNC`.
+fn owed_by_line(
+    alloc: Global,
+    config: &Config,
+    s: &State,
+    request: Request<'_>,
+) -> Result<Option<Vec<u8>>, AllocError>
+    ensures { IfOk result (λ r. (values : List Value)
+        → is_sync (action_by (said request.entry)) ≡ false → option_map (λ t. t.items) r
+        ≡ reply_owed config.now (shown_situation s.now) (action_by (said request.entry)) values) }
+{
+    match request {
+        Request::Set { .. } => text(alloc, ok_or_off(config)),
+        Request::Get { key } => Ok(Some(value_or_none(alloc, found(config, s, key))?)),
+        Request::Has { key } => text(alloc, yes_or_no(found(config, s, key))),
+        Request::Load { key } => load_reply(alloc, config, s, key),
+        Request::Del { .. } => text(alloc, b"OK\n"),
+        Request::Add { key, number, .. } => Ok(Some(add_reply(alloc, config, s, key, number)?)),
+        Request::Clear => text(alloc, b"OK\n"),
+        Request::DropIf { .. } => text(alloc, b"OK\n"),
+        Request::Keys => Ok(Some(keys_listed(alloc, config, s.latest, &s.held)?)),
+        Request::Sync => Ok(None),
+        Request::Quit => text(alloc, b"OK\n"),
+        Request::Fault(error) => text(alloc, fault_text(error)),
+    }
+}
+
 /// The reply that a step other than a `SYNC` owes.
 fn owed(
     alloc: Global,
@@ -74,18 +104,7 @@ fn owed(
         ≡ reply_owed config.now (shown_situation s.now) (action_of doing.entry) values) }
 {
     match doing {
-        Doing::Set { .. } => text(alloc, ok_or_off(config)),
-        Doing::Get { key } => Ok(Some(value_or_none(alloc, found(config, s, key))?)),
-        Doing::Has { key } => text(alloc, yes_or_no(found(config, s, key))),
-        Doing::Load { key } => load_reply(alloc, config, s, key),
-        Doing::Del { .. } => text(alloc, b"OK\n"),
-        Doing::Add { key, number, .. } => Ok(Some(add_reply(alloc, config, s, key, number)?)),
-        Doing::Clear => text(alloc, b"OK\n"),
-        Doing::DropIf { .. } => text(alloc, b"OK\n"),
-        Doing::Keys => Ok(Some(keys_listed(alloc, config, s.latest, &s.held)?)),
-        Doing::Sync => Ok(None),
-        Doing::Quit => text(alloc, b"OK\n"),
-        Doing::Fault(error) => text(alloc, fault_text(error)),
+        Doing::Line(request) => owed_by_line(alloc, config, s, request),
         Doing::Hold => Ok(None),
         Doing::Deliver(outcome) => Ok(Some(outcome_text(alloc, outcome)?)),
         Doing::Abandon => text(alloc, b"ERR abandoned\n"),

@@ -5,7 +5,8 @@ ghost use Rattle.audit_model.specs.Steps.{action_in, action_of_line, is_task_of,
 ghost use Rattle.audit_situation.specs.Actions.Doings.{action_of};
 ghost use Rattle.moka_audit.specs.Steps.Showing.{shown_step, task_of, runs_lines, is_store_due};
 
-use crate::steps::doing::{do_line, is_hold};
+use crate::steps::doing::is_hold;
+use audit_lines::read_line;
 use audit_model::{Accepted, Config, Note, Outcome, Step};
 use audit_situation::Doing;
 
@@ -70,7 +71,7 @@ fn do_shown<'a>(config: &Config, shown: Shown<'a>) -> Doing<'a>
     if shown.held {
         Doing::Hold
     } else {
-        do_line(config, shown.line)
+        Doing::Line(read_line(config, shown.line))
     }
 }
 
