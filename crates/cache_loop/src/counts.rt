@@ -1,4 +1,6 @@
 //! What a loop counts.
+ghost use Rattle.std.specs.Prelude.{◌≡◌};
+ghost use Rattle.cache_loop.specs.Counted.{counted_both, counts_both, departed, departed_both};
 
 use crate::replies::Found;
 use audit_model::RemovalCause;
@@ -24,7 +26,9 @@ pub struct Departures {
 
 impl Departures {
     /// None has left.
-    pub fn new() -> Departures {
+    pub fn new() -> Departures
+        ensures { result ≡ record { expired = 0; explicit = 0; replaced = 0; size = 0 } }
+    {
         Departures {
             expired: 0,
             explicit: 0,
@@ -34,18 +38,21 @@ impl Departures {
     }
 
     /// Counts one.
-    pub fn count(&mut self, cause: RemovalCause) {
-        let counted = match cause {
-            RemovalCause::Expired => &mut self.expired,
-            RemovalCause::Explicit => &mut self.explicit,
-            RemovalCause::Replaced => &mut self.replaced,
-            RemovalCause::Size => &mut self.size,
-        };
-        *counted = counted.saturating_add(1);
+    pub fn count(&mut self, cause: RemovalCause)
+        ensures { self.new ≡ departed cause self.old }
+    {
+        match cause {
+            RemovalCause::Expired => self.expired = self.expired.saturating_add(1),
+            RemovalCause::Explicit => self.explicit = self.explicit.saturating_add(1),
+            RemovalCause::Replaced => self.replaced = self.replaced.saturating_add(1),
+            RemovalCause::Size => self.size = self.size.saturating_add(1),
+        }
     }
 
     /// Adds those that were counted elsewhere.
-    pub fn add(&mut self, other: &Departures) {
+    pub fn add(&mut self, other: &Departures)
+        ensures { self.new ≡ departed_both self.old other.now }
+    {
         self.expired = self.expired.saturating_add(other.expired);
         self.explicit = self.explicit.saturating_add(other.explicit);
         self.replaced = self.replaced.saturating_add(other.replaced);
@@ -99,7 +106,10 @@ impl Counts {
     }
 
     /// Adds what another loop has counted.
-    pub fn add(&mut self, other: &Counts) {
+    pub fn add(&mut self, other: &Counts)
+        ensures { self.new
+            ≡ record (counts_both self.old other.now) { turns = self.new.turns } }
+    {
         self.accepted = self.accepted.saturating_add(other.accepted);
         self.refused = self.refused.saturating_add(other.refused);
         self.idle = self.idle.saturating_add(other.idle);
@@ -116,7 +126,10 @@ impl Counts {
     }
 
     /// Counts a turn that took so many nanoseconds.
-    pub fn count_turn(&mut self, nanos: u64) {
+    pub fn count_turn(&mut self, nanos: u64)
+        ensures { self.new ≡ record self.old
+            { turns = self.new.turns; nanos = counted_both self.old.nanos nanos } }
+    {
         let place = TURN_BOUNDS.iter().position(|bound| nanos <= *bound);
         if let Some(turns) = self.turns.get_mut(place.unwrap_or(TURN_BOUNDS.len())) {
             *turns = turns.saturating_add(1);

@@ -1,4 +1,6 @@
 //! What replies say.
+ghost use Rattle.std.specs.Prelude.{◌≡◌};
+ghost use Rattle.cache_loop.specs.Counted.{found_both};
 
 use memchr::memchr;
 use std::io;
@@ -30,12 +32,16 @@ pub struct Found {
 
 impl Found {
     /// Creates counts of no replies.
-    pub fn new() -> Found {
+    pub fn new() -> Found
+        ensures { result ≡ record { hits = 0; misses = 0 } }
+    {
         Found { hits: 0, misses: 0 }
     }
 
     /// Adds what another loop has read.
-    pub fn add(&mut self, other: &Found) {
+    pub fn add(&mut self, other: &Found)
+        ensures { self.new ≡ found_both self.old other.now }
+    {
         self.hits = self.hits.saturating_add(other.hits);
         self.misses = self.misses.saturating_add(other.misses);
     }

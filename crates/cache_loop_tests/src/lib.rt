@@ -8,6 +8,8 @@ mod hosted;
 #[cfg(test)]
 mod loads;
 #[cfg(test)]
+mod refusals;
+#[cfg(test)]
 mod scenes;
 #[cfg(test)]
 mod servers;

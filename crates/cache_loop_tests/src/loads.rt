@@ -338,7 +338,7 @@ const PLAIN: Config = Config {
 };
 
 /// A service of one namespace without limits.
-fn make_service(alloc: Global) -> Option<Service>
+pub fn make_service(alloc: Global) -> Option<Service>
     ensures { IfSome result (StandsAfter false (PLAIN ∷ []) bare_spaces no_journals 0) }
 {
     let generator = Xoshiro256PlusPlus::seed_from_u64(1);
