@@ -58,8 +58,8 @@ SECONDS = 600
 SERVER, IN_A_ROW = "bivrangd", 12
 # The modules of a crate in which tests say themselves which requests are refused.
 SAYING = ("without_memory::", "refused_in_turn::")
-# Tests that take no second try, by crate and the beginning of their names: why.
-SECOND_TRY_LACKS = {}
+# Tests that take no second try, by the beginning of their names: why.
+SECOND_TRY_LACKS = {"refused_in_turn::": "says itself which request is refused, and makes the call once"}
 
 
 class Refuser:
@@ -344,9 +344,9 @@ def tests_of(program, word):
     return [name for name in names if word in name]
 
 
-def lacks_second_try(crate, name):
+def lacks_second_try(name):
     """Why a test takes no second try, if it does not."""
-    return next((why for (of, begin), why in SECOND_TRY_LACKS.items() if of == crate and name.startswith(begin)), None)
+    return next((why for begin, why in SECOND_TRY_LACKS.items() if name.startswith(begin)), None)
 
 
 def programs_of_tests(folder, crate):
@@ -408,7 +408,7 @@ class Table:
         copy = os.path.join(self.refuser.folder, crate)
         shutil.copy(program, copy)
         names = tests_of(copy, self.words.word)
-        lacking = {name: why for name in names if (why := lacks_second_try(crate, name))}
+        lacking = {name: why for name in names if (why := lacks_second_try(name))}
         names = [name for name in names if name not in lacking]
         swept = collections.defaultdict(dict)
         own = own_places(copy, crate, self.refuser.folder)
