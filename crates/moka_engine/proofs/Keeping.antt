@@ -21,8 +21,17 @@ use Rattle.engine_reference.proofs.run_laws.Fronting.{each-at}
 use Rattle.engine_reference.proofs.run_laws.Swept.{changed-from}
 use Rattle.engine_cells.specs.Kept.{Kept}
 use Rattle.engine_calls.specs.Bounds.{IsBounded, AreBounded}
+use Rattle.engine_calls.specs.Finding.{WasFound}
 use Rattle.moka_engine.specs.Keeping.{IsWellKept, NotesRead}
 use Rattle.moka_engine.proofs.RunsKeep.{IsSame, ComeFrom, run-keeps}
+
+-- what was found was found by some hash
+pub found_so : {K V P S R : Type 0} (t : Kept K V P S R) (hash : ℕ) (place : Option ℕ) (o : Option (Record K V)) → WasFound t hash place o → (h : ℕ) × (p : Option (Record K V)) × WasFound t h place p
+found_so t hash place o w = (hash, o, w)
+
+-- what keeps a cache sound
+pub kept_sound : {K V P S R : Type 0} (s : State K V P S R) → IsWellKept s → ∥ IsSound s ∥₁
+kept_sound s k = k.sound
 
 both-true : (a b : Bool) → (a && b) ≡ true → (a ≡ true) × (b ≡ true)
 both-true true b h = (refl, h)

@@ -274,6 +274,7 @@ impl<K: Eq + Hash, V, S: BuildHasher, R: Rules<K, V>> BaseCache<K, V, S, R> {
     /// sent as it began, the counts are exact; if moments never fell and steps rose as well, nothing that is due is left. If half the
     /// capacity is held and the sketch has no table, it is created first. Returns an error if there was not enough memory for the table;
     /// the run is complete without it.
+    #[tactic(auto, using(crate::proofs::Keeping::kept_sound))]
     pub fn try_run_pending_tasks(&mut self, now: Instant) -> Result<(), AllocError>
     where
         K: Drop,
@@ -290,6 +291,7 @@ impl<K: Eq + Hash, V, S: BuildHasher, R: Rules<K, V>> BaseCache<K, V, S, R> {
     }
 
     /// Runs maintenance to its end, whether or not there is enough memory for the sketch's table.
+    #[tactic(auto, using(crate::proofs::Keeping::kept_sound))]
     pub fn run_pending_tasks(&mut self, now: Instant)
     where
         K: Drop,
@@ -311,6 +313,7 @@ impl<K: Eq + Hash, V, S: BuildHasher, R: Rules<K, V>> BaseCache<K, V, S, R> {
     }
 
     /// Runs maintenance if it is due: if 64 reads or 64 writes are pending, or 300 milliseconds after the last run.
+    #[tactic(auto, using(crate::proofs::Keeping::kept_sound))]
     pub fn apply_reads_writes_if_needed(&mut self, now: Instant)
     where
         K: Drop,

@@ -13,6 +13,7 @@ use policy_base::Instant;
 use std::hash::{BuildHasher, Hash};
 
 /// Runs maintenance. Then the record that was found in a place is used, if it is still there, and its read waits to be counted.
+#[tactic(auto, using(crate::proofs::Keeping::kept_sound))]
 fn note_after_run<K: Eq + Hash + Drop, V: Drop, S: BuildHasher, R: Rules<K, V>>(
     tables: &mut Tables<K, V, S, R>,
     place: usize,
@@ -52,6 +53,7 @@ fn note_hit<K: Eq + Hash + Drop, V: Drop, S: BuildHasher, R: Rules<K, V>>(
 
 /// Runs maintenance if it is due. Then the read of what was found waits to be counted. A record that was found counts as used, if it is
 /// still there.
+#[tactic(auto, using(crate::proofs::Keeping::kept_sound))]
 pub fn note_read<K: Eq + Hash + Drop, V: Drop, S: BuildHasher, R: Rules<K, V>>(
     tables: &mut Tables<K, V, S, R>,
     place: Option<usize>,

@@ -56,6 +56,7 @@ impl<K: Eq + Hash, V, S: BuildHasher, R: Rules<K, V>> BaseCache<K, V, S, R> {
 
     /// Looks a key up without a clone: `see` is passed the visible value, if there is one, and what is behind `output`. If `see` returns
     /// `Ok`, the call is a use of the value, before which maintenance runs if it is due. If `see` returns `Err`, nothing has changed.
+    #[tactic(auto, using(crate::proofs::Keeping::found_so))]
     pub fn look_up_with_hash<
         Q: Names<K>,
         O,

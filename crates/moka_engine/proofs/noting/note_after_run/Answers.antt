@@ -7,9 +7,6 @@ use Rattle.moka_engine.proofs.Keeping.{well-run}
 use Rattle.moka_engine.proofs.Afterwards.{run-room, run-made, run-holds, noted-after_run}
 use Rattle.moka_engine.proofs.noting.note_after_run.Goals as goal
 
-pub run-requires : goal.run-requires
-run-requires g c = c.requires.kept.sound
-
 pub use_found-requires-clause-room : goal.use_found-requires-clause-room
 use_found-requires-clause-room g c = let a = g.R.Rules.answers in run-room a c.as_nanos.result _ _ (c.run.ensures.runs a refl)
 

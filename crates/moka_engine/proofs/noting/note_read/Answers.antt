@@ -12,9 +12,6 @@ note_hit-requires-clause-found g c =
 pub returns-in-Some : goal.returns-in-Some
 returns-in-Some g c = λ o w. c.note_hit.ensures o (subst (λ p. WasFound c.args.tables.now c.args.hash p o) c.in-Some.is w)
 
-pub run_if_due-requires : goal.run_if_due-requires
-run_if_due-requires g c = c.requires.kept.sound
-
 pub returns-in-None : goal.returns-in-None
 returns-in-None g c = λ o w.
     let a = g.R.Rules.answers in

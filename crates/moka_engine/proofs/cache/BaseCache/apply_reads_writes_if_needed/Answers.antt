@@ -4,9 +4,6 @@ use Rattle.engine_reference.specs.State.{State}
 use Rattle.moka_engine.proofs.Keeping.{well-maintained}
 use Rattle.moka_engine.proofs.cache.BaseCache.apply_reads_writes_if_needed.Goals as goal
 
-pub run_if_due-requires : goal.run_if_due-requires
-run_if_due-requires g c = c.self.invariant.sound
-
 pub invariant_of-self : goal.invariant_of-self
 invariant_of-self g c = let a = g.R.Rules.answers in well-maintained a c.as_nanos.result _ _ c.self.invariant (c.run_if_due.ensures.due a refl)
 

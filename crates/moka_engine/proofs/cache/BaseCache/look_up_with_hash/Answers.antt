@@ -9,9 +9,6 @@ use Rattle.moka_engine.proofs.Keeping.{well-noted}
 use Rattle.moka_engine.proofs.Shown.{shown-as, value-of}
 use Rattle.moka_engine.proofs.cache.BaseCache.look_up_with_hash.Goals as goal
 
-pub value_in-requires : goal.value_in-requires
-value_in-requires g c = (c.args.hash, _, c.find-found.ensures)
-
 pub note_read-requires-clause-kept : goal.note_read-requires-clause-kept
 note_read-requires-clause-kept g c = c.self.invariant
 

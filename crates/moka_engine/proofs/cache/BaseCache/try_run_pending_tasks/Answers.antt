@@ -5,9 +5,6 @@ use Rattle.engine_reference.specs.State.{State}
 use Rattle.moka_engine.proofs.Keeping.{well-run}
 use Rattle.moka_engine.proofs.cache.BaseCache.try_run_pending_tasks.Goals as goal
 
-pub try_run-requires : goal.try_run-requires
-try_run-requires g c = c.self.invariant.sound
-
 pub invariant_of-self : goal.invariant_of-self
 invariant_of-self g c = let a = g.R.Rules.answers in well-run a c.as_nanos.result _ _ c.self.invariant (c.try_run.ensures.runs a refl)
 
