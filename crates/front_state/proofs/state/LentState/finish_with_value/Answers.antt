@@ -10,12 +10,17 @@ pub part_mut-part-requires : goal.part_mut-part-requires
 part_mut-part-requires g c =
     all_parts (ways_by g.R.Rules g.K.PartialEq.eq g.K.Hash.hash_input g.S.BuildHasher g.S.Hasher.Hasher) _ c.self.invariant
 
-pub insert_or_back-requires : goal.insert_or_back-requires
-insert_or_back-requires g c =
+pub insert_or_back-requires-clause-hashed : goal.insert_or_back-requires-clause-hashed
+insert_or_back-requires-clause-hashed g c =
     let ways = (ways_by g.R.Rules g.K.PartialEq.eq g.K.Hash.hash_input g.S.BuildHasher g.S.Hasher.Hasher) in
     let is = turn_hashed ways g.met.K.Eq.laws _ c.args.number c.in-Some.turn.now c.self.invariant (sym c.in-Some.ensures) in
-    let part = open_part ways _ c.in-Some.turn.now.hash c.in-Ok.key c.part_mut-part.result.now c.self.invariant (is ∙ ap (λ k. ways.hash c.self.inside.hasher k) (sym c.in-Ok.ensures.cases)) c.part_mut-part.ensures.there in
-    record { hashed = part.hashed; ready = part.ready }
+    (open_part ways _ c.in-Some.turn.now.hash c.in-Ok.key c.part_mut-part.result.now c.self.invariant (is ∙ ap (λ k. ways.hash c.self.inside.hasher k) (sym c.in-Ok.ensures.cases)) c.part_mut-part.ensures.there).hashed
+
+pub insert_or_back-requires-clause-ready : goal.insert_or_back-requires-clause-ready
+insert_or_back-requires-clause-ready g c =
+    let ways = (ways_by g.R.Rules g.K.PartialEq.eq g.K.Hash.hash_input g.S.BuildHasher g.S.Hasher.Hasher) in
+    let is = turn_hashed ways g.met.K.Eq.laws _ c.args.number c.in-Some.turn.now c.self.invariant (sym c.in-Some.ensures) in
+    (open_part ways _ c.in-Some.turn.now.hash c.in-Ok.key c.part_mut-part.result.now c.self.invariant (is ∙ ap (λ k. ways.hash c.self.inside.hasher k) (sym c.in-Ok.ensures.cases)) c.part_mut-part.ensures.there).ready
 
 pub invariant_of-self : goal.invariant_of-self
 invariant_of-self g c =

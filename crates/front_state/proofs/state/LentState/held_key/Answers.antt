@@ -10,12 +10,15 @@ pub part_ref-part-requires : goal.part_ref-part-requires
 part_ref-part-requires g c =
     all_parts (ways_by g.R.Rules g.K.PartialEq.eq g.K.Hash.hash_input g.S.BuildHasher g.S.Hasher.Hasher) _ c.self.invariant
 
-pub get_key_with_hash-requires : goal.get_key_with_hash-requires
-get_key_with_hash-requires g c =
+pub get_key_with_hash-requires-clause-hashed : goal.get_key_with_hash-requires-clause-hashed
+get_key_with_hash-requires-clause-hashed g c =
     let ways = (ways_by g.R.Rules g.K.PartialEq.eq g.K.Hash.hash_input g.S.BuildHasher g.S.Hasher.Hasher) in
     let key = c.args.key.now in
     let is = c.requires.hashed ∙ ap (λ f. hash_in ways f key) (sym c.self.view_is) in
-    record { hashed = (open_part ways _ c.args.hash key c.part_ref-part.result.now c.self.invariant is c.part_ref-part.ensures).hashed; exact_key = λ x y same. same }
+    (open_part ways _ c.args.hash key c.part_ref-part.result.now c.self.invariant is c.part_ref-part.ensures).hashed
+
+pub get_key_with_hash-requires-clause-exact_key : goal.get_key_with_hash-requires-clause-exact_key
+get_key_with_hash-requires-clause-exact_key g c = λ x y same. same
 
 pub returns-clause-found : goal.returns-clause-found
 returns-clause-found g c =

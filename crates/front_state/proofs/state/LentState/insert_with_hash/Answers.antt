@@ -9,14 +9,21 @@ pub part_mut-part-requires : goal.part_mut-part-requires
 part_mut-part-requires g c =
     all_parts (ways_by g.R.Rules g.K.PartialEq.eq g.K.Hash.hash_input g.S.BuildHasher g.S.Hasher.Hasher) _ c.self.invariant
 
-pub insert-requires : goal.insert-requires
-insert-requires g c =
+pub insert-requires-clause-hashed : goal.insert-requires-clause-hashed
+insert-requires-clause-hashed g c =
     let ways = (ways_by g.R.Rules g.K.PartialEq.eq g.K.Hash.hash_input g.S.BuildHasher g.S.Hasher.Hasher) in
     let key = g.Q.Names.named_key c.args.name in
     let is = c.requires.hashed ∙ ap (λ f. hash_in ways f key) (sym c.self.view_is) in
     let own = is ∙ ap (λ k. ways.hash c.self.inside.hasher k) (sym c.in_ok-key.ensures) in
-    let part = open_part ways _ c.args.hash c.in_ok-key.key c.part_mut-part.result.now c.self.invariant own c.part_mut-part.ensures.there in
-    record { hashed = part.hashed; ready = part.ready }
+    (open_part ways _ c.args.hash c.in_ok-key.key c.part_mut-part.result.now c.self.invariant own c.part_mut-part.ensures.there).hashed
+
+pub insert-requires-clause-ready : goal.insert-requires-clause-ready
+insert-requires-clause-ready g c =
+    let ways = (ways_by g.R.Rules g.K.PartialEq.eq g.K.Hash.hash_input g.S.BuildHasher g.S.Hasher.Hasher) in
+    let key = g.Q.Names.named_key c.args.name in
+    let is = c.requires.hashed ∙ ap (λ f. hash_in ways f key) (sym c.self.view_is) in
+    let own = is ∙ ap (λ k. ways.hash c.self.inside.hasher k) (sym c.in_ok-key.ensures) in
+    (open_part ways _ c.args.hash c.in_ok-key.key c.part_mut-part.result.now c.self.invariant own c.part_mut-part.ensures.there).ready
 
 pub invariant_of-self : goal.invariant_of-self
 invariant_of-self g c =
