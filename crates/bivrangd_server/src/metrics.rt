@@ -154,6 +154,31 @@ impl Page {
         self.text.push_str(line?.as_str())
     }
 
+    /// Adds a figure of each namespace that has it.
+    fn figure(
+        &mut self,
+        figure: Figure,
+        name: &str,
+        sources: &[Source],
+        readings: &[Reading],
+    ) -> Result<(), AllocError> {
+        for (source, reading) in sources.iter().zip(readings) {
+            if let Some(number) = figure.of(reading) {
+                self.number(name, source, number)?;
+            }
+        }
+        Ok(())
+    }
+
+    /// Adds all figures.
+    fn all_figures(&mut self, sources: &[Source], readings: &[Reading]) -> Result<(), AllocError> {
+        for (figure, name, kind, help) in &FIGURES {
+            self.head(*name, *kind, *help)?;
+            self.figure(*figure, *name, sources, readings)?;
+        }
+        Ok(())
+    }
+
     /// Adds how many values have left a namespace, by cause.
     fn departures(&mut self, source: &Source, reading: &Reading) -> Result<(), AllocError> {
         let left = reading.departures;
@@ -165,6 +190,36 @@ impl Page {
         ];
         for (cause, count) in &causes {
             self.labelled("removals_total", source, ("cause", *cause), *count)?;
+        }
+        Ok(())
+    }
+
+    /// Adds how many values have left each namespace.
+    fn all_departures(
+        &mut self,
+        sources: &[Source],
+        readings: &[Reading],
+    ) -> Result<(), AllocError> {
+        self.head(
+            "removals_total",
+            "counter",
+            "Values that have left, by cause.",
+        )?;
+        for (source, reading) in sources.iter().zip(readings) {
+            self.departures(source, reading)?;
+        }
+        Ok(())
+    }
+
+    /// Adds how long the turns of each namespace took.
+    fn all_turns(&mut self, sources: &[Source], readings: &[Reading]) -> Result<(), AllocError> {
+        self.head(
+            "turn_seconds",
+            "histogram",
+            "How long a turn of a connection took.",
+        )?;
+        for (source, reading) in sources.iter().zip(readings) {
+            self.turns(source, reading)?;
         }
         Ok(())
     }
@@ -201,29 +256,8 @@ pub fn show_metrics<R: Machine>(
         alloc,
         text: String::new(alloc),
     };
-    for (figure, name, kind, help) in &FIGURES {
-        page.head(*name, *kind, *help)?;
-        for (source, reading) in sources.iter().zip(&readings) {
-            if let Some(number) = figure.of(reading) {
-                page.number(*name, source, number)?;
-            }
-        }
-    }
-    page.head(
-        "removals_total",
-        "counter",
-        "Values that have left, by cause.",
-    )?;
-    for (source, reading) in sources.iter().zip(&readings) {
-        page.departures(source, reading)?;
-    }
-    page.head(
-        "turn_seconds",
-        "histogram",
-        "How long a turn of a connection took.",
-    )?;
-    for (source, reading) in sources.iter().zip(&readings) {
-        page.turns(source, reading)?;
-    }
+    page.all_figures(sources, &readings)?;
+    page.all_departures(sources, &readings)?;
+    page.all_turns(sources, &readings)?;
     Ok(page.text)
 }
