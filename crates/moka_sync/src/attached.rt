@@ -113,7 +113,7 @@ impl<
         ensures suits { IfOk result (λ a. Suits kind a.0) }
         ensures cause { IfErr result (IsMakingRefusal kind) }
     {
-        let desk = self.cache.inner.desks.of(&*key);
+        let desk = self.cache.inner.of(&*key);
         match kind {
             Some(kind) => {
                 desk.coalesce_asking_once(
@@ -139,11 +139,8 @@ impl<
         ensures does { IfOk result (DoesAsDecided (λ seen decided. D.post decide seen decided)) }
         ensures cause { IfErr result IsEndRefusal }
     {
-        self.cache
-            .inner
-            .desks
-            .of(&*key)
-            .compute(&self.rt, &key, decide)
+        let desk = self.cache.inner.of(&*key);
+        desk.compute(&self.rt, &key, decide)
     }
 
     /// Returns an iterator over the visible keys, each once and in any order, with clones of their values. The iterator holds the lock

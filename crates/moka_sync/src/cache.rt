@@ -6,7 +6,7 @@ ghost use Rattle.front_reference.specs.declared.errors.CacheError.TheVariants as
 ghost use Rattle.front_state.specs.Reading.{ShowsPolicy};
 ghost use Rattle.sync_desk.specs.Slots.Refusals.{IsShortage};
 
-use crate::desks::Desks;
+use crate::inner::Inner;
 use engine_reference::{Policy, Rules};
 use front_reference::CacheError;
 use front_state::{LentState, Segmented, Single};
@@ -14,14 +14,6 @@ use std::alloc::{AllocError, Global};
 use std::hash::{BuildHasher, Hash};
 use std::sync::{Arc, Wait};
 use sync_desk::Env;
-
-/// What is under the lock, and the properties of a cache that never change.
-#[derive(Drop)]
-pub(crate) struct Inner<K: Eq + Hash, V, S: BuildHasher, R: Rules<K, V>, E: Env, C> {
-    pub(crate) desks: Desks<K, V, S, R, E, C>,
-    pub(crate) name: Option<String>,
-    pub(crate) policy: Policy,
-}
 
 /// A cache of one segment that threads share. Its calls are those of `SharedCache`.
 /// ```
@@ -80,17 +72,6 @@ impl<
     }
 }
 
-/// A copy of a cache's name.
-fn copy_name(alloc: Global, name: Option<&str>) -> Result<Option<String>, AllocError>
-    ensures { IfOk result
-        (λ copy. option_map string_bytes copy ≡ option_map (λ text. text.now) name.entry) }
-{
-    match name {
-        Some(name) => Ok(Some(String::from_str(alloc, name)?)),
-        None => Ok(None),
-    }
-}
-
 impl<
     K: Eq + Hash + Drop,
     V: Clone + Drop,
@@ -109,17 +90,8 @@ impl<
             option_map string_bytes (arc_value cache.inner).name ≡ state.name) }
         ensures policy { IfOk result (λ cache. ShowsPolicy state (arc_value cache.inner).policy) }
     {
-        let name = copy_name(alloc, state.name())?;
-        let policy = state.policy();
-        let desks = Desks::one(alloc, state, env)?;
-        let inner = Arc::new(
-            alloc,
-            Inner {
-                desks,
-                name,
-                policy,
-            },
-        )?;
+        let made = Inner::one(alloc, state, env)?;
+        let inner = Arc::new(alloc, made)?;
         Ok(SharedCache { inner, alloc })
     }
 
@@ -145,13 +117,23 @@ impl<
     /// Returns the number of entries as of each segment's last maintenance run, at most 2^64 - 1. The number is exact after
     /// `run_pending_tasks`.
     pub fn entry_count(&self, rt: &impl Wait) -> u64 {
-        self.inner.desks.entry_count(rt)
+        let mut sum = 0u64;
+        for desk in self.inner.desks.iter() {
+            let guard = desk.lock_untimed(rt);
+            sum = sum.saturating_add(guard.entry_count());
+        }
+        sum
     }
 
     /// Returns the total weight of the entries as of each segment's last maintenance run, at most 2^64 - 1. The weight is exact after
     /// `run_pending_tasks`.
     pub fn weighted_size(&self, rt: &impl Wait) -> u64 {
-        self.inner.desks.weighted_size(rt)
+        let mut sum = 0u64;
+        for desk in self.inner.desks.iter() {
+            let guard = desk.lock_untimed(rt);
+            sum = sum.saturating_add(guard.weighted_size());
+        }
+        sum
     }
 
     /// Returns a clone of the value of a key, or `None` if none is visible. The call counts as a use of the value: it restarts the value's
@@ -163,7 +145,7 @@ impl<
         requires exact { (x y : V) → V.is_clone x y → y ≡ x }
         ensures cause { IfErr result IsShortage }
     {
-        let mut guard = self.inner.desks.lock_of(rt, key);
+        let mut guard = self.inner.lock_of(rt, key);
         let desk = &mut *guard;
         desk.get(key)
     }
@@ -171,7 +153,7 @@ impl<
     /// Returns whether a key has a visible value: one that is neither expired nor invalidated. The call does not count as a use, and never
     /// fails.
     pub fn contains_key(&self, rt: &impl Wait, key: &K) -> bool {
-        let mut guard = self.inner.desks.lock_of(rt, key);
+        let mut guard = self.inner.lock_of(rt, key);
         let desk = &mut *guard;
         desk.contains_key(key)
     }
@@ -182,7 +164,7 @@ impl<
     pub fn insert(&self, rt: &impl Wait, key: K, value: V) -> Result<(), CacheError>
         ensures cause { IfErr result IsShortage }
     {
-        let mut guard = self.inner.desks.lock_of(rt, &key);
+        let mut guard = self.inner.lock_of(rt, &key);
         let desk = &mut *guard;
         desk.insert(key, value)
     }
@@ -194,7 +176,7 @@ impl<
         requires exact { (x y : V) → V.is_clone x y → y ≡ x }
         ensures cause { IfErr result IsShortage }
     {
-        let mut guard = self.inner.desks.lock_of(rt, key);
+        let mut guard = self.inner.lock_of(rt, key);
         let desk = &mut *guard;
         desk.remove(key)
     }
@@ -204,7 +186,7 @@ impl<
         requires exact { (x y : V) → V.is_clone x y → y ≡ x }
         ensures cause { IfErr result IsShortage }
     {
-        let mut guard = self.inner.desks.lock_of(rt, key);
+        let mut guard = self.inner.lock_of(rt, key);
         let desk = &mut *guard;
         desk.invalidate(key)
     }
@@ -215,7 +197,12 @@ impl<
     pub fn invalidate_all(&self, rt: &impl Wait) -> Result<(), CacheError>
         ensures cause { IfErr result (λ e. e ≡ errors.UsedUp) }
     {
-        self.inner.desks.invalidate_all(rt)
+        for desk in self.inner.desks.iter() {
+            let mut guard = desk.lock(rt);
+            let desk = &mut *guard;
+            desk.invalidate_all()?;
+        }
+        Ok(())
     }
 
     /// Runs the maintenance of every segment to its end: it removes values that have expired or were invalidated, and evicts those above
@@ -225,6 +212,11 @@ impl<
     pub fn run_pending_tasks(&self, rt: &impl Wait) -> Result<(), CacheError>
         ensures cause { IfErr result (λ e. e ≡ errors.UsedUp) }
     {
-        self.inner.desks.run_pending_tasks(rt)
+        for desk in self.inner.desks.iter() {
+            let mut guard = desk.lock(rt);
+            let desk = &mut *guard;
+            desk.run_pending_tasks()?;
+        }
+        Ok(())
     }
 }

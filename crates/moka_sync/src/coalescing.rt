@@ -37,7 +37,7 @@ impl<
         requires callable { M.IsAlwaysCallable make }
         ensures cause { IfErr result IsTurnRefusal }
     {
-        let desk = self.inner.desks.of(&key);
+        let desk = self.inner.of(&key);
         let asked = OwnedKey {
             key,
             alloc: self.alloc,
@@ -64,7 +64,7 @@ impl<
         requires callable { M.IsAlwaysCallable make }
         ensures cause { IfErr result IsTurnRefusal }
     {
-        let desk = self.inner.desks.of(key);
+        let desk = self.inner.of(key);
         let asked = ClonedKey {
             key,
             alloc: self.alloc,
@@ -90,7 +90,7 @@ impl<
         requires callable { P.IsAlwaysCallable replace_if × M.IsAlwaysCallable make }
         ensures cause { IfErr result IsTurnRefusal }
     {
-        let desk = self.inner.desks.of(&key);
+        let desk = self.inner.of(&key);
         let asked = OwnedKey {
             key,
             alloc: self.alloc,
@@ -113,7 +113,7 @@ impl<
         requires callable { M.IsAlwaysCallable make }
         ensures cause { IfErr result IsTurnRefusal }
     {
-        let desk = self.inner.desks.of(&key);
+        let desk = self.inner.of(&key);
         let asked = OwnedKey {
             key,
             alloc: self.alloc,
@@ -136,7 +136,7 @@ impl<
         requires callable { M.IsAlwaysCallable make }
         ensures cause { IfErr result IsTurnRefusal }
     {
-        let desk = self.inner.desks.of(key);
+        let desk = self.inner.of(key);
         let asked = ClonedKey {
             key,
             alloc: self.alloc,
@@ -162,7 +162,7 @@ impl<
         requires callable { M.IsAlwaysCallable make }
         ensures cause { IfErr result IsTurnRefusal }
     {
-        let desk = self.inner.desks.of(&key);
+        let desk = self.inner.of(&key);
         let asked = OwnedKey {
             key,
             alloc: self.alloc,
@@ -185,7 +185,7 @@ impl<
         requires callable { M.IsAlwaysCallable make }
         ensures cause { IfErr result IsTurnRefusal }
     {
-        let desk = self.inner.desks.of(key);
+        let desk = self.inner.of(key);
         let asked = ClonedKey {
             key,
             alloc: self.alloc,

@@ -50,7 +50,7 @@ impl<
         requires exact { (x y : V) → V.is_clone x y → y ≡ x }
         ensures cause { IfErr result (λ e. e ≡ errors.OutOfMemory) }
     {
-        match self.inner.desks.keys(rt, segment)? {
+        match self.inner.keys(rt, segment)? {
             Some(keys) => Ok(keys),
             None => Ok(Vec::new(self.alloc)),
         }
@@ -61,7 +61,7 @@ impl<
         requires exact { (x y : V) → V.is_clone x y → y ≡ x }
         ensures cause { IfErr result (λ e. e ≡ errors.OutOfMemory) }
     {
-        let mut guard = self.inner.desks.lock_of(rt, &**key);
+        let mut guard = self.inner.lock_of(rt, &**key);
         let desk = &mut *guard;
         desk.scan(&**key)
     }

@@ -8,7 +8,7 @@ mod cache;
 mod coalescing;
 mod computing;
 mod covering;
-mod desks;
+mod inner;
 mod iterator;
 mod making;
 mod naming;

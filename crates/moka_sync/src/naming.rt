@@ -31,7 +31,7 @@ impl<
         requires exact { (x y : V) → V.is_clone x y → y ≡ x }
         ensures cause { IfErr result IsShortage }
     {
-        let mut guard = self.inner.desks.lock_named(rt, name);
+        let mut guard = self.inner.lock_named(rt, name);
         let desk = &mut *guard;
         desk.get_by_name(name)
     }
@@ -41,7 +41,7 @@ impl<
     /// let is_known = cache.contains_key_by_name(&rt, &TextName::new("pear"));
     /// ```
     pub fn contains_key_by_name<Q: HashedName<K>>(&self, rt: &impl Wait, name: &Q) -> bool {
-        let mut guard = self.inner.desks.lock_named(rt, name);
+        let mut guard = self.inner.lock_named(rt, name);
         let desk = &mut *guard;
         desk.contains_key_by_name(name)
     }
@@ -58,7 +58,7 @@ impl<
         requires exact { (x y : V) → V.is_clone x y → y ≡ x }
         ensures cause { IfErr result IsShortage }
     {
-        let mut guard = self.inner.desks.lock_named(rt, name);
+        let mut guard = self.inner.lock_named(rt, name);
         let desk = &mut *guard;
         desk.remove_by_name(name)
     }
@@ -75,7 +75,7 @@ impl<
         requires exact { (x y : V) → V.is_clone x y → y ≡ x }
         ensures cause { IfErr result IsShortage }
     {
-        let mut guard = self.inner.desks.lock_named(rt, name);
+        let mut guard = self.inner.lock_named(rt, name);
         let desk = &mut *guard;
         desk.invalidate_by_name(name)
     }

@@ -38,7 +38,7 @@ impl<
         requires callable { M.IsAlwaysCallable make }
         ensures cause { IfErr result IsTurnRefusal }
     {
-        let desk = self.inner.desks.of(&key);
+        let desk = self.inner.of(&key);
         let asked = OwnedKey {
             key,
             alloc: self.alloc,

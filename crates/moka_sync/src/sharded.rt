@@ -10,9 +10,9 @@ ghost use Rattle.moka_sync.specs.Spreading.{desk_number};
 ghost use Rattle.sync_desk.specs.Slots.Refusals.{IsCoverRefusal};
 
 use crate::building::Build;
-use crate::cache::{Inner, SharedCache};
+use crate::cache::SharedCache;
 use crate::covering::AllDesks;
-use crate::desks::Desks;
+use crate::inner::Inner;
 use crate::sizing::shards_for;
 use engine_reference::{Bundle, Expiry, Hashes, Policy, Predicate, Rules, Weigher};
 use front_reference::{CacheError, Shared};
@@ -73,15 +73,8 @@ impl<
             capacity,
         } = shards;
         let policy = policy_of(&states[0], states.len(), capacity);
-        let desks = Desks::of_shards(alloc, states, bits, hasher, env)?;
-        let inner = Arc::new(
-            alloc,
-            Inner {
-                desks,
-                name,
-                policy,
-            },
-        )?;
+        let made = Inner::of_shards(alloc, states, bits, hasher, env, name, policy)?;
+        let inner = Arc::new(alloc, made)?;
         Ok(SharedCache { inner, alloc })
     }
 }
@@ -213,12 +206,12 @@ impl<
     /// ```
     pub fn shard(&self, key: &K) -> usize
         ensures number { result ≡ desk_number (⟦<S as Hashes<K>>⟧.hash)
-            (arc_value self.now.inner).desks.spread key.now }
+            (arc_value self.now.inner).spread key.now }
         ensures alike { (other : K) → K.eq key.now other ≡ true
-            → desk_number (⟦<S as Hashes<K>>⟧.hash) (arc_value self.now.inner).desks.spread other
+            → desk_number (⟦<S as Hashes<K>>⟧.hash) (arc_value self.now.inner).spread other
             ≡ result }
     {
-        self.inner.desks.number_of(key)
+        self.inner.number_of(key)
     }
 
     /// Reads the moment, and then takes the locks of all shards, in their order. No other call takes a lock while it has one, so no two
@@ -227,12 +220,12 @@ impl<
         &'a self,
         rt: &H,
     ) -> Result<AllDesks<'a, K, V, S, R, E::Generator>, AllocError> {
-        let desks: &'a Desks<K, V, S, R, E, Sharded> = &self.inner.desks;
-        let count = desks.count();
-        let moment = desks.first().moment();
+        let inner: &'a Inner<K, V, S, R, E, Sharded> = &*self.inner;
+        let count = inner.desks.len();
+        let moment = inner.first().moment();
         let mut guards = Vec::with_capacity(self.alloc, count)?;
         for number in 0..count {
-            guards.push(desks.get(number).lock_at(rt, moment))?;
+            guards.push(inner.get(number).lock_at(rt, moment))?;
         }
         Ok(AllDesks::new(guards))
     }

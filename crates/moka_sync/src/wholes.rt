@@ -7,9 +7,11 @@ use crate::cache::SharedCache;
 use engine_reference::Rules;
 use front_reference::{CacheError, Shared};
 use front_state::{Notice, PredicateId, Segmented, Single};
+use rand_core::Rng;
 use std::hash::{BuildHasher, Hash};
 use std::sync::Wait;
-use sync_desk::Env;
+use std::sync::atomic::Ordering;
+use sync_desk::{Desk, Env};
 
 /// The older name of `run_pending_tasks`, as a trait.
 pub trait ConcurrentCacheExt {
@@ -52,7 +54,7 @@ impl<
     ) -> Result<PredicateId, CacheError>
         ensures cause { IfErr result IsCoverRefusal }
     {
-        let mut guard = self.inner.desks.first().lock(rt);
+        let mut guard = self.inner.first().lock(rt);
         let desk = &mut *guard;
         desk.invalidate_entries_if(predicate)
     }
@@ -79,9 +81,26 @@ impl<
     ) -> Result<(), CacheError>
         ensures cause { IfErr result IsCoverRefusal }
     {
-        let mut guard = self.inner.desks.first().lock(rt);
+        let mut guard = self.inner.first().lock(rt);
         let desk = &mut *guard;
         desk.invalidate_entries_if(predicate)
+    }
+}
+
+/// Adds the notices of a desk to a vector, as many as it has room for, the oldest first.
+fn take_from<
+    K: Eq + Hash + Drop,
+    V: Clone + Drop,
+    S: BuildHasher + Drop,
+    R: Rules<K, V> + Drop,
+    G: Rng + Drop,
+    C: Drop,
+>(desk: &mut Desk<K, V, S, R, G, C>, notices: &mut Vec<Notice<Shared<K>, V>>) {
+    while notices.len() < notices.capacity() {
+        match desk.next_notice() {
+            Some(notice) => notices.push_reserved(notice),
+            None => return,
+        }
     }
 }
 
@@ -102,7 +121,21 @@ impl<
     /// }
     /// ```
     pub fn next_notice(&self, rt: &impl Wait) -> Option<Notice<Shared<K>, V>> {
-        self.inner.desks.next_notice(rt)
+        let inner = &*self.inner;
+        let count = inner.desks.len();
+        let first = inner.ask_next();
+        for step in 0..count {
+            let number = first.wrapping_add(step) % count;
+            let mut guard = inner.desks[number].lock_untimed(rt);
+            let desk = &mut *guard;
+            let notice = desk.next_notice();
+            drop(guard);
+            if notice.is_some() {
+                inner.next_asked.store(number, Ordering::SeqCst);
+                return notice;
+            }
+        }
+        None
     }
 
     /// Adds notices to a vector, as many as it has room for, the oldest of a segment first. The call takes each lock at most once, and
@@ -112,6 +145,20 @@ impl<
     /// cache.take_notices(&rt, &mut notices);
     /// ```
     pub fn take_notices(&self, rt: &impl Wait, notices: &mut Vec<Notice<Shared<K>, V>>) {
-        self.inner.desks.take_notices(rt, notices);
+        let inner = &*self.inner;
+        let count = inner.desks.len();
+        let first = inner.ask_next();
+        inner
+            .next_asked
+            .store(first.wrapping_add(1), Ordering::SeqCst);
+        for step in 0..count {
+            if notices.len() == notices.capacity() {
+                return;
+            }
+            let number = first.wrapping_add(step) % count;
+            let mut guard = inner.desks[number].lock_untimed(rt);
+            let desk = &mut *guard;
+            take_from(desk, notices);
+        }
     }
 }

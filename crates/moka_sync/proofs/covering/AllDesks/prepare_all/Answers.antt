@@ -1,6 +1,6 @@
 use Rattle.std.proofs.Common.{◌≡◌, ◌∙◌, ap, arith, length, refl, rules, subst, sym}
 use Rattle.std.specs.Prelude.{slice_get}
-use Rattle.front_parts.proofs.wholes.Firsts.{first-length, undone}
+use Rattle.front_parts.proofs.wholes.Firsts.{set-length, undone}
 use Rattle.front_parts.specs.Wholes.Firsts.{changed_first}
 use Rattle.moka_sync.proofs.Shards.{behind, item, may_more, may_none, one_further, prepared_first, released_back, shards_caused}
 use Rattle.moka_sync.specs.Covering.{MayCoverEach, prepared, released}
@@ -9,18 +9,12 @@ use Rattle.moka_sync.proofs.covering.AllDesks.prepare_all.Goals as goal
 pub loop-number-init : goal.loop-number-init
 loop-number-init g c = record {
   far = refl;
+  same = refl;
   drawn = ap length c.requires.empty;
   may = may_none c.args.ids.now.items c.args.self.now c.requires.empty;
   room = c.requires.room;
   count = search rules;
 }
-
-pub prepare_at-requires : goal.prepare_at-requires
-prepare_at-requires g c =
-    let low = c.loop-number-test.true in
-    let count = c.loop-number.invariant.count in
-    let long = ap length c.loop-number.invariant.far ∙ first-length (λ k. prepared) c.loop-number.number c.args.self.now in
-    omega arith
 
 pub push_reserved-requires : goal.push_reserved-requires
 push_reserved-requires g c =
@@ -37,11 +31,12 @@ loop-number-preserved g c =
     let count = c.loop-number.invariant.count in
     let drawn = c.loop-number.invariant.drawn in
     let room = c.loop-number.invariant.room in
-    let long = ap length c.loop-number.invariant.far ∙ first-length (λ k. prepared) n c.args.self.now in
+    let same = c.loop-number.invariant.same in
     let one = item c.loop-number.self n (omega arith) in
     let here = sym (behind prepared n n c.args.self.now (omega arith)) ∙ ap (λ ds. slice_get ds n) (sym c.loop-number.invariant.far) ∙ one.1 in
     record {
       far = one_further prepared n c.args.self.now c.loop-number.self c.prepare_at.new.self one.0 c.loop-number.invariant.far one.1 (c.in-Ok.ensures.ok one.0 one.1);
+      same = ap length (c.in-Ok.ensures.ok one.0 one.1) ∙ set-length c.loop-number.self n (prepared one.0) ∙ same;
       drawn = search rules;
       may = subst (λ ids. MayCoverEach ids c.args.self.now) (sym c.push_reserved.ensures.items) (may_more c.loop-number.ids.items c.args.self.now c.in-Ok.id one.0 c.loop-number.invariant.may (ap (λ k. slice_get c.args.self.now k) drawn ∙ here) (c.in-Ok.ensures.may one.0 one.1));
       room = search rules;
@@ -52,7 +47,7 @@ pub release_first-requires-clause-within : goal.release_first-requires-clause-wi
 release_first-requires-clause-within g c =
     let low = c.loop-number-test.true in
     let count = c.loop-number.invariant.count in
-    let long = ap length c.in-Err.ensures.err ∙ ap length c.loop-number.invariant.far ∙ first-length (λ k. prepared) c.loop-number.number c.args.self.now in
+    let same = ap length c.in-Err.ensures.err ∙ c.loop-number.invariant.same in
     omega arith
 
 pub release_first-requires-clause-room : goal.release_first-requires-clause-room
@@ -69,7 +64,7 @@ returns-in-Err-clause-cause g c =
     let low = c.loop-number-test.true in
     let n = c.loop-number.number in
     let count = c.loop-number.invariant.count in
-    let long = ap length c.loop-number.invariant.far ∙ first-length (λ k. prepared) n c.args.self.now in
+    let same = c.loop-number.invariant.same in
     let one = item c.loop-number.self n (omega arith) in
     let here = sym (behind prepared n n c.args.self.now (omega arith)) ∙ ap (λ ds. slice_get ds n) (sym c.loop-number.invariant.far) ∙ one.1 in
     shards_caused c.args.self.now c.in-Err.refused n one.0 here (c.in-Err.ensures.cause one.0 one.1)

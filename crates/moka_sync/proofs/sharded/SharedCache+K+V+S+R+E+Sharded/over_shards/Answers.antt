@@ -14,7 +14,7 @@ returns-clause-policy g c =
     let some = pow_some c.args.shards.bits in
     let counted = c.requires.counted in
     let shown = c.policy_of-policy.ensures in
-    let kept : (arc_value c.in_ok-inner.inner).policy ≡ c.policy_of-policy.result = rw c.in_ok-inner.ensures.ok refl in (
+    let kept : (arc_value c.in_ok-inner.inner).policy ≡ c.policy_of-policy.result = rw c.in_ok-inner.ensures.ok c.in_ok-made.ensures.policy in (
       c.index.result.now,
       there c.args.shards.states.items 0 c.index.result.now (omega arith) c.index.ensures,
       record {

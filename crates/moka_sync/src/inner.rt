@@ -1,51 +1,68 @@
-//! The desks of a cache, each under a lock of its own: one, or one for each shard.
-ghost use Rattle.std.specs.Prelude.{◌≡◌, ◌+◌, ◌<◌, ◌≤◌, ◌^◌, None, Some, true, length, IfErr, IfOk, option_map, slice_get, vec_len};
+//! What the handles of a cache share: desks, each under a lock of its own, and the properties of the cache that never change.
+ghost use Rattle.std.specs.Prelude.{◌≡◌, ◌+◌, ◌<◌, ◌≤◌, ◌^◌, None, Some, true, length, suc, IfErr, IfOk, OnOk, option_map, slice_get, vec_len};
+ghost use Rattle.std.specs.String.{string_bytes};
 ghost use Rattle.crossbeam_utils.specs.Padded.{padded_value};
 ghost use Rattle.front_reference.specs.declared.errors.CacheError.TheVariants as errors;
+ghost use Rattle.front_state.specs.Reading.{ShowsPolicy};
 ghost use Rattle.moka_sync.specs.Spreading.{SpreadsBy, desk_count, desk_number};
 
 use crate::shared::SharedDesk;
 use crate::spreading::Spread;
 use crossbeam_utils::CachePadded;
-use engine_reference::{Hashes, Rules};
+use engine_reference::{Hashes, Policy, Rules};
 use front_parts::place_of;
 use front_reference::{CacheError, LentKey, Shared};
-use front_state::{HashedName, LentState, Notice, Sharded};
-use rand_core::Rng;
+use front_state::{HashedName, LentState, Sharded};
 use std::alloc::{AllocError, Global};
 use std::hash::{BuildHasher, Hash};
 use std::sync::atomic::{AtomicUsize, Ordering};
 use std::sync::{MutexGuard, Wait};
 use sync_desk::{Desk, Env, Fork};
 
-/// The desks, as many as a power of two. If there are several, each is a shard.
+/// The desks, as many as a power of two, and the properties of the cache. If there are several desks, each is a shard.
 #[derive(Drop)]
-pub(crate) struct Desks<K: Eq + Hash, V, S: BuildHasher, R: Rules<K, V>, E: Env, C> {
-    desks: Vec<CachePadded<SharedDesk<K, V, S, R, E, C>>>,
+pub(crate) struct Inner<K: Eq + Hash, V, S: BuildHasher, R: Rules<K, V>, E: Env, C> {
+    pub(crate) desks: Vec<CachePadded<SharedDesk<K, V, S, R, E, C>>>,
     spread: Option<Spread<S>>,
     // The number of the desk that is asked for notices next.
-    next_asked: AtomicUsize,
+    pub(crate) next_asked: AtomicUsize,
+    pub(crate) name: Option<String>,
+    pub(crate) policy: Policy,
     ghost counted: { vec_len desks ≡ desk_count spread },
 }
 
-/// Adds the notices of a desk to a vector, as many as it has room for, the oldest first.
-fn take_from<
+/// A copy of a cache's name.
+fn copy_name(alloc: Global, name: Option<&str>) -> Result<Option<String>, AllocError>
+    ensures { IfOk result
+        (λ copy. option_map string_bytes copy ≡ option_map (λ text. text.now) name.entry) }
+{
+    match name {
+        Some(name) => Ok(Some(String::from_str(alloc, name)?)),
+        None => Ok(None),
+    }
+}
+
+/// Adds a padded desk for a shard, with an environment of its own.
+fn add_desk<
     K: Eq + Hash + Drop,
     V: Clone + Drop,
     S: BuildHasher + Drop,
     R: Rules<K, V> + Drop,
-    G: Rng + Drop,
-    C: Drop,
->(desk: &mut Desk<K, V, S, R, G, C>, notices: &mut Vec<Notice<Shared<K>, V>>) {
-    while notices.len() < notices.capacity() {
-        match desk.next_notice() {
-            Some(notice) => notices.push_reserved(notice),
-            None => return,
-        }
-    }
+    E: Fork + Drop,
+>(
+    alloc: Global,
+    state: LentState<K, V, S, R, Sharded>,
+    env: &mut E,
+    desks: &mut Vec<CachePadded<SharedDesk<K, V, S, R, E, Sharded>>>,
+) -> Result<(), AllocError>
+    ensures { OnOk result (vec_len desks.new ≡ suc (vec_len desks.old)) }
+{
+    let own = env.fork()?;
+    desks.push(CachePadded::new(SharedDesk::new(alloc, state, own)))?;
+    Ok(())
 }
 
-/// A padded desk for each shard, each with an environment of its own.
+/// A padded desk for each shard.
 fn desks_of<
     K: Eq + Hash + Drop,
     V: Clone + Drop,
@@ -62,8 +79,7 @@ fn desks_of<
     let mut env = env;
     let mut desks = Vec::with_capacity(alloc, states.len())?;
     for state in states {
-        let own = env.fork()?;
-        desks.push(CachePadded::new(SharedDesk::new(alloc, state, own)))?;
+        add_desk(alloc, state, &mut env, &mut desks)?;
     }
     Ok(desks)
 }
@@ -74,7 +90,7 @@ impl<
     S: BuildHasher + Drop,
     R: Rules<K, V> + Drop,
     E: Fork + Drop,
-> Desks<K, V, S, R, E, Sharded> {
+> Inner<K, V, S, R, E, Sharded> {
     /// A desk for each shard.
     pub(crate) fn of_shards(
         alloc: Global,
@@ -82,17 +98,22 @@ impl<
         bits: u32,
         hasher: Shared<S>,
         env: E,
+        name: Option<String>,
+        policy: Policy,
     ) -> Result<Self, AllocError>
         requires few { bits ≤ 16 }
         requires counted { length states.items ≡ 2 ^ bits }
-        ensures { IfOk result
-            (λ made. SpreadsBy bits hasher made.spread) }
+        ensures spread { IfOk result (λ made. SpreadsBy bits hasher made.spread) }
+        ensures name { IfOk result (λ made. made.name ≡ name) }
+        ensures policy { IfOk result (λ made. made.policy ≡ policy) }
     {
         let desks = desks_of(alloc, states, env)?;
-        Ok(Desks {
+        Ok(Inner {
             desks,
             spread: Some(Spread { bits, hasher }),
             next_asked: AtomicUsize::new(0),
+            name,
+            policy,
         })
     }
 }
@@ -104,21 +125,27 @@ impl<
     R: Rules<K, V> + Drop,
     E: Env + Drop,
     C: Drop,
-> Desks<K, V, S, R, E, C> {
-    /// Creates a single desk, for all keys.
+> Inner<K, V, S, R, E, C> {
+    /// A single desk, for all keys, with the properties of a lent cache.
     pub(crate) fn one(
         alloc: Global,
         state: LentState<K, V, S, R, C>,
         env: E,
     ) -> Result<Self, AllocError>
-        ensures { IfOk result (λ made. made.spread ≡ None) }
+        ensures spread { IfOk result (λ made. made.spread ≡ None) }
+        ensures name { IfOk result (λ made. option_map string_bytes made.name ≡ state.name) }
+        ensures policy { IfOk result (λ made. ShowsPolicy state made.policy) }
     {
+        let name = copy_name(alloc, state.name())?;
+        let policy = state.policy();
         let mut desks = Vec::with_capacity(alloc, 1)?;
         desks.push(CachePadded::new(SharedDesk::new(alloc, state, env)))?;
-        Ok(Desks {
+        Ok(Inner {
             desks,
             spread: None,
             next_asked: AtomicUsize::new(0),
+            name,
+            policy,
         })
     }
 
@@ -183,13 +210,6 @@ impl<
         &*self.desks[0]
     }
 
-    /// How many desks there are.
-    pub(crate) fn count(&self) -> usize
-        ensures { result ≡ vec_len self.now.desks }
-    {
-        self.desks.len()
-    }
-
     /// A desk by its number.
     pub(crate) fn get(&self, number: usize) -> &SharedDesk<K, V, S, R, E, C>
         requires { number < vec_len self.now.desks }
@@ -197,50 +217,6 @@ impl<
             ≡ Some result.now }
     {
         &*self.desks[number]
-    }
-
-    /// The number of entries, of each part as of its last run.
-    pub(crate) fn entry_count(&self, rt: &impl Wait) -> u64 {
-        let mut sum = 0u64;
-        for desk in self.desks.iter() {
-            let guard = desk.lock_untimed(rt);
-            sum = sum.saturating_add(guard.entry_count());
-        }
-        sum
-    }
-
-    /// The total weight of the entries, of each part as of its last run.
-    pub(crate) fn weighted_size(&self, rt: &impl Wait) -> u64 {
-        let mut sum = 0u64;
-        for desk in self.desks.iter() {
-            let guard = desk.lock_untimed(rt);
-            sum = sum.saturating_add(guard.weighted_size());
-        }
-        sum
-    }
-
-    /// Invalidates what was written before the call began, at one desk after another.
-    pub(crate) fn invalidate_all(&self, rt: &impl Wait) -> Result<(), CacheError>
-        ensures cause { IfErr result (λ e. e ≡ errors.UsedUp) }
-    {
-        for desk in self.desks.iter() {
-            let mut guard = desk.lock(rt);
-            let desk = &mut *guard;
-            desk.invalidate_all()?;
-        }
-        Ok(())
-    }
-
-    /// Runs all maintenance to its end, at one desk after another.
-    pub(crate) fn run_pending_tasks(&self, rt: &impl Wait) -> Result<(), CacheError>
-        ensures cause { IfErr result (λ e. e ≡ errors.UsedUp) }
-    {
-        for desk in self.desks.iter() {
-            let mut guard = desk.lock(rt);
-            let desk = &mut *guard;
-            desk.run_pending_tasks()?;
-        }
-        Ok(())
     }
 
     /// The keys of a segment: of the desk of this number if there are several. `None` if there is no such segment.
@@ -266,44 +242,9 @@ impl<
     }
 
     /// The number of the desk that is asked for notices first.
-    fn ask_next(&self) -> usize
+    pub(crate) fn ask_next(&self) -> usize
         ensures { result < vec_len self.now.desks }
     {
         self.next_asked.load(Ordering::SeqCst) % self.desks.len()
-    }
-
-    /// Takes the oldest notice of the first desk that has one, from the desk on that had one last.
-    pub(crate) fn next_notice(&self, rt: &impl Wait) -> Option<Notice<Shared<K>, V>> {
-        let count = self.desks.len();
-        let first = self.ask_next();
-        for step in 0..count {
-            let number = first.wrapping_add(step) % count;
-            let mut guard = self.desks[number].lock_untimed(rt);
-            let desk = &mut *guard;
-            let notice = desk.next_notice();
-            drop(guard);
-            if notice.is_some() {
-                self.next_asked.store(number, Ordering::SeqCst);
-                return notice;
-            }
-        }
-        None
-    }
-
-    /// Adds notices to a vector, as many as it has room for, from one desk after another. The next call begins one desk further.
-    pub(crate) fn take_notices(&self, rt: &impl Wait, notices: &mut Vec<Notice<Shared<K>, V>>) {
-        let count = self.desks.len();
-        let first = self.ask_next();
-        self.next_asked
-            .store(first.wrapping_add(1), Ordering::SeqCst);
-        for step in 0..count {
-            if notices.len() == notices.capacity() {
-                return;
-            }
-            let number = first.wrapping_add(step) % count;
-            let mut guard = self.desks[number].lock_untimed(rt);
-            let desk = &mut *guard;
-            take_from(desk, notices);
-        }
     }
 }

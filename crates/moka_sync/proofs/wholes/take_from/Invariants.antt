@@ -1,6 +1,6 @@
 use Rattle.std.proofs.Common.{◌-◌}
 use Rattle.std.specs.Prelude.{vec_capacity, vec_len}
-use Rattle.moka_sync.proofs.desks.take_from.Given as goal
+use Rattle.moka_sync.proofs.wholes.take_from.Given as goal
 
 abbrev pub decreases-loop-desk : goal.decreases-loop-desk
 decreases-loop-desk g l = vec_capacity l.notices - vec_len l.notices
