@@ -1,7 +1,7 @@
 //! What a line says, with its words as they are in it.
 ghost use Rattle.std.specs.Prelude.{◌≡◌, codes, bytes_eq};
 ghost use Rattle.memcache_model.specs.Bytes.{tokens};
-ghost use Rattle.memcache_model.specs.Grammar.{request_line, whole, faulty, keys_fault, read_get, read_gat, read_delete, delete_quiet, delete_word, delete_words, on_key, read_arithmetic, read_touch, read_flush, timed, read_verbosity, read_meta, read_arguments, verb_named, meta_verb_in, quiet_in, exptime_in};
+ghost use Rattle.memcache_model.specs.Grammar.{request_line, whole, faulty, keys_fault, read_get, read_gat, read_delete, delete_quiet, delete_word, delete_words, on_key, read_arithmetic, read_touch, read_flush, timed, read_verbosity, read_meta, read_arguments, verb_named, rare_verb_in, server_verb_in, meta_verb_in, quiet_in, exptime_in};
 ghost use Rattle.memcache_model.specs.Commands.{flush_all};
 ghost use Rattle.memcache_lines.specs.Said.{said_by, asks};
 
@@ -145,7 +145,16 @@ fn verb_of(word: &[u8]) -> Option<Verb>
         Some(Verb::Arithmetic(Direction::Down))
     } else if word == b"touch".as_slice() {
         Some(Verb::Touch)
-    } else if word == b"gat".as_slice() {
+    } else {
+        rare_verb_of(word)
+    }
+}
+
+/// The command that a word names, but for those that most clients send.
+fn rare_verb_of(word: &[u8]) -> Option<Verb>
+    ensures { result ≡ rare_verb_in word.now }
+{
+    if word == b"gat".as_slice() {
         Some(Verb::Gat { uniques: false })
     } else if word == b"gats".as_slice() {
         Some(Verb::Gat { uniques: true })
@@ -155,7 +164,16 @@ fn verb_of(word: &[u8]) -> Option<Verb>
         Some(Verb::Store(Storage::Append))
     } else if word == b"prepend".as_slice() {
         Some(Verb::Store(Storage::Prepend))
-    } else if word == b"flush_all".as_slice() {
+    } else {
+        server_verb_of(word)
+    }
+}
+
+/// The command for the server that a word names, or a meta command.
+fn server_verb_of(word: &[u8]) -> Option<Verb>
+    ensures { result ≡ server_verb_in word.now }
+{
+    if word == b"flush_all".as_slice() {
         Some(Verb::FlushAll)
     } else if word == b"stats".as_slice() {
         Some(Verb::Stats)

@@ -232,6 +232,26 @@ meta_verb_in word =
     else (if bytes_eq word (codes "ma") then Some (verb.Meta kind.Arithmetic)
     else (if bytes_eq word (codes "mn") then Some MetaNoOp else None))))
 
+-- the table of the words of commands for the server
+abbrev pub server_verb_in : List ℕ → Option Verb
+server_verb_in word =
+    if bytes_eq word (codes "flush_all") then Some FlushAll
+    else (if bytes_eq word (codes "stats") then Some Stats
+    else (if bytes_eq word (codes "version") then Some Version
+    else (if bytes_eq word (codes "verbosity") then Some Verbosity
+    else (if bytes_eq word (codes "quit") then Some Quit
+    else meta_verb_in word))))
+
+-- the table of the words of commands for items that few clients send
+abbrev pub rare_verb_in : List ℕ → Option Verb
+rare_verb_in word =
+    if bytes_eq word (codes "gat") then Some (Gat false)
+    else (if bytes_eq word (codes "gats") then Some (Gat true)
+    else (if bytes_eq word (codes "replace") then Some (Store Replace)
+    else (if bytes_eq word (codes "append") then Some (Store Append)
+    else (if bytes_eq word (codes "prepend") then Some (Store Prepend)
+    else server_verb_in word))))
+
 -- the table of command words
 abbrev pub verb_named : List ℕ → Option Verb
 verb_named word =
@@ -244,17 +264,7 @@ verb_named word =
     else (if bytes_eq word (codes "incr") then Some (Arithmetic Up)
     else (if bytes_eq word (codes "decr") then Some (Arithmetic Down)
     else (if bytes_eq word (codes "touch") then Some Touch
-    else (if bytes_eq word (codes "gat") then Some (Gat false)
-    else (if bytes_eq word (codes "gats") then Some (Gat true)
-    else (if bytes_eq word (codes "replace") then Some (Store Replace)
-    else (if bytes_eq word (codes "append") then Some (Store Append)
-    else (if bytes_eq word (codes "prepend") then Some (Store Prepend)
-    else (if bytes_eq word (codes "flush_all") then Some FlushAll
-    else (if bytes_eq word (codes "stats") then Some Stats
-    else (if bytes_eq word (codes "version") then Some Version
-    else (if bytes_eq word (codes "verbosity") then Some Verbosity
-    else (if bytes_eq word (codes "quit") then Some Quit
-    else meta_verb_in word))))))))))))))))))
+    else rare_verb_in word))))))))
 
 -- a command's word with the words behind it
 abbrev pub read_command : Option Verb → List (List ℕ) → RequestLine
