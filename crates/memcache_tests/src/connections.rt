@@ -1,8 +1,8 @@
 //! How connections go on and end.
 ghost use Rattle.std.specs.Prelude.{◌<◌};
 
-use crate::playing::{LARGE, START, Served, service};
-use memcache_service::Conn;
+use crate::playing::{LARGE, START, service};
+use memcache_service::{Conn, Service, Shelf};
 use std::alloc::{AllocError, Global};
 
 /// A new connection sends this, is told that, and goes on or has ended.
@@ -34,8 +34,8 @@ const ENDS: &[Row] = &[
 ];
 
 /// Feeds a connection bytes in pieces of at most this many, while it goes on, and moves what it is told behind what is there.
-fn feed(
-    service: &mut Served,
+fn feed<T: Shelf>(
+    service: &mut Service<T>,
     conn: Conn,
     sent: &[u8],
     cut: usize,
@@ -55,21 +55,46 @@ fn feed(
     Ok(true)
 }
 
-/// Whether each row is told what it says, and goes on or ends as it says.
-fn play(alloc: Global, rows: &[Row], cut: usize) -> Result<bool, AllocError>
+/// Whether a new connection is told what a row says, and goes on or ends as it says.
+fn comes_out<T: Shelf>(
+    alloc: Global,
+    service: &mut Service<T>,
+    row: &Row,
+    cut: usize,
+) -> Result<bool, AllocError>
     requires { 0 < cut }
 {
-    let mut service = service(alloc, LARGE)?;
-    for (sent, wanted, is_on) in rows {
-        let conn = service.open()?;
-        let mut told = Vec::new(alloc);
-        let goes_on = feed(&mut service, conn, *sent, cut, &mut told)?;
-        service.close(conn);
-        if goes_on != *is_on || told.as_slice() != *wanted {
+    let (sent, wanted, is_on) = *row;
+    let conn = service.open()?;
+    let mut told = Vec::new(alloc);
+    let goes_on = feed(service, conn, sent, cut, &mut told)?;
+    service.close(conn);
+    Ok(goes_on == is_on && told.as_slice() == wanted)
+}
+
+/// Whether each row comes out as it says, one after the other.
+fn play_rows<T: Shelf>(
+    alloc: Global,
+    service: &mut Service<T>,
+    rows: &[Row],
+    cut: usize,
+) -> Result<bool, AllocError>
+    requires { 0 < cut }
+{
+    for row in rows {
+        if !comes_out(alloc, service, row, cut)? {
             return Ok(false);
         }
     }
     Ok(true)
+}
+
+/// The same, by a new service.
+fn play(alloc: Global, rows: &[Row], cut: usize) -> Result<bool, AllocError>
+    requires { 0 < cut }
+{
+    let mut service = service(alloc, LARGE)?;
+    play_rows(alloc, &mut service, rows, cut)
 }
 
 /// The same, whole and byte by byte.
@@ -78,8 +103,7 @@ fn plays(alloc: Global) -> bool {
 }
 
 /// Whether a line of more than 65,536 bytes ends its connection, which is told so, and is not served any more.
-fn ends_long_line(alloc: Global) -> Result<bool, AllocError> {
-    let mut service = service(alloc, LARGE)?;
+fn send_long_line<T: Shelf>(alloc: Global, service: &mut Service<T>) -> Result<bool, AllocError> {
     let conn = service.open()?;
     let line = vec![in alloc; b'x'; 65537]?;
     let mut told = Vec::new(alloc);
@@ -91,8 +115,14 @@ fn ends_long_line(alloc: Global) -> Result<bool, AllocError> {
     Ok(is_told && !goes_on && !goes_on_later && told.is_empty())
 }
 
+/// The same, by a new service.
+fn ends_long_line(alloc: Global) -> Result<bool, AllocError> {
+    let mut service = service(alloc, LARGE)?;
+    send_long_line(alloc, &mut service)
+}
+
 /// Stores an item of 600,000 bytes.
-fn store_long(service: &mut Served, alloc: Global) -> Result<bool, AllocError> {
+fn store_long<T: Shelf>(service: &mut Service<T>, alloc: Global) -> Result<bool, AllocError> {
     let conn = service.open()?;
     let block = vec![in alloc; b'y'; 600_000]?;
     let mut told = Vec::new(alloc);
@@ -107,10 +137,9 @@ fn store_long(service: &mut Served, alloc: Global) -> Result<bool, AllocError> {
 /// How long a reply of that item is.
 const LONG: usize = 600_000 + 28;
 
-/// Whether requests are held back while 1 MiB of replies wait, and no longer.
-fn holds_back(alloc: Global) -> Result<bool, AllocError> {
-    let mut service = service(alloc, LARGE)?;
-    if !store_long(&mut service, alloc)? {
+/// Whether requests for that item are held back while 1 MiB of replies wait, and no longer.
+fn ask_for_long<T: Shelf>(alloc: Global, service: &mut Service<T>) -> Result<bool, AllocError> {
+    if !store_long(service, alloc)? {
         return Ok(false);
     }
     let conn = service.open()?;
@@ -123,6 +152,12 @@ fn holds_back(alloc: Global) -> Result<bool, AllocError> {
     let is_free = !service.is_full(conn);
     service.take_output(conn, &mut told);
     Ok(is_held && are_two && is_free && told.len() == LONG)
+}
+
+/// The same, by a new service.
+fn holds_back(alloc: Global) -> Result<bool, AllocError> {
+    let mut service = service(alloc, LARGE)?;
+    ask_for_long(alloc, &mut service)
 }
 
 #[test]

@@ -1,7 +1,8 @@
 //! Connections between the wake-ups of their sockets.
-use crate::playing::{LARGE, START, Served, service};
+use crate::playing::{LARGE, START, service};
 use cache_link::{Next, Patient, Room};
 use memcache_link::MemcacheLink;
+use memcache_service::{Service, Shelf};
 use std::alloc::{AllocError, Global};
 use std::io;
 use std::io::{ErrorKind, Read, Write};
@@ -70,8 +71,8 @@ impl Write for Narrow<'_> {
 }
 
 /// Takes turns until the connection is over. Each time that it waits for input, its socket reports some.
-fn serve(
-    service: &mut Served,
+fn serve<T: Shelf>(
+    service: &mut Service<T>,
     link: &mut MemcacheLink,
     pieces: &'static [&'static [u8]],
     text: &mut Vec<u8>,
@@ -94,7 +95,11 @@ fn serve(
 }
 
 /// Whether a client that sends the pieces is told what it is to be told.
-fn is_told(service: &mut Served, alloc: Global, row: &Row) -> Result<bool, AllocError> {
+fn is_told<T: Shelf>(
+    service: &mut Service<T>,
+    alloc: Global,
+    row: &Row,
+) -> Result<bool, AllocError> {
     let mut text = Vec::new(alloc);
     let mut link = MemcacheLink::open(service, alloc)?;
     let is_over = serve(service, &mut link, row.0, &mut text)?;
@@ -103,26 +108,36 @@ fn is_told(service: &mut Served, alloc: Global, row: &Row) -> Result<bool, Alloc
 }
 
 /// Whether each row is told what it says.
-fn play(alloc: Global) -> Result<bool, AllocError> {
-    let mut service = service(alloc, LARGE)?;
+fn play_rows<T: Shelf>(service: &mut Service<T>, alloc: Global) -> Result<bool, AllocError> {
     for row in ROWS {
-        if !is_told(&mut service, alloc, row)? {
+        if !is_told(service, alloc, row)? {
             return Ok(false);
         }
     }
     Ok(true)
 }
 
-/// Whether nothing is read of a connection that was stopped.
-fn stops(alloc: Global) -> Result<bool, AllocError> {
+/// The same, by a new service.
+fn play(alloc: Global) -> Result<bool, AllocError> {
     let mut service = service(alloc, LARGE)?;
+    play_rows(&mut service, alloc)
+}
+
+/// Whether nothing is read of a connection that was stopped.
+fn stop_one<T: Shelf>(service: &mut Service<T>, alloc: Global) -> Result<bool, AllocError> {
     let mut text = Vec::new(alloc);
-    let mut link = MemcacheLink::open(&mut service, alloc)?;
+    let mut link = MemcacheLink::open(service, alloc)?;
     link.wake(true, false);
     link.stop();
-    let is_over = serve(&mut service, &mut link, &[b"version\r\n"], &mut text)?;
-    link.close(&mut service);
+    let is_over = serve(service, &mut link, &[b"version\r\n"], &mut text)?;
+    link.close(service);
     Ok(is_over && text.is_empty())
+}
+
+/// The same, by a new service.
+fn stops(alloc: Global) -> Result<bool, AllocError> {
+    let mut service = service(alloc, LARGE)?;
+    stop_one(&mut service, alloc)
 }
 
 #[test]

@@ -2,7 +2,7 @@
 ghost use Rattle.std.specs.Prelude.{◌<◌};
 
 use memcache_cache::LentShelf;
-use memcache_service::{Conn, Service, Setup};
+use memcache_service::{Conn, Service, Setup, Shelf};
 use moka::{EvictionPolicy, StdHasher};
 use std::alloc::{AllocError, Global};
 
@@ -34,8 +34,8 @@ pub fn service(alloc: Global, setup: Setup) -> Result<Served, AllocError> {
 }
 
 /// Feeds a connection bytes in pieces of at most this many, and moves what it is told behind what is there.
-fn feed(
-    service: &mut Served,
+fn feed<T: Shelf>(
+    service: &mut Service<T>,
     conn: Conn,
     bytes: &[u8],
     cut: usize,
@@ -53,21 +53,33 @@ fn feed(
     Ok(())
 }
 
-/// Whether each row is told what it says, in pieces of at most this many bytes.
-fn play(alloc: Global, setup: Setup, rows: &[Row], cut: usize) -> Result<bool, AllocError>
+/// Whether each row is told what it says by a service, in pieces of at most this many bytes.
+fn play_rows<T: Shelf>(
+    alloc: Global,
+    service: &mut Service<T>,
+    rows: &[Row],
+    cut: usize,
+) -> Result<bool, AllocError>
     requires { 0 < cut }
 {
-    let mut service = service(alloc, setup)?;
     let conn = service.open()?;
     for (after, sent, wanted) in rows {
         let mut told = Vec::new(alloc);
         let moment = START.saturating_add(*after);
-        feed(&mut service, conn, *sent, cut, moment, &mut told)?;
+        feed(service, conn, *sent, cut, moment, &mut told)?;
         if told.as_slice() != *wanted {
             return Ok(false);
         }
     }
     Ok(true)
+}
+
+/// The same, by a new service.
+fn play(alloc: Global, setup: Setup, rows: &[Row], cut: usize) -> Result<bool, AllocError>
+    requires { 0 < cut }
+{
+    let mut service = service(alloc, setup)?;
+    play_rows(alloc, &mut service, rows, cut)
 }
 
 /// Whether each row is told what it says, however its bytes are cut.
@@ -83,7 +95,11 @@ pub fn all_right(alloc: Global, setup: Setup, rows: &[Row]) -> bool {
 }
 
 /// What a new connection is told.
-fn ask(service: &mut Served, sent: &[u8], told: &mut Vec<u8>) -> Result<(), AllocError> {
+fn ask<T: Shelf>(
+    service: &mut Service<T>,
+    sent: &[u8],
+    told: &mut Vec<u8>,
+) -> Result<(), AllocError> {
     let conn = service.open()?;
     // One that ends for want of memory is told nothing.
     let _ = service.feed(conn, sent, START);
@@ -122,27 +138,43 @@ fn told_bytes(told: &[u8]) -> Option<u64> {
     None
 }
 
-/// Sets each byte from `!` to `~` as a key at one moment, and asks what is held.
-fn count_held(alloc: Global, setup: Setup) -> Result<Held, AllocError> {
-    let mut service = service(alloc, setup)?;
-    let mut told = Vec::new(alloc);
+/// Sets each byte from `!` to `~` as a key at one moment.
+fn set_keys<T: Shelf>(service: &mut Service<T>, told: &mut Vec<u8>) -> Result<(), AllocError> {
     let mut set = *b"set k 0 0 1\r\nx\r\n";
     for key in b'!'..=b'~' {
         set[4] = key;
-        ask(&mut service, &set, &mut told)?;
+        ask(service, &set, told)?;
     }
-    ask(&mut service, b"stats\r\n", &mut told)?;
-    let bytes = told_bytes(told.as_slice()).ok_or(AllocError)?;
+    Ok(())
+}
+
+/// How many of these keys have an item.
+fn count_items<T: Shelf>(service: &mut Service<T>, told: &mut Vec<u8>) -> Result<u64, AllocError> {
     let mut get = *b"get k\r\n";
     let mut items: u64 = 0;
     for key in b'!'..=b'~' {
         get[4] = key;
-        ask(&mut service, &get, &mut told)?;
+        ask(service, &get, told)?;
         if told.starts_with(b"VALUE") {
             items = items.saturating_add(1);
         }
     }
+    Ok(items)
+}
+
+/// Sets these keys, and asks what is held.
+fn hold_keys<T: Shelf>(service: &mut Service<T>, told: &mut Vec<u8>) -> Result<Held, AllocError> {
+    set_keys(service, told)?;
+    ask(service, b"stats\r\n", told)?;
+    let bytes = told_bytes(told.as_slice()).ok_or(AllocError)?;
+    let items = count_items(service, told)?;
     Ok(Held { items, bytes })
+}
+
+/// What a new service holds of them.
+fn count_held(alloc: Global, setup: Setup) -> Result<Held, AllocError> {
+    let mut service = service(alloc, setup)?;
+    hold_keys(&mut service, &mut Vec::new(alloc))
 }
 
 /// Whether of 94 items that were set at one moment at least one is held, and those that are held weigh at most the capacity and what 63
@@ -165,9 +197,9 @@ fn is_refused(told: &[u8]) -> bool {
 const PROBE: &[u8] = b"gets a b c n\r\n";
 
 /// Asks a row's request, and once more if it is refused for memory, which has to have changed nothing.
-fn ask_again(
+fn ask_again<T: Shelf>(
     alloc: Global,
-    service: &mut Served,
+    service: &mut Service<T>,
     sent: &[u8],
     wanted: &[u8],
 ) -> Result<bool, AllocError> {
@@ -186,14 +218,23 @@ fn ask_again(
 }
 
 /// Whether each row, of one request, is told what it says, if not the first time, then the second.
-fn play_again(alloc: Global, rows: &[Row]) -> Result<bool, AllocError> {
-    let mut service = service(alloc, LARGE)?;
+fn ask_all_again<T: Shelf>(
+    alloc: Global,
+    service: &mut Service<T>,
+    rows: &[Row],
+) -> Result<bool, AllocError> {
     for (_, sent, wanted) in rows {
-        if !ask_again(alloc, &mut service, *sent, *wanted)? {
+        if !ask_again(alloc, service, *sent, *wanted)? {
             return Ok(false);
         }
     }
     Ok(true)
+}
+
+/// The same, by a new service.
+fn play_again(alloc: Global, rows: &[Row]) -> Result<bool, AllocError> {
+    let mut service = service(alloc, LARGE)?;
+    ask_all_again(alloc, &mut service, rows)
 }
 
 /// The same. If the test itself had no memory, all is played once more.
