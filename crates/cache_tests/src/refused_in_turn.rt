@@ -5,13 +5,13 @@
 //! `tools/refuse_allocations.py --between` refuses these, and of the requests behind the first the one of that number alone.
 //! Otherwise these are requests like any other, and the call is tried once.
 use crate::inputs::input_of;
-use crate::playing::{new_service, play_on};
+use crate::playing::{Played, new_service, play_on};
 use crate::rows::{
     Asked, Case, FIRST, FIRST_LOAD, Given, PLAIN, Row, SECOND, SECOND_LOAD, no_row_wrong,
     none_wrong,
 };
 use audit_model::{Config, Conn, Instant, ServiceError};
-use cache_spaces::{Core, Output, Refusal, Service};
+use cache_spaces::{Output, Refusal};
 use std::alloc::Global;
 
 const ARMS: usize = 21_000;
@@ -64,11 +64,11 @@ fn came_of_error(error: ServiceError) -> Came {
 }
 
 /// Makes the call with its request of that number refused.
-fn take_armed(alloc: Global, service: &mut Service, asked: Asked<'_>, number: usize) -> Came {
+fn take_armed<S: Played>(alloc: Global, service: &mut S, asked: Asked<'_>, number: usize) -> Came {
     match input_of(alloc, asked, Instant { nanos: 0 }) {
         Ok(input) => {
             arm(alloc, number);
-            let came = came_of(Core::step(service, input));
+            let came = came_of(service.step(input));
             arm(alloc, 0);
             came
         }
@@ -95,7 +95,7 @@ fn case_of<'a>(configs: &'a [Config], rows: &'a [Row<'a>]) -> Case<'a> {
 }
 
 /// Plays the rows after a call; returns what became of the call if they came out so.
-fn play_after(alloc: Global, service: Service, call: &Call<'_>, came: Came) -> Came {
+fn play_after<S: Played>(alloc: Global, service: S, call: &Call<'_>, came: Came) -> Came {
     match play_on(
         alloc,
         service,
@@ -107,7 +107,7 @@ fn play_after(alloc: Global, service: Service, call: &Call<'_>, came: Came) -> C
 }
 
 /// Plays the rows before a call, the call with its request of that number refused, and the rows after it.
-fn play_call(alloc: Global, service: Service, call: &Call<'_>, number: usize) -> Came {
+fn play_call<S: Played>(alloc: Global, service: S, call: &Call<'_>, number: usize) -> Came {
     match play_on(alloc, service, case_of(&[call.config], call.before)) {
         Ok(mut service) => {
             let came = take_armed(alloc, &mut service, call.asked, number);
@@ -264,12 +264,12 @@ const HELD: &[Row<'static>] = &[
 ];
 
 /// Whether the line that a connection holds back is refused again, and a piece with it is not taken.
-fn is_held_again(alloc: Global, service: &mut Service) -> bool {
+fn is_held_again<S: Played>(alloc: Global, service: &mut S) -> bool {
     let Ok(nothing) = input_of(alloc, Asked::Feeds(FIRST, b""), Instant { nanos: 0 }) else {
         return false;
     };
     arm(alloc, 1);
-    let again = Core::step(service, nothing);
+    let again = service.step(nothing);
     arm(alloc, 0);
     is_refused(again, ServiceError::HeldAgain)
         && take_armed(alloc, service, Asked::Feeds(FIRST, b"DEL a\n"), 1) != Came::Ran
@@ -283,12 +283,12 @@ fn is_refused(taken: Result<Output, Refusal>, wanted: ServiceError) -> bool {
 }
 
 /// Whether a line that was held back is refused again, and runs once there is memory.
-fn runs_at_last(alloc: Global, mut service: Service) -> bool {
+fn runs_at_last<S: Played>(alloc: Global, mut service: S) -> bool {
     is_held_again(alloc, &mut service) && play_on(alloc, service, case_of(&[PLAIN], HELD)).is_ok()
 }
 
 /// Refuses the request of that number of a `SET`; where its line is held back, it has to be refused again, and to run at last.
-fn play_held(alloc: Global, service: Service, number: usize) -> Came {
+fn play_held<S: Played>(alloc: Global, service: S, number: usize) -> Came {
     match play_on(alloc, service, case_of(&[PLAIN], A_SET.before)) {
         Ok(mut service) => match take_armed(alloc, &mut service, A_SET.asked, number) {
             Came::Held if !runs_at_last(alloc, service) => Came::Else,
@@ -340,7 +340,7 @@ const HELD_LOAD: &[Row<'static>] = &[
 const SENT_LOAD: &[Row<'static>] = &[Row::Sends(0, &[(SECOND_LOAD, b"k")])];
 
 /// Whether a load goes out for the `LOAD` of one that was given up, whatever was refused.
-fn is_sent_again(alloc: Global, service: Service) -> bool {
+fn is_sent_again<S: Played>(alloc: Global, service: S) -> bool {
     let rows = match service.loads_open(0) {
         Ok(0) => HELD_LOAD,
         _ => SENT_LOAD,
@@ -349,7 +349,7 @@ fn is_sent_again(alloc: Global, service: Service) -> bool {
 }
 
 /// Whether a give-up with its request of that number refused is done, and its `LOAD` sends another load.
-fn gives_up(alloc: Global, service: Service, number: usize) -> bool {
+fn gives_up<S: Played>(alloc: Global, service: S, number: usize) -> bool {
     match play_on(alloc, service, case_of(&[PLAIN], OUT)) {
         Ok(mut service) => {
             take_armed(alloc, &mut service, Asked::GivesUp(FIRST_LOAD), number) == Came::Ran

@@ -25,8 +25,14 @@ fn takes_values(capacity: Option<u64>) -> bool
     }
 }
 
-/// Whether a value is in range, and is accepted in the first part.
-fn accepts<S: Store>(store: &mut S, config: &Config, now: u64, key: &Key, value: &[u8]) -> bool
+/// The part in which a value is accepted, if it is in range.
+pub fn part_taking<S: Store>(
+    store: &mut S,
+    config: &Config,
+    now: u64,
+    key: &Key,
+    value: &[u8],
+) -> Option<u64>
     requires config { (S.view store.old).frame.config ≡ config.now }
     requires in_time { (S.view store.old).frame.latest ≤ now }
     requires moment { now < 2 ^ 63 }
@@ -34,9 +40,20 @@ fn accepts<S: Store>(store: &mut S, config: &Config, now: u64, key: &Key, value:
     ensures in_time { (S.view store.new).frame.latest ≤ now }
 {
     if !takes_values(config.capacity) || value.len() > 8192 {
-        return false;
+        return None;
     }
-    store.accept(key, value, None, now) == Ok(0)
+    store.accept(key, value, None, now).ok()
+}
+
+/// Whether a value is accepted in the first part.
+fn accepts<S: Store>(store: &mut S, config: &Config, now: u64, key: &Key, value: &[u8]) -> bool
+    requires config { (S.view store.old).frame.config ≡ config.now }
+    requires in_time { (S.view store.old).frame.latest ≤ now }
+    requires moment { now < 2 ^ 63 }
+    ensures config { (S.view store.new).frame.config ≡ config.now }
+    ensures in_time { (S.view store.new).frame.latest ≤ now }
+{
+    part_taking(store, config, now, key, value) == Some(0)
 }
 
 /// Accepts a value of a key. Where memory is wanted for it, so many values are held as before, the key has the value that it had, and

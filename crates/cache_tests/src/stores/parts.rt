@@ -1,5 +1,8 @@
 //! What a namespace of several parts replies and tells whose keys are sent where their lengths say.
+ghost use Rattle.std.specs.Prelude.{◌≡◌, ◌≤◌};
+
 use crate::rows::{FIRST, PLAIN, Row, no_row_wrong, none_wrong};
+use crate::stores::keeping::part_taking;
 use crate::stores::lengths::ByLength;
 use crate::stores::wrong_row;
 use audit_model::{Config, Key, RemovalCause};
@@ -212,22 +215,30 @@ fn a_keys_part_is_its_hashs(rt: HostRuntime) {
     no_row_wrong(&rt, first_misplaced(rt.alloc()));
 }
 
-/// Whether two keys have two parts of a new store, and the first has the same again.
-fn have_two_parts(alloc: Global, one: &Key, other: &Key) -> Result<bool, StoreError> {
+/// Whether two keys have two parts, and the first has the same again.
+fn have_two_parts<S: Store>(store: &mut S, config: &Config, one: &Key, other: &Key) -> bool
+    requires config { (S.view store.old).frame.config ≡ config.now }
+    requires in_time { (S.view store.old).frame.latest ≤ 0 }
+{
+    let first = part_taking(store, config, 0, one, b"1");
+    let second = part_taking(store, config, 0, other, b"1");
+    let again = part_taking(store, config, 0, one, b"2");
+    first.is_some() && second.is_some() && first != second && first == again
+}
+
+/// The same of a new store.
+fn have_two_parts_in_new(alloc: Global, one: &Key, other: &Key) -> Result<bool, StoreError> {
     let generator = SplitMix64::seed_from_u64(1);
     let hasher = KeyedHasher::new(b"sixteen bytes ...");
     let mut store = FrontStore::new(alloc, TWO, 0, generator, hasher)?;
-    let first = store.accept(one, b"1", None, 0)?;
-    let second = store.accept(other, b"1", None, 0)?;
-    let again = store.accept(one, b"2", None, 0)?;
-    Ok(first != second && first == again)
+    Ok(have_two_parts(&mut store, &TWO, one, other))
 }
 
 /// The same of two names.
 fn uses_both_parts(alloc: Global) -> Result<bool, StoreError> {
     let one = key_of(alloc, b"a")?;
     let other = key_of(alloc, b"c")?;
-    have_two_parts(alloc, &one, &other)
+    have_two_parts_in_new(alloc, &one, &other)
 }
 
 #[test]
