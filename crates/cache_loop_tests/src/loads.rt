@@ -25,7 +25,7 @@ use std::random::RandomSource;
 use std::sync::atomic::{AtomicU64, Ordering};
 use std::sync::ledger::Blank;
 use std::sync::{Arc, Mutex, Wait};
-use std::thread::Threads;
+use std::thread::{JoinHandle, Threads};
 use std::time::Duration;
 use std::{net, thread, time};
 
@@ -177,12 +177,19 @@ struct Workshop<R: Wait> {
     stoppers: Vec<Waker>,
 }
 
+/// A place to wait, with its waker.
+fn make_poll<R: Machine>(rt: &R) -> Option<(Poll, Waker)> {
+    let poll = Poll::new(rt).ok()?;
+    let waker = Waker::new(poll.registry(), LOADED).ok()?;
+    Some((poll, waker))
+}
+
 /// Places to wait for so many loops, with their wakers.
 fn make_polls<R: Machine>(rt: &R, alloc: Global, loops: usize) -> Option<(Vec<Poll>, Vec<Waker>)> {
     let (mut polls, mut wakers) = (Vec::new(alloc), Vec::new(alloc));
     for _loop in 0..loops {
-        let poll = Poll::new(rt).ok()?;
-        wakers.push(Waker::new(poll.registry(), LOADED).ok()?).ok()?;
+        let (poll, waker) = make_poll(rt)?;
+        wakers.push(waker).ok()?;
         polls.push(poll).ok()?;
     }
     Some((polls, wakers))
@@ -195,6 +202,23 @@ const RULES: Rules = Rules {
     idle: None,
 };
 
+/// A loader that counts here how often it is asked.
+fn make_loader<R: Machine>(
+    rt: R,
+    alloc: Global,
+    asked: &Arc<AtomicU64>,
+    told: &Receiver<Told, Global>,
+) -> Option<Held<R>> {
+    let asked = Arc::try_clone(asked).ok()?;
+    let told = Receiver::clone(told).ok()?;
+    Some(Held {
+        rt,
+        alloc,
+        asked,
+        told,
+    })
+}
+
 /// So many loaders.
 fn make_loaders<R: Machine>(
     rt: R,
@@ -205,15 +229,37 @@ fn make_loaders<R: Machine>(
 ) -> Option<Vec<Held<R>>> {
     let mut loaders = Vec::new(alloc);
     for _loader in 0..count {
-        let held = Held {
-            rt,
-            alloc,
-            asked: Arc::try_clone(asked).ok()?,
-            told: Receiver::clone(told).ok()?,
-        };
-        loaders.push(held).ok()?;
+        loaders.push(make_loader(rt, alloc, asked, told)?).ok()?;
     }
     Some(loaders)
+}
+
+/// The crew of one of the loops with these wakers, which together have so many connections open.
+fn make_crew(alloc: Global, open: &Arc<AtomicU64>, wakers: &Arc<Vec<Waker>>) -> Option<Crew> {
+    let open = Arc::try_clone(open).ok()?;
+    let wakers = Arc::try_clone(wakers).ok()?;
+    let counts = Arc::new(alloc, Mutex::new(Counts::new())).ok()?;
+    Some(Crew {
+        alloc,
+        namespace: 0,
+        rules: RULES,
+        open,
+        wakers,
+        counts,
+    })
+}
+
+/// Where clients of a port come in.
+fn listen<R: Machine>(rt: &R, port: u16) -> Option<net::TcpListener> {
+    let address = SocketAddr::from((Ipv4Addr::LOCALHOST, port));
+    let listener = TcpListener::bind(rt, address).ok()?;
+    Some(net::TcpListener::from(listener))
+}
+
+/// One more way in, at the same port.
+fn share_doorway(listener: &net::TcpListener) -> Option<Doorway> {
+    let listener = listener.try_clone().ok()?;
+    Some(Doorway::Tcp(TcpListener::from_std(listener)))
 }
 
 /// The gear of loops at a port, whose loaders count here how often they are asked.
@@ -225,25 +271,17 @@ fn make_workshop<R: Machine>(
     asked: &Arc<AtomicU64>,
     told: &Receiver<Told, Global>,
 ) -> Option<Workshop<R>> {
-    let address = SocketAddr::from((Ipv4Addr::LOCALHOST, port));
-    let listener = net::TcpListener::from(TcpListener::bind(&rt, address).ok()?);
+    let listener = listen(&rt, port)?;
+    let open = Arc::new(alloc, AtomicU64::new(0)).ok()?;
     let (polls, wakers) = make_polls(&rt, alloc, case.loops)?;
     let wakers = Arc::new(alloc, wakers).ok()?;
-    let open = Arc::new(alloc, AtomicU64::new(0)).ok()?;
     let (mut gears, mut stoppers) = (Vec::new(alloc), Vec::new(alloc));
     for poll in polls {
         stoppers.push(Waker::new(poll.registry(), STOP).ok()?).ok()?;
         let gear = Gear {
             poll,
-            doorway: Doorway::Tcp(TcpListener::from_std(listener.try_clone().ok()?)),
-            crew: Crew {
-                alloc,
-                namespace: 0,
-                rules: RULES,
-                open: Arc::try_clone(&open).ok()?,
-                wakers: Arc::try_clone(&wakers).ok()?,
-                counts: Arc::new(alloc, Mutex::new(Counts::new())).ok()?,
-            },
+            doorway: share_doorway(&listener)?,
+            crew: make_crew(alloc, &open, &wakers)?,
             loaders: make_loaders(rt, alloc, case.loaders, asked, told)?,
             limit: case.limit,
         };
@@ -281,6 +319,43 @@ fn serve<L: Seating, C: Shareable, R: Machine>(
     Some(ended.is_ok())
 }
 
+/// Starts loops that share a service, each on a thread that says at its end whether it ended well.
+fn start_all<L, C, R>(
+    rt: R,
+    alloc: Global,
+    shared: &SharedService<L, C>,
+    gears: Vec<Gear<R>>,
+) -> Option<Vec<JoinHandle<Option<bool>>>>
+where
+    L: Seating + Send + Sync + 'static,
+    C: Shareable + Send + 'static,
+    R: Machine,
+{
+    let mut threads = Vec::new(alloc);
+    for gear in gears {
+        let shared = SharedService::clone(shared).ok()?;
+        let serving = move || serve(&rt, alloc, &shared, gear);
+        threads.push(thread::spawn(&rt, serving).ok()?).ok()?;
+    }
+    Some(threads)
+}
+
+/// Stops loops. Whether all end well.
+fn stop_all<R: Machine>(
+    rt: &R,
+    stoppers: &[Waker],
+    threads: Vec<JoinHandle<Option<bool>>>,
+) -> bool {
+    let mut good = true;
+    for stopper in stoppers {
+        good = stopper.wake().is_ok() && good;
+    }
+    for thread in threads {
+        good = thread.join(rt) == Some(true) && good;
+    }
+    good
+}
+
 /// Whether the clients and the loaders do what a case says, with loops that share a service with so many parts of a ledger.
 fn serve_case<L, C, R>(
     rt: R,
@@ -309,21 +384,9 @@ where
     };
     let workshop = make_workshop(rt, alloc, case, players.port, &asked, &told)?;
     let Workshop { gears, stoppers } = workshop;
-    let mut threads = Vec::new(alloc);
-    for gear in gears {
-        let shared = SharedService::clone(&shared).ok()?;
-        let serving = move || serve(&rt, alloc, &shared, gear);
-        threads.push(thread::spawn(&rt, serving).ok()?).ok()?;
-    }
-    let mut good = players.play_all(&rt, case.steps);
-    good = good && asked.load(Ordering::SeqCst) == case.asks;
-    for stopper in &stoppers {
-        good = stopper.wake().is_ok() && good;
-    }
-    for thread in threads {
-        good = thread.join(&rt) == Some(true) && good;
-    }
-    Some(good)
+    let threads = start_all(rt, alloc, &shared, gears)?;
+    let good = players.play_all(&rt, case.steps) && asked.load(Ordering::SeqCst) == case.asks;
+    Some(stop_all(&rt, stoppers.as_slice(), threads) && good)
 }
 
 /// Without limits.

@@ -59,6 +59,24 @@ impl<R: Machine> Hall<R> {
         Ok(self.share::<Brand>(core, Blank::new(SEATS), space, listener, ending)?)
     }
 
+    /// Hosts each namespace at its listener.
+    fn start_all(
+        &self,
+        spaces: Vec<HostedNamespace>,
+        listeners: Vec<TcpListener>,
+        ending: &Sender<bool, Global>,
+    ) -> Result<Vec<JoinHandle<()>>, Ending>
+        ensures { IfErr result
+            (λ e. (e.fault ≡ Fault.CannotListen) ⊎ (e.fault ≡ Fault.OutOfMemory)) }
+    {
+        let mut threads = Vec::with_capacity(self.alloc, listeners.len())?;
+        for (space, listener) in spaces.into_iter().zip(listeners) {
+            let thread = self.start(space, listener, ending)?;
+            threads.push(thread)?;
+        }
+        Ok(threads)
+    }
+
     /// Shares a service of one namespace with the threads of its connections, and hosts it.
     fn share<L: Seating + Send + Sync + 'static>(
         &self,
@@ -110,13 +128,7 @@ pub fn serve_spaces<W: Shown, E: Shown, R: Machine>(
     let writing = thread::spawn(&rt, move || scribe.write_all(&rt, &outlet));
     let writing = writing.map_err(|_| AllocError)?;
     let (ending, ended) = bounded(alloc, listeners.len())?;
-    let mut threads = Vec::with_capacity(alloc, listeners.len())?;
-    for (space, listener) in spaces.into_iter().zip(listeners) {
-        let thread = hall.start(space, listener, &ending)?;
-        if threads.push(thread).is_err() {
-            return Err(Ending::from(Fault::OutOfMemory));
-        }
-    }
+    let threads = hall.start_all(spaces, listeners, &ending)?;
     if ended.iter(&rt).take(threads.len()).any(|failed| failed) {
         return Err(Ending::from(Fault::CannotListen));
     }

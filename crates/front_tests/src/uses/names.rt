@@ -54,40 +54,69 @@ fn shows<K: Eq + Hash + Drop, Q: HashedName<K>>(
     cache.contains_key_by_name(name, now()) == value.is_some() && get(cache, name) == Ok(value)
 }
 
-/// Whether a name finds its key, and another none.
+/// Whether a value that is named is given by its removal, or goes untold by its invalidation.
+fn leaves<K: Eq + Hash + Drop, Q: HashedName<K>>(
+    cache: &mut CacheState<K, u64>,
+    name: &Q,
+    is_told: bool,
+) -> bool {
+    if is_told {
+        remove(cache, name) == Ok(Some(3))
+    } else {
+        invalidate(cache, name) == Ok(())
+    }
+}
+
+/// Whether a name finds its key until that is gone, and another finds none.
 fn finds<K: Eq + Hash + Drop, Q: HashedName<K>>(
     cache: &mut CacheState<K, u64>,
     name: &Q,
     other: &Q,
+    is_told: bool,
 ) -> bool {
     shows(cache, name, Some(3))
         && shows(cache, other, None)
         && remove(cache, other) == Ok(None)
-        && remove(cache, name) == Ok(Some(3))
+        && leaves(cache, name, is_told)
         && shows(cache, name, None)
 }
 
-/// Whether a price is found by the text of its article, and by no other text.
-fn texts_name(alloc: Global) -> Result<bool, CacheError> {
-    let Ok(mut prices) = CacheState::<String, u64>::new(alloc, 100, now()) else {
+/// Whether the price of an article is found by the article's name, and by no other.
+fn finds_price<K: Eq + Hash + Drop, Q: HashedName<K>>(
+    alloc: Global,
+    article: K,
+    name: &Q,
+    other: &Q,
+    is_told: bool,
+) -> Result<bool, CacheError> {
+    let Ok(mut prices) = CacheState::<K, u64>::new(alloc, 100, now()) else {
         return Err(CacheError::OutOfMemory);
     };
-    insert(&mut prices, String::from_str(alloc, "pear")?, 3)?;
-    Ok(finds(&mut prices, &TextName::new("pear"), &TextName::new("pea")))
+    let inserted = insert(&mut prices, article, 3);
+    Ok(inserted == Ok(()) && finds(&mut prices, name, other, is_told))
 }
 
-/// Whether a price is found by the bytes of its article, and gone once they are invalidated.
+/// Whether a price is found by the text of its article, until it is removed.
+fn texts_name(alloc: Global) -> Result<bool, CacheError> {
+    let article = String::from_str(alloc, "pear")?;
+    finds_price(
+        alloc,
+        article,
+        &TextName::new("pear"),
+        &TextName::new("pea"),
+        true,
+    )
+}
+
+/// Whether a price is found by the bytes of its article, until it is invalidated.
 fn bytes_name(alloc: Global) -> Result<bool, CacheError> {
-    let Ok(mut prices) = CacheState::<Vec<u8>, u64>::new(alloc, 100, now()) else {
-        return Err(CacheError::OutOfMemory);
-    };
-    insert(&mut prices, Vec::from_slice(alloc, &[1, 2])?, 3)?;
-    let name = BytesName::new(&[1, 2]);
-    Ok(
-        shows(&mut prices, &name, Some(3))
-            && invalidate(&mut prices, &name) == Ok(())
-            && shows(&mut prices, &name, None)
-            && shows(&mut prices, &BytesName::new(&[1]), None),
+    let article = Vec::from_slice(alloc, &[1, 2])?;
+    finds_price(
+        alloc,
+        article,
+        &BytesName::new(&[1, 2]),
+        &BytesName::new(&[1]),
+        false,
     )
 }
 
