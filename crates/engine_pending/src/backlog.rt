@@ -1,6 +1,7 @@
 //! What waits, and one change of it for each method.
 ghost use Rattle.std.specs.Prelude.{◌≡◌, ℕ, ◌+◌, ◌-◌, ◌<◌, ◌≤◌, ◌^◌, ◌&&◌, ◌||◌, true, false, [], ◌∷◌, ◌⊎◌, ◌++◌, length, vec_len, vec_capacity, drop, min, max, remove, slice_get, is_some, Some, None, IfSome, IfNone, IfOk, OnOk, OnErr, option_map, option_copied, nat_le, nat_lt};
 ghost use Rattle.std.specs.String.{string_bytes};
+ghost use Rattle.std.specs.VecDeque.{deque_capacity};
 ghost use Rattle.std.specs.Result.{IsErrOf};
 ghost use Rattle.std.specs.Int.{IsNextPowerOfTwo};
 ghost use Rattle.policy_base.specs.Counts.{incremented, grown};
@@ -8,11 +9,12 @@ ghost use Rattle.engine_pending.specs.Pending.{IsUntouched, MakesRoom, is_run_du
 ghost use Rattle.engine_pending.specs.declared.tickets.Ticketed.{Ticketed};
 
 use crate::covering::is_any_over;
+use crate::fifo;
 use crate::tickets::{Ticketed, place_of_ticket, take_ticketed};
-use circular_buffer::HeapCircularBuffer;
 use engine_reference::{Notice, Refusal, Registered, Rules, Settings};
 use policy_base::{FrequencySketch, MAX_NANOS};
 use std::alloc::{AllocError, Global};
+use std::collections::VecDeque;
 use std::marker::Model;
 
 /// How many writes may wait for maintenance.
@@ -37,7 +39,7 @@ pub struct Backlog<K, V, O, W, S, R: Rules<K, V>> {
     unsent: Vec<Ticketed<W>>,
     reads: Vec<O>,
     writes: Vec<W>,
-    notices: HeapCircularBuffer<Notice<K, V>>,
+    notices: VecDeque<Notice<K, V>>,
     sketch: FrequencySketch,
     number: u64,
     weight: u64,
@@ -54,6 +56,7 @@ pub struct Backlog<K, V, O, W, S, R: Rules<K, V>> {
 impl<K, V, O, W, S, R: Rules<K, V>> Model for Backlog<K, V, O, W, S, R> {
     ghost use Rattle.std.specs.Prelude.{ℕ, ◌≡◌, ◌+◌, ◌-◌, ◌≤◌, ◌<◌, ◌^◌, length, vec_len, vec_capacity, option_map};
     ghost use Rattle.std.specs.String.{string_bytes};
+    ghost use Rattle.std.specs.VecDeque.{deque_capacity};
     ghost use Rattle.engine_pending.specs.Pending.{Pending};
 
     ghost Value = { Pending K V O W R.Predicate S R };
@@ -65,7 +68,7 @@ impl<K, V, O, W, S, R: Rules<K, V>> Model for Backlog<K, V, O, W, S, R> {
       reads = c.reads.items;
       writes = c.writes.items;
       notices = c.notices.items;
-      notice_room = c.notices.capacity - length c.notices.items;
+      notice_room = deque_capacity c.notices - length c.notices.items;
       sketch = c.sketch;
       number = c.number;
       weight = c.weight;
@@ -85,7 +88,6 @@ impl<K, V, O, W, S, R: Rules<K, V>> Model for Backlog<K, V, O, W, S, R> {
       predicates : vec_len c.predicates + c.reserved ≤ vec_capacity c.predicates;
       reads : 64 ≤ vec_capacity c.reads;
       writes : 128 ≤ vec_capacity c.writes;
-      notices : length c.notices.items ≤ c.notices.capacity;
       tickets : c.next_ticket + c.reserved < 2 ^ 64;
     } };
 }
@@ -109,14 +111,13 @@ impl<K, V, O, W, S, R: Rules<K, V>> Backlog<K, V, O, W, S, R> {
     {
         let reads = Vec::with_capacity(alloc, MAX_READS)?;
         let writes = Vec::with_capacity(alloc, MAX_WRITES)?;
-        let notices = HeapCircularBuffer::with_capacity(alloc, 0)?;
         Ok(Backlog {
             cleared: 0,
             predicates: Vec::new(alloc),
             unsent: Vec::new(alloc),
             reads,
             writes,
-            notices,
+            notices: VecDeque::new(alloc),
             sketch: FrequencySketch::default(alloc),
             number: 0,
             weight: 0,
@@ -301,7 +302,7 @@ impl<K, V, O, W, S, R: Rules<K, V>> Backlog<K, V, O, W, S, R> {
         ensures notice { result ≡ slice_get self.old.notices 0 }
         ensures taken { self.new ≡ notice_taken self.old }
     {
-        self.notices.pop_front()
+        fifo::take_first(&mut self.notices)
     }
 
     /// Adds the notice of what left, in room that there is for it, if `is_told` and removals are reported.
@@ -324,7 +325,7 @@ impl<K, V, O, W, S, R: Rules<K, V>> Backlog<K, V, O, W, S, R> {
         requires { 0 < self.old.notice_room }
         ensures { self.new ≡ told_if true notice self.old }
     {
-        match self.notices.try_push_back(notice) {
+        match self.notices.push_back(notice) {
             Ok(()) => {}
             Err(_) => unreachable!(),
         }
@@ -495,29 +496,16 @@ impl<K, V, O, W, S, R: Rules<K, V>> Backlog<K, V, O, W, S, R> {
     }
 }
 
-/// Makes room for so many more items, where it is wanted. What is there at least doubles, where it grows.
-fn grow_if<T>(
-    is_wanted: bool,
-    items: &mut HeapCircularBuffer<T>,
-    more: usize,
-) -> Result<(), AllocError>
+/// Makes room for so many more items, where it is wanted.
+fn grow_if<T>(is_wanted: bool, items: &mut VecDeque<T>, more: usize) -> Result<(), AllocError>
     ensures items { items.new.items ≡ items.old.items }
-    ensures within { length items.new.items ≤ items.new.capacity }
     ensures room { OnOk result
-        (is_wanted ≡ true → length items.new.items + more ≤ items.new.capacity) }
-    ensures err { OnErr result (items.new ≡ items.old) }
+        (is_wanted ≡ true → length items.new.items + more ≤ deque_capacity items.new) }
+    ensures err { OnErr result (deque_capacity items.new ≡ deque_capacity items.old) }
 {
-    let there = items.capacity();
-    if !is_wanted {
-        return Ok(());
-    }
-    match items.len().checked_add(more) {
-        Some(needed) => {
-            if needed <= there {
-                return Ok(());
-            }
-            items.resize(needed.max(there * 2))
-        }
-        None => Err(AllocError),
+    if is_wanted {
+        fifo::make_room(items, more)
+    } else {
+        Ok(())
     }
 }

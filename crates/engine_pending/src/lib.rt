@@ -4,6 +4,7 @@
 mod backlog;
 mod covering;
 mod deadlines;
+pub mod fifo;
 pub mod laws;
 mod tickets;
 pub mod timers;
