@@ -8,7 +8,8 @@
     python3 benches/connections.py hits     look-ups alone, each of which finds its value, by `memcache`, `memcached -t 1` and `redis`: three
                                             rounds in turn, medians; fills figures.json
     python3 benches/connections.py soak     a million requests over 200 connections, with the server's memory on the way
-    python3 benches/connections.py memory   what the server holds for each of a million values
+    python3 benches/connections.py memory   what `bivrangd`, by each of its protocols, and memcached and Redis hold for a value beside key and
+                                            value: just filled, and steady, by their number and length, without and with times to live
     python3 benches/connections.py idle     what `bivrangd` holds for each of 10,000 idle connections, what is left once they have closed, and
                                             what a request over 16 others costs without and with them
     python3 benches/connections.py waits    how long a request waits that comes at its time, over 64 connections at half the rate that the
@@ -21,7 +22,9 @@ ends the run with an error. With `hits` each has stored all its keys before.
 """
 import collections
 import contextlib
+import itertools
 import multiprocessing
+import os
 import pathlib
 import random
 import resource
@@ -49,7 +52,10 @@ ROUNDS = 3
 SOAK_CONNECTIONS, SOAK_REQUESTS, SOAK_DEPTH = 200, 1_000_000, 8
 CLIENT_PROCESSES = 3
 ANSWER_SECONDS = 30
-HELD = 1_000_000
+DAY = 86_400
+# how many values are held, of how many bytes each, and whether they have a time to live
+HELD = [(count, 32, lives) for lives in (False, True) for count in (300_000, 1_000_000, 1_150_000)]
+HELD += [(200_000, 50, False), (200_000, 200, False), (100_000, 1_000, False), (40_000, 4_000, False)]
 IDLE, ACTIVE = 10_000, 16
 # (each client process that keeps time takes a core)
 WAITING, WAIT_SECONDS, WAIT_PROCESSES = 64, 5, 2
@@ -60,8 +66,8 @@ class Lines:
     """The service's own lines: a request, and for each line of its reply the texts that it may be."""
 
     @staticmethod
-    def put(key, value):
-        return b"SET " + key + b" - " + value + b"\n", [(b"OK",)]
+    def put(key, value, lives=False):
+        return b"SET %b %b %b\n" % (key, b"%d" % (1000 * DAY) if lives else b"-", value), [(b"OK",)]
 
     @staticmethod
     def get(key, value):
@@ -72,9 +78,13 @@ class Bulks:
     """Those of Redis."""
 
     @staticmethod
-    def put(key, value):
-        request = b"*3\r\n$3\r\nSET\r\n$%d\r\n%b\r\n$%d\r\n%b\r\n" % (len(key), key, len(value), value)
-        return request, [(b"+OK\r",)]
+    def put(key, value, lives=False):
+        words = [b"SET", key, value, *([b"EX", b"%d" % DAY] if lives else [])]
+        return b"*%d\r\n" % len(words) + b"".join(b"$%d\r\n%b\r\n" % (len(word), word) for word in words), [(b"+OK\r",)]
+
+    @staticmethod
+    def drop(key):
+        return b"*2\r\n$3\r\nDEL\r\n$%d\r\n%b\r\n" % (len(key), key)
 
     @staticmethod
     def get(key, value):
@@ -86,8 +96,12 @@ class Texts:
     """Those of memcached."""
 
     @staticmethod
-    def put(key, value):
-        return b"set %b 0 0 %d\r\n%b\r\n" % (key, len(value), value), [(b"STORED\r",)]
+    def put(key, value, lives=False):
+        return b"set %b 0 %d %d\r\n%b\r\n" % (key, DAY if lives else 0, len(value), value), [(b"STORED\r",)]
+
+    @staticmethod
+    def drop(key):
+        return b"delete %b\r\n" % key
 
     @staticmethod
     def get(key, value):
@@ -112,11 +126,16 @@ def free_port():
 class Server:
     """A server of lines, with one namespace of that capacity until it is stopped; what it prints is read and dropped."""
 
-    dialect, row = Lines, servers.ROWS["cached"]
+    dialect, row, keeps_all = Lines, servers.ROWS["cached"], False
 
-    def __init__(self, capacity):
+    def __init__(self, capacity, more="", **size):
         self.port = free_port()
-        self.start([f'name = "main"\nport = {self.port}\n{self.row.capacity(capacity)}policy = "lru"\n'])
+        self.start([f'name = "main"\nport = {self.port}\n{self.row.capacity(capacity, **size)}policy = "lru"\n{more}'])
+
+    @classmethod
+    def holding(cls, count, _length, lives):
+        """One that holds so many values, which have times to live or not."""
+        return cls(count, more="deadlines = true\n" if lives else "")
 
     def start(self, namespaces):
         """Starts the program with these tables as its configuration."""
@@ -172,9 +191,16 @@ class Memcache(Server):
 
     dialect, row = Texts, servers.MEMCACHE
 
+    @classmethod
+    def holding(cls, count, length, _lives):
+        """One that holds so many items with keys of 16 bytes and values of that length."""
+        return cls(count, size=length + 16)
+
 
 class Other(Server):
     """A server that is started by words, and says nothing that is read."""
+
+    keeps_all = True
 
     def __init__(self, _capacity):
         self.port = free_port()
@@ -188,6 +214,11 @@ class Other(Server):
             except ConnectionRefusedError:
                 time.sleep(0.05)
         sys.exit(f"{self.words()[0]} does not listen")
+
+    @classmethod
+    def holding(cls, count, _length, _lives):
+        """One that holds so many values."""
+        return cls(count)
 
     @classmethod
     def is_there(cls):
@@ -217,6 +248,13 @@ class MemcachedAlone(Memcached):
 
     def words(self):
         return [*super().words(), "-t", "1"]
+
+
+class MemcachedWide(MemcachedAlone):
+    """The same with room for all that it is given."""
+
+    def words(self):
+        return [*super().words(), "-m", "8192"]
 
 
 class Plain(Other):
@@ -409,22 +447,50 @@ def soak():
     sys.exit(last > quarter * 1.1)
 
 
-def memory():
-    """Holds so many values of 32 bytes by keys of 16, and tells what that takes above their bytes."""
-    server = Server(HELD)
-    before = server.resident_kibibytes()
+def send_all(server, requests):
+    """Sends requests of one line of reply each, a thousand at a time, each thousand when the one before was answered."""
     with socket.create_connection((HOST, server.port), timeout=ANSWER_SECONDS) as client:
-        for first in range(0, HELD, 1000):
-            client.sendall(b"".join(Lines.put(b"key-%012d" % number, b"value-%026d" % number)[0] for number in range(first, first + 1000)))
-            left = 3000
+        while batch := list(itertools.islice(requests, 1000)):
+            client.sendall(b"".join(batch))
+            left = len(batch)
             while left:
-                left -= len(client.recv(left))
-            progress.show(f"{first:,} of {HELD:,} values")
-        progress.clear()
-        used = (server.resident_kibibytes() - before) * 1024
+                left -= client.recv(65536).count(b"\n")
+
+
+def held(make, count, length, lives):
+    """What a server holds for each of so many values of that length beside it and its key of 16 bytes: when it has just been filled, and when
+    each value has then been written over twice and all were replaced by others twice."""
+    server = make.holding(count, length, lives)
+    put = server.dialect.put
+
+    def values(first, last):
+        for number in range(first, last):
+            yield put(b"key-%012d" % number, b"%0*d" % (length, number), lives)[0]
+
+    before, used = server.resident_kibibytes(), []
+    for turns in ([0], [0, 0, 1, 2]):
+        for turn in turns:
+            if turn and server.keeps_all:
+                send_all(server, (server.dialect.drop(b"key-%012d" % number) for number in range((turn - 1) * count, turn * count)))
+            send_all(server, values(turn * count, (turn + 1) * count))
+        used.append(round((server.resident_kibibytes() - before) * 1024 / count - 16 - length))
     server.stop()
-    figures.keep("memory", {"cached": {"bytes": round(used / HELD - 48)}})
-    print(f"{HELD} values of 32 bytes by keys of 16: {used / HELD - 48:.0f} bytes a value above key and value")
+    return used
+
+
+def memory():
+    """Fills figures.json with what each server holds for a value. The system's `malloc` has one arena, as in the unit: with one for each thread
+    `bivrangd` holds up to twice as much once values come and go."""
+    os.environ["MALLOC_ARENA_MAX"] = "1"
+    makes = {name: make for name, make in HOLDERS.items() if make.is_there()}
+    for count, length, lives in HELD:
+        for name, make in makes.items():
+            what = f"{count:,} values of {length} bytes{' that live a day' if lives else ''}"
+            progress.show(f"{name}: {what}")
+            filled, steady = held(make, count, length, lives)
+            figures.keep("memory", {f"{name}: {what}": {"filled": filled, "steady": steady}})
+            progress.clear()
+            print(f"{name}: {what}: {filled} bytes a value beside key and value when just filled, {steady} steady", flush=True)
 
 
 def idle():
@@ -590,6 +656,7 @@ def spaces():
 
 
 SERVERS = {"cached": Server, "bivrangd": Bivrangd, "memcache": Memcache, "redis": Redis, "memcached": Memcached, "plain": Plain}
+HOLDERS = {"bivrangd": Bivrangd, "memcache": Memcache, "memcached": MemcachedWide, "redis": Redis}
 KINDS = {"soak": soak, "memory": memory, "idle": idle, "waits": waits, "spaces": spaces, "beside": beside, "hits": hits}
 
 

@@ -160,11 +160,13 @@ def judge(kept):
 
 def server(kept):
     lines, line = kept["million_lines"]["a million lines"]["seconds"], kept["instructions"]["a line"]
-    memory, soak, made = kept["memory"]["cached"]["bytes"], kept["soak"]["cached"], kept["calls_made"]["GET a"]
+    soak, made = kept["soak"]["cached"], kept["calls_made"]["GET a"]
+    memory = kept["memory"]["bivrangd: 1,000,000 values of 32 bytes"]
     idle, spaces = kept["idle"]["bivrangd"], kept.get("spaces")
     rows = [
         ("million_lines", "`million_lines.py`", f"{shown(lines, 2)} s of processor time", "1 s"),
-        ("memory", "`connections.py memory`", f"{memory} bytes per value in addition to key and value: a million values of 32 bytes, keys of 16", "170"),
+        ("memory", "`connections.py memory`", f"{memory['filled']} bytes beside key and value when just filled, {memory['steady']} once each was written over and replaced: "
+         "a million values of 32 bytes, keys of 16", "90"),
         ("idle", "`connections.py idle`", f"{idle['bytes']} bytes for each of 10,000 idle connections of `bivrangd`; a request over 16 others takes "
          f"{idle['alone']} us without them, {idle['beside']} us with them", "350, and no more"),
         ("soak", "`connections.py soak`", f"at most {soak['first quarter']} MiB in the first quarter of a million requests, {soak['last quarter']} MiB in the last", "flat"),
@@ -177,6 +179,14 @@ def server(kept):
         rows.append(("spaces", "`connections.py spaces`", f"{one} million requests a second of one namespace of `bivrangd` with one loop, {two} of two: {two / one:.2f} times", "1.8 times"))
     dated = [[name, kept["measured"][kind].split(",")[0], figure, goal] for kind, name, figure, goal in rows]
     return table(["Benchmark", "Measured", "Figure", "Goal"], dated)
+
+
+def memory(kept):
+    """For each number and length of values what each server holds for one, filled and steady."""
+    kinds = list(dict.fromkeys(name.split(": ", 1)[1] for name in kept["memory"]))
+    names = list(dict.fromkeys(name.split(": ", 1)[0] for name in kept["memory"]))
+    cell = lambda row: f"{row['filled']}, {row['steady']}" if row else ""
+    return table(["", *names], [[kind, *(cell(kept["memory"].get(f"{name}: {kind}")) for name in names)] for kind in kinds])
 
 
 def reading(kept):

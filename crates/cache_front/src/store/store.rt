@@ -11,6 +11,7 @@ use crate::data::{
 use crate::entries::{StoredValue, WordBuilder};
 use audit_model::{Config, Key, Note, Weight};
 use cache_store::{Counts, Store, StoreError};
+use engine_pending::fifo::take_first;
 use policy_base::Instant;
 use rand_core::Rng;
 use std::alloc::{AllocError, Global};
@@ -192,6 +193,6 @@ impl<R: Rng + Drop, S: BuildHasher + Drop> Store for FrontStore<R, S> {
     }
 
     fn next_notice(&mut self) -> Option<Note> {
-        Some(self.notes.pop_front()?.into_note())
+        Some(take_first(&mut self.notes)?.into_note())
     }
 }
