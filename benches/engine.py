@@ -1,7 +1,7 @@
 #!/usr/bin/env python3
 """Times the cache of one part compared with the kit's `LruCache`: look-ups, overwrites, inserts above the capacity, and memory per value.
 
-Build the program first: in crates/bench, `rt run` leaves it at out/bench. Each time is the difference of two runs of one round, in
+Each time is the difference of two runs of one round, in
 processor time; the second run fills the same cache, draws the keys in the same way and goes through them without a call. A factor
 compares runs of one round; what is printed are medians over the rounds, and the minimum and maximum factor. Memory is the peak resident
 size of a run, minus that of a run of one value.
@@ -20,10 +20,10 @@ import statistics
 import subprocess
 import sys
 
+import build
 import figures
 import progress
 
-PROGRAM = pathlib.Path(__file__).resolve().parent.parent / "crates/bench/out/bench"
 CACHES = ["tiny_lfu", "lru_cache"]
 WORKS = ["gets", "writes", "fetches"]
 SIZES = [1_000, 100_000, 1_000_000]
@@ -47,7 +47,7 @@ LONGEST_ROUNDS = 3
 
 def words_of(cache, work, draws, size, drawn, passes):
     """The words of one run."""
-    return [str(PROGRAM), "engine", cache, work, draws, str(size), str(drawn), str(passes)]
+    return [build.bench(), "engine", cache, work, draws, str(size), str(drawn), str(passes)]
 
 
 def spent_by(*kind):
@@ -149,7 +149,7 @@ def print_bytes(size):
 
 def longest_of(kind, size):
     """The milliseconds of the longest call of a kind at a size."""
-    words = [str(PROGRAM), "longest", *kind, str(size), str(LONGEST_CALLS), str(LONGEST_ROUNDS)]
+    words = [build.bench(), "longest", *kind, str(size), str(LONGEST_CALLS), str(LONGEST_ROUNDS)]
     return int(subprocess.run(words, capture_output=True, text=True, check=True).stdout) / 1e6
 
 

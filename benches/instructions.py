@@ -6,7 +6,7 @@
 
 With `calls` it counts instead those per call of the cache of one part, loop and hash included, and those of a `get` and of a `get_with` that
 finds its value, of the cache that threads share, without the loop: the difference of two runs that make 10 and 30 rounds of 1,000 calls, by
-20,000. In crates/bench, `rt run` leaves the program at out/bench (BENCH names another one).
+20,000. It builds that program itself (build.py).
 
 120,000 lines, half SET, half GET, of keys drawn from 10,000, keys of 16 bytes, values of 32: the count of these minus that of the first
 20,000, divided by 100,000. Both programs have to give the same replies. A count does not depend on what else runs, so one run of each is
@@ -23,6 +23,7 @@ import subprocess
 import sys
 import tempfile
 
+import build
 import figures
 import progress
 
@@ -31,7 +32,6 @@ PROGRAMS = {
     "cached": os.environ.get("CACHED", HERE.parent / "crates/cached/out/cached"),
     "plain_server": os.environ.get("PLAIN_SERVER", HERE / "plain_server/target/release/plain_server"),
 }
-BENCH = os.environ.get("BENCH", HERE.parent / "crates/bench/out/bench")
 LINES, FIRST, KEYS = 120_000, 20_000, 10_000
 # By the name of a call the words of a run, in which {} is how many rounds of a thousand calls it makes.
 ENGINE = {
@@ -69,7 +69,7 @@ def count(words, source, folder):
 def count_call(words, folder):
     """The instructions of one call of the runs with these words."""
     progress.show(words)
-    few, many = (count([BENCH, *words.format(rounds).split()], b"", folder)[0] for rounds in ROUNDS)
+    few, many = (count([build.bench(), *words.format(rounds).split()], b"", folder)[0] for rounds in ROUNDS)
     progress.clear()
     return (many - few) / ((ROUNDS[1] - ROUNDS[0]) * 1000)
 

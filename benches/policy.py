@@ -1,30 +1,29 @@
 #!/usr/bin/env python3
 """Times the policy's structures: moves in a queue, timers, counts of a sketch.
 
-Build the program first: in crates/bench, `rt run` leaves it at out/bench. Each figure is the difference of two runs, one of which only
+Each figure is the difference of two runs, one of which only
 builds the structure, in processor time, the best of three; the work itself is bounded. The status is 1 if a move of the first node takes
 more than three times as long at a million nodes as at a thousand: these go through memory in order. A random node of a million is
 usually in no processor cache, so its figure says more about the machine.
 """
 import os
-import pathlib
 import subprocess
 import sys
 
+import build
 import figures
 import progress
 
-PROGRAM = pathlib.Path(__file__).resolve().parent.parent / "crates/bench/out/bench"
 MOST_GROWTH = 3.0
 
 
 def seconds_of(what, size, rounds):
     """The processor seconds of the best of three runs."""
-    best = None
+    best, words = None, [build.bench(), "policy", what, str(size), str(rounds)]
     progress.show(f"{what} of {size:,}, {rounds:,} rounds")
     for _ in range(3):
         before = os.times()
-        subprocess.run([PROGRAM, "policy", what, str(size), str(rounds)], stdout=subprocess.DEVNULL, check=True)
+        subprocess.run(words, stdout=subprocess.DEVNULL, check=True)
         after = os.times()
         spent = after.children_user + after.children_system - before.children_user - before.children_system
         best = spent if best is None else min(best, spent)

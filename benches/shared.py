@@ -6,7 +6,7 @@ beside Caffeine: 1, 2 and 4 threads, 100,000 and 10,000 values, keys by Zipf's l
     python3 benches/shared.py SIZE CALLS ROUNDS    the same of one size, printed and not kept
 
 `mix`: nine look-ups and then a write, of as many keys as are held. `load`: look-ups of twice as many keys, and a write after each miss.
-Build the program first: in crates/bench, `rt run` leaves it at out/bench. Processor time, time and sleeps are those of a run minus those
+Processor time, time and sleeps are those of a run minus those
 of one of the same round that draws the same keys, fills the same cache and makes no call; the loop is taken off the processor time. A
 factor compares two runs of one round; medians over the rounds are printed, with the minimum and maximum factor. Caffeine, which warms
 up first, is left out if its package is not there (caffeine/run.sh). The status is 1 if at 100,000 a mixed call of `Cache` takes more than
@@ -19,10 +19,10 @@ import subprocess
 import sys
 import time
 
+import build
 import figures
 import progress
 
-PROGRAM = pathlib.Path(__file__).resolve().parent.parent / "crates/bench/out/bench"
 CAFFEINE = pathlib.Path(__file__).resolve().parent / "caffeine/run.sh"
 NO_PACKAGE = 3
 CACHES = ["moka", "shards", "lru", "pieces"]
@@ -33,13 +33,13 @@ DRAWN = 1_000_000
 CALLS = 1_000_000
 ROUNDS = 3
 BOUND = 4.0
-# Caffeine's keys are drawn by the same law as those of crates/bench.
+# Caffeine's keys are drawn by the same law as those of benches/work.
 EXPONENT = "1.0"
 
 
 def spent_by(cache, work, threads, size, calls):
     """The processor seconds, seconds and sleeps of one run."""
-    words = [str(PROGRAM), "sync", cache, work, str(threads), str(size), str(DRAWN), str(calls)]
+    words = [build.bench(), "sync", cache, work, str(threads), str(size), str(DRAWN), str(calls)]
     progress.show(" ".join(words[1:6]))
     began = time.perf_counter()
     process = subprocess.Popen(words, stdout=subprocess.DEVNULL)

@@ -9,20 +9,17 @@ engine, and `circular_buffer`. A call is on an element drawn by a fixed rule; a 
 those of a run less those of a run that only builds the structure, by valgrind's callgrind, so they do not depend on what else runs; bytes are
 the most that are resident less those of a run with one element, over the number of elements. Both of a pair have to come to the same.
 
-Build the program first: in crates/bench, `rt run` leaves it at out/bench (BENCH names another one). valgrind and GNU time have to be
-on the path.
+valgrind and GNU time have to be on the path.
 """
-import os
-import pathlib
 import re
 import subprocess
 import sys
 import tempfile
 
+import build
 import figures
 import progress
 
-PROGRAM = os.environ.get("BENCH", pathlib.Path(__file__).resolve().parent.parent / "crates/bench/out/bench")
 # What is compared: the engine's, and the kit's.
 PAIRS = [("keys", "index_map"), ("cell_slab", "slab"), ("vec", "circular_buffer")]
 SIZE, ROUNDS, HELD = 10_000, 50_000, 1_000_000
@@ -32,7 +29,7 @@ WAITING, TAKEN = 64, 2_000
 
 def words_of(which, work, size, rounds):
     """The words of one run."""
-    return [str(PROGRAM), "structures", which, work, str(size), str(rounds)]
+    return [build.bench(), "structures", which, work, str(size), str(rounds)]
 
 
 def counted(which, work, size, rounds):

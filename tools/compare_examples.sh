@@ -59,8 +59,8 @@ taken=$(python3 tools/take_crates.py "$folder" moka_sync)
 same "how many crates docs/FROM_MOKA.md and tools/take_crates.py take" \
     "$(grep -o 'the [0-9]* crates below it' docs/FROM_MOKA.md | head -n 1)" "the $((${taken%% *} - 1)) crates below it"
 
-# README lists every crate of the kit that crates.txt names, and no other.
-lines=$(sed 's/#.*//' crates.txt | grep ':')
+# README lists every crate of the kit that crates.txt or the benchmarks' program names, and no other.
+lines=$({ cat crates.txt; sed -n 's/^CRATE = "\(.*\)"$/\1/p' benches/build.py; } | sed 's/#.*//' | grep ':')
 own=$(sed 's/[ :].*//' <<<"$lines" | sort -u)
 same "the kit's crates in README.md and those in crates.txt" \
     "$(sed -n 's/^Crates of the kit: //p' README.md | grep -o '`[a-z_0-9]*`' | tr -d '`' | sort)" \

@@ -3,8 +3,8 @@
     python3 tools/floors.py            prints the figures
     python3 tools/floors.py --list     lists the functions that only forward, with their bodies, and those with many arguments
 
-A function only forwards if its body is one call whose arguments are names, fields, or calls without arguments. Crates of tests and the
-benchmarks' program are left out.
+A function only forwards if its body is one call whose arguments are names, fields, or calls without arguments. Crates of tests and of
+examples are left out.
 """
 import collections
 import functools
@@ -27,7 +27,7 @@ def crates():
     lines = (it.split("#")[0] for it in (ROOT / "crates.txt").read_text(encoding="utf-8").splitlines())
     named = [it.split(":") for it in lines if ":" in it]
     below = {name.split()[0]: those.split() for name, those in named}
-    own = {name for name in below if not name.endswith("_tests") and name not in ("rows", "bench", "cache_uses")}
+    own = {name for name in below if not name.endswith("_tests") and name not in ("rows", "cache_uses")}
     return {name: [it for it in those if it in own] for name, those in below.items() if name in own}
 
 

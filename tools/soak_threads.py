@@ -3,13 +3,13 @@
 
     python3 tools/soak_threads.py [--threads N] [--seconds N] [--limit N] [--program PATH]
 
-It runs rounds of `bench sync soak` (crates/bench/README.md) until 60 seconds are over, or as many as --seconds says. The rounds
+It runs rounds of `bench sync soak` (benches/work/README.md) until 60 seconds are over, or as many as --seconds says. The rounds
 go through SHAPES: capacities, and how many keys there are. A round fails where a value that a cache accepted was told twice or
 never, where one that it did not accept was told, where a call was refused, and where it has not ended after --limit seconds, 300
 where none are given.
 
-The program is crates/bench/out/bench, which `rt run` leaves there. A line tells what the rounds came to. The status is 1 where
-one failed.
+It runs the program that benches/build.py builds, or the one that --program names. A line tells what the rounds came to. The status
+is 1 where one failed.
 """
 import argparse
 import itertools
@@ -21,6 +21,7 @@ import time
 
 ROOT = pathlib.Path(__file__).resolve().parent.parent
 sys.path.insert(0, str(ROOT / "benches"))
+import build  # noqa: E402
 import progress  # noqa: E402
 
 SHAPES = [(100, 1000), (20, 60), (1000, 5000), (3, 10), (1, 1)]
@@ -48,16 +49,15 @@ def main():
     words.add_argument("--threads", type=int, default=8, help=argparse.SUPPRESS)
     words.add_argument("--seconds", type=int, default=60, help=argparse.SUPPRESS)
     words.add_argument("--limit", type=int, default=300, help=argparse.SUPPRESS)
-    words.add_argument("--program", type=pathlib.Path, default=ROOT / "crates/bench/out/bench", help=argparse.SUPPRESS)
+    words.add_argument("--program", type=pathlib.Path, help=argparse.SUPPRESS)
     words = words.parse_args()
-    if not words.program.exists():
-        sys.exit(f"there is no {words.program}: in crates/bench `rt run` leaves it there")
+    program = words.program or build.bench()
     start = time.monotonic()
     rounds = values = failed = 0
     for size, keys in itertools.cycle(SHAPES):
         order = ["sync", "soak", words.threads, size, keys, CALLS]
         progress.show(f"round {rounds + 1}: {' '.join(map(str, order))}")
-        accepted, cause = values_of([words.program, *map(str, order)], words.limit)
+        accepted, cause = values_of([program, *map(str, order)], words.limit)
         rounds += 1
         values += accepted
         if cause:

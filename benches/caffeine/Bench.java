@@ -18,7 +18,7 @@ import java.util.function.IntFunction;
  * Bench memory SIZE..             prints for each size the bytes of heap that a value takes above key and value
  * Bench threads EXPONENT WORK SIZE CALLS THREADS..
  *                                 prints for each number of threads the processor nanoseconds a call and the million calls a second:
- *                                 medians of the rounds. WORK is mix or load, as in crates/bench
+ *                                 medians of the rounds. WORK is mix or load, as in benches/work
  * </pre>
  *
  * A key that is not found is written. Maintenance runs on the caller's thread, so that its time counts. Times are processor time of
@@ -63,7 +63,7 @@ public final class Bench {
     return found;
   }
 
-  /** The next number that is drawn, as crates/bench draws it. */
+  /** The next number that is drawn, as benches/work draws it. */
   private static long nextDraw(long draw) {
     return draw * 6364136223846793005L + 1442695040888963407L;
   }
