@@ -70,7 +70,7 @@ def copy_of_repository(crate, folder):
                 to.parent.mkdir(parents=True, exist_ok=True)
                 shutil.copy(file, to)
         else:
-            shutil.copytree(ROOT / "crates" / name, folder / "crates" / name, ignore=shutil.ignore_patterns("out", "must-fail"))
+            shutil.copytree(ROOT / "crates" / name, folder / "crates" / name, ignore=shutil.ignore_patterns("out"))
     (folder / "crates.txt").write_text("".join(f"{lines[name]}\n" for name in names), encoding="utf-8")
     shutil.copy(ROOT / "HANDLES", folder)
 

@@ -214,9 +214,8 @@ def stand_for(edits, refused):
 def wrong_bodies():
     """The page of the edits that the prover has to refuse, with how each was refused when `tools/wrong_bodies.py` last tried it."""
     edits = {}
-    for file in [*ROOT.glob("tools/wrong_bodies/*/*.edit"), *ROOT.glob("crates/*/must-fail/*.edit")]:
-        crate = file.parent.name if file.parent.name != "must-fail" else file.parent.parent.name
-        edits.setdefault(crate, []).append(file.stem)
+    for file in ROOT.glob("tools/wrong_bodies/*/*.edit"):
+        edits.setdefault(file.parent.name, []).append(file.stem)
     refused = {name: row["word"] for name, row in json.loads((ROOT / "tools/wrong_bodies/results.json").read_text(encoding="utf-8")).items()}
     ways = {True: {}, False: {}}
     for crate, names in edits.items():
@@ -228,8 +227,8 @@ def wrong_bodies():
     return spaced([
         ["# Wrong bodies"],
         [MADE.replace(" Change the doc comments and the comments at clauses there.", "")],
-        [f"The {count} edits that the prover has to refuse: `tools/wrong_bodies/CRATE/NAME.edit`, or `crates/CRATE/must-fail/NAME.edit`, which"
-         " the gate tries. [PROVED.md](../PROVED.md#wrong-bodies) says what *clause*, *premise*, *answer* and *form* mean."],
+        [f"The {count} edits that the prover has to refuse: `tools/wrong_bodies/CRATE/NAME.edit`."
+         " [PROVED.md](../PROVED.md#wrong-bodies) says what *clause*, *premise*, *answer* and *form* mean."],
         ["## Wrong programs"],
         ["| A wrong program | Refused |", "|-|-|", *stand_for(edits, refused)],
         ["## By crate"],

@@ -42,7 +42,7 @@ def main():
         target = folder / "crates" / name
         for part in ("src", "specs", "proofs"):
             shutil.rmtree(target / part, ignore_errors=True)
-        shutil.copytree(ROOT / "crates" / name, target, ignore=shutil.ignore_patterns("out", "must-fail"), dirs_exist_ok=True)
+        shutil.copytree(ROOT / "crates" / name, target, ignore=shutil.ignore_patterns("out"), dirs_exist_ok=True)
     others = [text for name, text in lines_of(folder / "crates.txt").items() if name not in taken]
     (folder / "crates.txt").write_text("\n".join([lines[name] for name in taken] + others) + "\n", encoding="utf-8")
     if not (folder / "HANDLES").exists():

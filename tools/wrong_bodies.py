@@ -2,8 +2,8 @@
 
     python3 tools/wrong_bodies.py [--jobs N] [--anew | --below] [--list] [CRATE | CRATE/NAME ..]     with `rt` on the path; without a name, all
 
-It tries the bodies in tools/wrong_bodies/CRATE, and those in crates/CRATE/must-fail, which the gate tries too. Both
-have the same form: a line `file: PATH`, then pairs of lines `old: TEXT` and `new: TEXT`; TEXT occurs once in the file.
+It tries the bodies in tools/wrong_bodies/CRATE. A body is a line `file: PATH`, then pairs of lines `old: TEXT` and `new: TEXT`; TEXT
+occurs once in the file.
 
 A body that is refused otherwise than by a clause shows little by itself, since a right body may be refused so too. Another one stands
 beside it: the same fault in one case alone, before which the function returns early, so that proofs written by hand still fit. Its file
@@ -150,12 +150,9 @@ class Kept:
 
 def bodies_of(crate):
     """The bodies of a crate: for each its name and its file."""
-    found = {}
-    for folder in (os.path.join(BODIES, crate), os.path.join(ROOT, "crates", crate, "must-fail")):
-        for name in os.listdir(folder) if os.path.isdir(folder) else []:
-            if name.endswith(".edit"):
-                found[name.removesuffix(".edit")] = os.path.join(folder, name)
-    return sorted(found.items())
+    folder = os.path.join(BODIES, crate)
+    names = [name for name in os.listdir(folder) if name.endswith(".edit")] if os.path.isdir(folder) else []
+    return sorted((name.removesuffix(".edit"), os.path.join(folder, name)) for name in names)
 
 
 # What a check says where no function has the name that it was given, and where several have.
@@ -623,9 +620,8 @@ def work(wanted, told, lock, kept):
 
 def chosen(names):
     """The bodies to be tried, by crate."""
-    crates = sorted({*os.listdir(BODIES), *(it for it in os.listdir(os.path.join(ROOT, "crates")) if bodies_of(it))})
     found = []
-    for crate in crates:
+    for crate in sorted(os.listdir(BODIES)):
         bodies = [it for it in bodies_of(crate) if not names or crate in names or f"{crate}/{it[0]}" in names]
         if bodies:
             found.append((crate, bodies))
