@@ -21,3 +21,5 @@ pub mod Configs
 pub mod Summary
 pub mod BelongsIn
 pub mod Keys
+pub mod Numbered
+pub mod Underway

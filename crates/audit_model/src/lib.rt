@@ -1,4 +1,4 @@
-//! The types of the line protocol's events and records, and the definitions that contracts cite.
+//! The types of the line protocol's events and records, the definitions that contracts cite, and the numbers of loads under way.
 #![tactic(auto)]
 
 mod command;
@@ -6,6 +6,7 @@ mod config;
 mod event;
 mod input;
 mod key;
+pub mod loads;
 mod note_key;
 mod seq;
 mod short;

@@ -6,7 +6,7 @@ use Rattle.std.specs.Map.{values_of, lookup, set_value}
 use Rattle.std.specs.Option.{option_copied}
 use Rattle.std.proofs.lemmas.Option.{none-some}
 use Rattle.std.proofs.lemmas.Bool.{cases_Bool, not-true, and_parts, and_from, eq-eqb, eqb-true, ne_eqb, lt-ltb, le-ltb, ltb-true, leb-true, le-leb}
-use Rattle.audit_loads.specs.Numbered.{changed_numbered}
+use Rattle.audit_model.specs.Numbered.{changed_numbered}
 use Rattle.indexmap.specs.IndexMap.{insert_entry, swap_remove_entry}
 use Rattle.audit_situation.specs.Listings.{is_new_number, is_listing, are_apart, ranked}
 use Rattle.audit_situation.proofs.Ranked.{flip, swap_out, swapped_is, swap_out-map, all-swap_out, apart-out, IsOrder, rising, falling, ranked-find, left-out, ranked-map, ranked-newest_first, ranked-newest_last, all-ranked}

@@ -5,7 +5,7 @@ use Rattle.std.specs.Option.{option_map_or}
 use Rattle.std.proofs.lemmas.Option.{none-some}
 use Rattle.std.proofs.lemmas.Bool.{cases_Bool, eqb-true, and_parts, not-true}
 use Rattle.audit_model.specs.Situation.{Situation, Connection, connection_in, without_number, without_connection, with_connection, is_overlong, without_waiting}
-use Rattle.audit_loads.specs.Numbered.{changed_numbered}
+use Rattle.audit_model.specs.Numbered.{changed_numbered}
 use Rattle.audit_situation.specs.States.{have_numbers_apart}
 use Rattle.std.proofs.lemmas.Bool.Decides.{nat_tests}
 

@@ -1,10 +1,10 @@
 //! Connections that wait for a load no more.
 ghost use Rattle.std.specs.Prelude.{◌≡◌, ◌==◌, ℕ, None, cond};
 ghost use Rattle.std.specs.List.{list_any};
-ghost use Rattle.audit_loads.specs.Underway.{load_of};
+ghost use Rattle.audit_model.specs.Underway.{load_of};
 
 use crate::waiters::Waiters;
-use audit_loads::take_waiting;
+use audit_model::loads::take_waiting;
 use std::collections::BTreeMap;
 
 /// Makes each of these connections wait no more.

@@ -3,7 +3,7 @@ ghost use Rattle.std.specs.Prelude.{◌≡◌, ◌++◌, ◌∷◌, [], map, tru
 ghost use Rattle.std.specs.List.{find, list_all};
 ghost use Rattle.std.specs.Option.{option_map_or};
 ghost use Rattle.audit_model.specs.Situation.{Connection, is_overlong, without_number};
-ghost use Rattle.audit_loads.specs.Numbered.{changed_numbered};
+ghost use Rattle.audit_model.specs.Numbered.{changed_numbered};
 ghost use Rattle.audit_situation.specs.Listings.{is_listing};
 ghost use Rattle.audit_situation.specs.Standings.{moved_as, fed_with};
 

@@ -3,14 +3,14 @@ ghost use Rattle.std.specs.Prelude.{◌≡◌, ◌++◌, ◌∷◌, [], map, not
 ghost use Rattle.std.specs.List.{find, filter};
 ghost use Rattle.audit_model.specs.Bytewise.{same};
 ghost use Rattle.audit_model.specs.Situation.{with_waiting, without_waiting};
-ghost use Rattle.audit_loads.specs.Underway.{KeepsNumbers};
+ghost use Rattle.audit_model.specs.Underway.{KeepsNumbers};
 
 use crate::joined::remove_all;
 use crate::numbered::Numbered;
 use crate::pending::Pending;
 use crate::waiters::Waiters;
-use audit_loads::{load_of, number_at, put_key, put_waiting, remove_key, take_waiting};
 use audit_model::Seq;
+use audit_model::loads::{load_of, number_at, put_key, put_waiting, remove_key, take_waiting};
 use std::alloc::{AllocError, Global};
 use std::collections::BTreeMap;
 use std::marker::Model;

@@ -2,7 +2,7 @@
 ghost use Rattle.std.specs.Prelude.{◌≡◌, ◌++◌, ◌∷◌, [], map, true, not, ◌==◌, nat_lt, OnOk, OnErr, option_map};
 ghost use Rattle.std.specs.List.{find, filter, list_all};
 ghost use Rattle.audit_model.specs.Situation.{PendingLoad, without_waiting};
-ghost use Rattle.audit_loads.specs.Numbered.{changed_numbered};
+ghost use Rattle.audit_model.specs.Numbered.{changed_numbered};
 ghost use Rattle.audit_situation.specs.Listings.{is_listing};
 
 use crate::pending::Pending;

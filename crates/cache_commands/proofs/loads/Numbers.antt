@@ -14,9 +14,9 @@ use Rattle.std.specs.declared.cmp.Ordering.TheVariants.{Less, Equal, Greater}
 use Rattle.std.specs.declared.cmp.Reverse.{Reverse}
 use Rattle.audit_model.specs.Bytewise.{same}
 use Rattle.audit_model.specs.Situation.{PendingLoad}
-use Rattle.audit_loads.proofs.Waiting.{at-number, below, keyed-of, of-none, of-number}
-use Rattle.audit_loads.specs.Numbered.{changed_numbered}
-use Rattle.audit_loads.specs.Underway.{Keys, Joined, IsKeyed, KeepsNumbers, has_number, number_at}
+use Rattle.audit_model.proofs.Waiting.{at-number, below, keyed-of, of-none, of-number}
+use Rattle.audit_model.specs.Numbered.{changed_numbered}
+use Rattle.audit_model.specs.Underway.{Keys, Joined, IsKeyed, KeepsNumbers, has_number, number_at}
 use Rattle.cache_commands.proofs.loads.Keys.{all-filter, all-mapped, all-on}
 use Rattle.cache_commands.specs.Loads.Keys.{pending_load, were_sent}
 use Rattle.cache_commands.specs.Loads.Numbers.{NumberedLoads, are_below, are_falling, have_own_numbers, load_numbered, loads_of, AreUnderWay, load_with_key}

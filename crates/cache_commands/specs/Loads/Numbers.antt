@@ -5,7 +5,7 @@ use Rattle.std.specs.Option.{option_map}
 use Rattle.audit_model.specs.Bytewise.{same}
 use Rattle.audit_model.specs.Situation.{PendingLoad}
 use Rattle.std.specs.declared.cmp.Reverse.{Reverse}
-use Rattle.audit_loads.specs.Underway.{Keys, number_at}
+use Rattle.audit_model.specs.Underway.{Keys, number_at}
 use Rattle.cache_commands.specs.Loads.Keys.{pending_load}
 use Rattle.cache_commands.specs.declared.loads.load.Load.{Load}
 

@@ -4,14 +4,14 @@ ghost use Rattle.std.specs.List.{filter, list_any};
 ghost use Rattle.std.specs.Option.{option_map};
 ghost use Rattle.audit_model.specs.Bytewise.{same};
 ghost use Rattle.audit_model.specs.Situation.{with_waiting, without_waiting};
-ghost use Rattle.audit_loads.specs.Underway.{KeepsNumbers, load_of, number_at};
+ghost use Rattle.audit_model.specs.Underway.{KeepsNumbers, load_of, number_at};
 ghost use Rattle.cache_commands.specs.Loads.Keys.{are_in_turn, have_their_keys, pending_load, were_sent};
 ghost use Rattle.cache_commands.specs.Loads.Numbers.{AreUnderWay, SameKeys, are_below};
 
 use crate::loads::load::{Load, new_load};
 use crate::loads::numbered::Numbered;
 use crate::writing::push_within;
-use audit_loads::{load_of, number_at, put_key, put_waiting, remove_key, take_waiting};
+use audit_model::loads::{load_of, number_at, put_key, put_waiting, remove_key, take_waiting};
 use audit_model::{Bytes, LoadId, Seq};
 use std::alloc::{AllocError, Global};
 use std::collections::BTreeMap;

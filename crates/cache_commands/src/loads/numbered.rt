@@ -2,7 +2,7 @@
 ghost use Rattle.std.specs.Prelude.{◌≡◌, ◌++◌, ◌∷◌, ◌==◌, [], not, true, length, map, option_map, OnOk, OnErr};
 ghost use Rattle.std.specs.List.{filter};
 ghost use Rattle.audit_model.specs.Situation.{without_waiting};
-ghost use Rattle.audit_loads.specs.Numbered.{changed_numbered};
+ghost use Rattle.audit_model.specs.Numbered.{changed_numbered};
 ghost use Rattle.cache_commands.specs.Loads.Keys.{pending_load};
 ghost use Rattle.cache_commands.specs.Loads.Numbers.{are_below, are_falling, have_own_numbers, load_numbered, loads_of};
 

@@ -1,6 +1,6 @@
 use Rattle.std.proofs.Common.{◌≡◌, ◌==◌, ℕ, None, cond}
 use Rattle.std.specs.List.{list_any}
-use Rattle.audit_loads.specs.Underway.{load_of}
+use Rattle.audit_model.specs.Underway.{load_of}
 use Rattle.audit_situation.proofs.joined.remove_all.Given as goal
 
 abbrev pub invariant-loop-conn : goal.invariant-loop-conn

@@ -3,7 +3,7 @@ use Rattle.std.specs.List.{find}
 use Rattle.std.specs.Map.{values_of}
 use Rattle.std.specs.Option.{option_map_or}
 use Rattle.audit_model.specs.Situation.{Connection, is_overlong}
-use Rattle.audit_loads.specs.Numbered.{changed_numbered}
+use Rattle.audit_model.specs.Numbered.{changed_numbered}
 use Rattle.audit_situation.specs.Listings.{ranked}
 use Rattle.audit_situation.specs.Standings.{moved_on}
 use Rattle.audit_situation.proofs.Listing.{found-ranked, follows, changed-ranked, unchanged-ranked, changed-listing, set-past}

@@ -1,10 +1,10 @@
 use Rattle.std.proofs.Common.{◌≡◌, ◌++◌, ◌∷◌, [], sym, ap, ◌∙◌, map, false}
 use Rattle.std.specs.Prelude.{is_some}
 use Rattle.audit_model.specs.Situation.{with_waiting}
-use Rattle.audit_loads.specs.Numbered.{changed_numbered}
-use Rattle.audit_loads.specs.Underway.{KeepsNumbers, load_of}
+use Rattle.audit_model.specs.Numbered.{changed_numbered}
+use Rattle.audit_model.specs.Underway.{KeepsNumbers, load_of}
 use Rattle.audit_situation.proofs.Listing.{follows}
-use Rattle.audit_loads.proofs.Waiting.{joined_is, unjoined_is, joined-keeps, more-joined, joins, either-way}
+use Rattle.audit_model.proofs.Waiting.{joined_is, unjoined_is, joined-keeps, more-joined, joins, either-way}
 use Rattle.audit_situation.proofs.loads.LoadTable.join.Goals as goal
 
 pub returns-in_default : goal.returns-in_default

@@ -1,6 +1,6 @@
 use Rattle.std.proofs.Common.{sym, ap, ◌∙◌, map}
 use Rattle.audit_model.specs.Situation.{without_waiting}
-use Rattle.audit_loads.proofs.Waiting.{left_is, unleft_is, left-keeps}
+use Rattle.audit_model.proofs.Waiting.{left_is, unleft_is, left-keeps}
 use Rattle.audit_situation.proofs.loads.LoadTable.leave.Goals as goal
 
 pub invariant_of-self-inside : goal.invariant_of-self-inside

@@ -2,7 +2,7 @@ use Rattle.std.proofs.Common.{sym, ap, ◌∙◌}
 use Rattle.std.specs.List.{find}
 use Rattle.audit_model.specs.Bytewise.{same}
 use Rattle.audit_model.specs.Situation.{PendingLoad}
-use Rattle.audit_loads.proofs.Waiting.{of-number, of-none}
+use Rattle.audit_model.proofs.Waiting.{of-number, of-none}
 use Rattle.audit_situation.proofs.loads.LoadTable.of_key.Goals as goal
 
 pub returns-in-Some : goal.returns-in-Some

@@ -1,8 +1,8 @@
 use Rattle.std.proofs.Common.{◌≡◌, ◌==◌, ℕ, List, sym, ap, ◌∙◌, None, cond}
 use Rattle.std.specs.List.{list_any}
 use Rattle.audit_model.specs.Bytewise.{same}
-use Rattle.audit_loads.specs.Underway.{load_of, number_at}
-use Rattle.audit_loads.proofs.Waiting.{none-removed, removed-keeps}
+use Rattle.audit_model.specs.Underway.{load_of, number_at}
+use Rattle.audit_model.proofs.Waiting.{none-removed, removed-keeps}
 use Rattle.audit_situation.proofs.loads.LoadTable.remove.Goals as goal
 
 pub invariant_of-self-inside : goal.invariant_of-self-inside

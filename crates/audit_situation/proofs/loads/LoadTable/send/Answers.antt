@@ -5,9 +5,9 @@ use Rattle.std.proofs.lemmas.Bool.{eq-eqb, eqb-true, and_from, lt-ltb}
 use Rattle.std.proofs.lemmas.Slice.Eq.{bytes_eq-Decides}
 use Rattle.audit_model.specs.Situation.{PendingLoad}
 use Rattle.audit_model.specs.Bytewise.{same}
-use Rattle.audit_loads.specs.Underway.{Keys, IsKeyed, KeepsNumbers, has_number, load_of, number_at}
+use Rattle.audit_model.specs.Underway.{Keys, IsKeyed, KeepsNumbers, has_number, load_of, number_at}
 use Rattle.audit_situation.proofs.Listing.{follows}
-use Rattle.audit_loads.proofs.Waiting.{keyed-of, known, sent, more-joined, same-keys, joins, either-way}
+use Rattle.audit_model.proofs.Waiting.{keyed-of, known, sent, more-joined, same-keys, joins, either-way}
 use Rattle.audit_situation.proofs.loads.LoadTable.send.Goals as goal
 
 has-one : (o : Option ℕ) (p : PendingLoad) → has_number o p ≡ true → o ≡ Some p.number

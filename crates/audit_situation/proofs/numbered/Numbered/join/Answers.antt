@@ -1,7 +1,7 @@
 use Rattle.std.proofs.Common.{◌++◌, ◌∷◌, [], refl, sym, ap, ◌∙◌, map, nat_lt}
 use Rattle.std.specs.Map.{values_of}
 use Rattle.audit_model.specs.Situation.{PendingLoad}
-use Rattle.audit_loads.specs.Numbered.{changed_numbered}
+use Rattle.audit_model.specs.Numbered.{changed_numbered}
 use Rattle.audit_situation.specs.Listings.{ranked}
 use Rattle.audit_situation.proofs.Listing.{follows, fails, changed-ranked, unchanged-ranked, put-back, changed-listing}
 use Rattle.audit_situation.proofs.Ranked.{falling}

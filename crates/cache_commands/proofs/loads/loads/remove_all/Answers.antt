@@ -1,6 +1,6 @@
 use Rattle.std.proofs.Common.{◌<◌, zero, cond, drop, get_or, ap, ◌∙◌, add-one, arith, ◌≡◌, ◌==◌, ◌||◌, ℕ, suc, Bool, true, List, [], ◌∷◌, Option, None, length}
 use Rattle.std.specs.List.{list_any}
-use Rattle.audit_loads.specs.Underway.{load_of}
+use Rattle.audit_model.specs.Underway.{load_of}
 use Rattle.cache_commands.proofs.loads.loads.remove_all.Goals as goal
 
 either : (old : Option ℕ) (b t : Bool) → cond t None (cond b None old) ≡ cond (b || t) None old

@@ -1,6 +1,6 @@
 use Rattle.std.proofs.Common.{cond, drop, ◌≡◌, ◌==◌, ℕ, None}
 use Rattle.std.specs.List.{list_any}
-use Rattle.audit_loads.specs.Underway.{load_of}
+use Rattle.audit_model.specs.Underway.{load_of}
 use Rattle.cache_commands.proofs.loads.loads.remove_all.Given as goal
 
 abbrev pub invariant-loop-conn : goal.invariant-loop-conn

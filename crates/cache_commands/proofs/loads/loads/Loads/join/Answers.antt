@@ -1,6 +1,6 @@
 use Rattle.std.proofs.Common.{refl, sym, ap, ◌∙◌, subst, ◌≡◌, List, false, is_some}
-use Rattle.audit_loads.proofs.Waiting.{joined-keeps, joined_is}
-use Rattle.audit_loads.specs.Underway.{KeepsNumbers, load_of}
+use Rattle.audit_model.proofs.Waiting.{joined-keeps, joined_is}
+use Rattle.audit_model.specs.Underway.{KeepsNumbers, load_of}
 use Rattle.audit_model.specs.Situation.{PendingLoad}
 use Rattle.cache_commands.specs.Loads.Keys.{have_their_keys}
 use Rattle.cache_commands.proofs.loads.Numbers.{changed-number, with_one, live-mapped, numbered, were-sent}

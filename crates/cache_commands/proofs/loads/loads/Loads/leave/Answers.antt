@@ -1,6 +1,6 @@
 use Rattle.std.proofs.Common.{refl, sym, ap, ◌∙◌, subst, ◌≡◌, List, map}
-use Rattle.audit_loads.proofs.Waiting.{left-keeps, left_is, unleft_is}
-use Rattle.audit_loads.specs.Underway.{KeepsNumbers}
+use Rattle.audit_model.proofs.Waiting.{left-keeps, left_is, unleft_is}
+use Rattle.audit_model.specs.Underway.{KeepsNumbers}
 use Rattle.audit_model.specs.Situation.{PendingLoad, without_waiting}
 use Rattle.cache_commands.specs.Loads.Keys.{have_their_keys}
 use Rattle.cache_commands.proofs.loads.Numbers.{live-mapped, were-sent}

@@ -1,8 +1,8 @@
 use Rattle.std.proofs.Common.{cond, refl, sym, ap, ◌∙◌, subst, arith, ◌≡◌, ℕ, ◌+◌, ◌∷◌, [], List, Some, false, is_some, length}
 use Rattle.std.proofs.lemmas.Bool.{eq-eqb}
 use Rattle.std.proofs.lemmas.List.{length-append}
-use Rattle.audit_loads.proofs.Waiting.{joins, more-joined, sent}
-use Rattle.audit_loads.specs.Underway.{KeepsNumbers, load_of, number_at}
+use Rattle.audit_model.proofs.Waiting.{joins, more-joined, sent}
+use Rattle.audit_model.specs.Underway.{KeepsNumbers, load_of, number_at}
 use Rattle.audit_model.specs.Bytewise.{same}
 use Rattle.audit_model.specs.Situation.{PendingLoad}
 use Rattle.cache_commands.specs.Loads.Numbers.{are_below}

@@ -1,7 +1,7 @@
 use Rattle.std.proofs.Common.{cond, sym, ap, ◌∙◌, subst, ◌≡◌, ◌==◌, not, ℕ, List, None}
 use Rattle.std.specs.List.{list_any}
-use Rattle.audit_loads.proofs.Waiting.{none-removed, removed-keeps}
-use Rattle.audit_loads.specs.Underway.{KeepsNumbers, load_of, number_at}
+use Rattle.audit_model.proofs.Waiting.{none-removed, removed-keeps}
+use Rattle.audit_model.specs.Underway.{KeepsNumbers, load_of, number_at}
 use Rattle.audit_model.specs.Bytewise.{same}
 use Rattle.audit_model.specs.Situation.{PendingLoad}
 use Rattle.cache_commands.specs.Loads.Keys.{have_their_keys, pending_load}

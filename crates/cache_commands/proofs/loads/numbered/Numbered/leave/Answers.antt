@@ -1,7 +1,7 @@
 use Rattle.std.proofs.Common.{refl, sym, ap, ◌∙◌, ℕ, map}
 use Rattle.std.specs.BTreeMap.{BTreeMap}
 use Rattle.std.specs.declared.cmp.Reverse.{Reverse}
-use Rattle.audit_loads.specs.Numbered.{changed_numbered}
+use Rattle.audit_model.specs.Numbered.{changed_numbered}
 use Rattle.audit_model.specs.Situation.{PendingLoad, without_waiting}
 use Rattle.cache_commands.specs.Loads.Numbers.{loads_of}
 use Rattle.cache_commands.specs.declared.loads.load.Load.{Load}

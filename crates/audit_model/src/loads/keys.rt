@@ -1,7 +1,7 @@
 //! Numbers of loads by key.
 ghost use Rattle.std.specs.Prelude.{◌≡◌, ℕ, List, OnOk, OnErr, Some, None, cond};
 ghost use Rattle.audit_model.specs.Bytewise.{same};
-ghost use Rattle.audit_loads.specs.Underway.{number_at};
+ghost use Rattle.audit_model.specs.Underway.{number_at};
 
 use std::alloc::AllocError;
 use std::collections::BTreeMap;

@@ -1,6 +1,6 @@
 //! Numbers of loads by the connections that wait for them.
 ghost use Rattle.std.specs.Prelude.{◌≡◌, ◌==◌, ℕ, OnOk, OnErr, Some, None, cond};
-ghost use Rattle.audit_loads.specs.Underway.{load_of};
+ghost use Rattle.audit_model.specs.Underway.{load_of};
 
 use std::alloc::AllocError;
 use std::collections::BTreeMap;

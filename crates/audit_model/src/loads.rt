@@ -1,6 +1,4 @@
 //! Numbers of loads under way, by their keys and by the connections that wait for them.
-#![tactic(auto)]
-
 mod joined;
 mod keys;
 

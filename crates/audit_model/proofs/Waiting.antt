@@ -18,8 +18,8 @@ use Rattle.std.proofs.lemmas.Map.Text.{is_eq-slice_cmp}
 use Rattle.std.proofs.lemmas.Slice.Eq.{bytes_eq-Decides}
 use Rattle.audit_model.specs.Bytewise.{same}
 use Rattle.audit_model.specs.Situation.{PendingLoad, with_waiting, without_waiting}
-use Rattle.audit_loads.specs.Numbered.{changed_numbered}
-use Rattle.audit_loads.specs.Underway.{Keys, Joined, number_at, load_of, has_number, IsKeyed, StandsAtWaiters, KeepsNumbers}
+use Rattle.audit_model.specs.Numbered.{changed_numbered}
+use Rattle.audit_model.specs.Underway.{Keys, Joined, number_at, load_of, has_number, IsKeyed, StandsAtWaiters, KeepsNumbers}
 
 -- ---- lists
 
