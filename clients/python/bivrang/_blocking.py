@@ -9,6 +9,7 @@ import warnings
 from types import TracebackType
 from typing import (
     Any,
+    Callable,
     Dict,
     Generic,
     Iterable,
@@ -24,6 +25,7 @@ from typing import (
 
 from ._codecs import RAW, Codec, Given, Text, Told
 from ._errors import (
+    ArgumentError,
     BivrangError,
     ConnectFailed,
     ConnectionBroken,
@@ -34,6 +36,7 @@ from ._errors import (
 )
 from ._links import RECEIVED_AT_ONCE, Link, Pool, Receive, Send, Steps, limit
 from ._protocol import (
+    ABSENT,
     QUIT,
     Call,
     Held,
@@ -44,20 +47,25 @@ from ._protocol import (
     gets_of,
     may_be_sent_again,
     only,
+    raise_first,
     refused,
     renamed_ttl,
     sets_of,
+    several,
 )
 from ._spread import Server, Spread, merged, results_or_first_error
+from ._urls import arguments_of
 
+AnyGiven = TypeVar("AnyGiven")
+AnyTold = TypeVar("AnyTold")
 Default = TypeVar("Default")
 Key = TypeVar("Key", str, bytes)
 T = TypeVar("T")
 
 
 class KeyedCommands(Generic[Given, Told]):
-    """The requests with a key. Each may raise a `LinkError`, and `KeyRefused` if the key is not
-    allowed."""
+    """The requests with a key. Each may raise a `LinkError`, `KeyRefused` if the key is not
+    allowed, and TypeError if it is neither text nor bytes."""
 
     codec: Codec[Given, Told]
     """How values are written and read."""
@@ -74,11 +82,20 @@ class KeyedCommands(Generic[Given, Told]):
         At a `LinkError` the results are lost: if `may_have_run`, any number of requests, from the
         first on, may have run.
         """
-        calls = calls_of(requests, self.codec)
+        try:
+            calls = calls_of(requests, self.codec)
+        except ArgumentError as error:
+            self._name_server(error)
+            raise
         return self._run(calls) if calls else []
 
-    def _ask(self, request: Request[T]) -> T:
-        result: T = only(self.pipeline([request]))
+    def _name_server(self, error: ArgumentError) -> None:
+        """Says which server an argument was for, as far as it is known."""
+        raise NotImplementedError
+
+    def _ask(self, make: Callable[[], Request[T]]) -> T:
+        """The result of the request that this makes, or refuses to make."""
+        result: T = only(self.pipeline(it() for it in (make,)))
         return result
 
     def set(
@@ -95,7 +112,8 @@ class KeyedCommands(Generic[Given, Told]):
         Raises `ValueRefused`, `DeadlineRefused`, and `DeadlineError` for a time to live in a
         namespace without `deadlines = true`.
         """
-        return self._ask(Request.set(key, value, ttl=renamed_ttl(ttl, milliseconds)))
+        life = renamed_ttl(ttl, milliseconds)
+        return self._ask(lambda: Request.set(key, value, ttl=life))
 
     def set_many(self, values: Mapping[Key, Given], *, ttl: Optional[Seconds] = None) -> List[Key]:
         """Stores each key's value, in one pipeline. Returns the keys that were not stored, which
@@ -113,21 +131,46 @@ class KeyedCommands(Generic[Given, Told]):
     def get(self, key: Text, default: Any = None) -> Any:
         """Returns the key's live value, which counts as a use of it; the default if it has none.
         Sent once more if its connection broke before a reply. Raises `DecodeError`."""
-        return self._ask(Request.get(key, default))
+        return self._ask(lambda: Request.get(key, default))
 
     def get_many(self, keys: Iterable[Key]) -> Dict[Key, Told]:
         """Returns the live values of keys, each of which counts as used, by key; a key without one
         is not in the dictionary. One pipeline, which is sent once more like a `get`."""
-        asked = list(keys)
+        asked = several(keys)
         return found(asked, self.pipeline(gets_of(asked)))
 
     def has(self, key: Text) -> bool:
         """Returns whether the key has a live value. Does not count as a use. Sent once more if its
         connection broke before a reply."""
-        return self._ask(Request.has(key))
+        return self._ask(lambda: Request.has(key))
 
     def __contains__(self, key: Text) -> bool:
         return self.has(key)
+
+    __iter__ = None
+    """Keys are told by `keys`, and not one after the other."""
+
+    def __getitem__(self, key: Text) -> Told:
+        """Returns what `get` returns. Raises KeyError if the key has no live value."""
+        told: Told = self._ask(lambda: Request.get(key, ABSENT))
+        if told is ABSENT:
+            raise KeyError(key)
+        return told
+
+    def __setitem__(self, key: Text, value: Given) -> None:
+        """Does what `set` does, without a time to live."""
+        self.set(key, value)
+
+    def __delitem__(self, key: Text) -> None:
+        """Does what `delete` does: never a KeyError, since the server does not say whether the key
+        had a value."""
+        self.delete(key)
+
+    def touch(self, key: Text) -> bool:
+        """Returns whether the key has a live value, and counts as a use of it, which restarts its
+        idle time. A time to live stays as it is. The value is sent as for `get`, and dropped. Sent
+        once more if its connection broke before a reply."""
+        return self._ask(lambda: Request.touch(key))
 
     def load(self, key: Text) -> Optional[Told]:
         """Returns the key's live value; if it has none, the server loads one from elsewhere and
@@ -136,12 +179,17 @@ class KeyedCommands(Generic[Given, Told]):
         Raises `LoadFailed`, `LoadAbandoned` and `DecodeError`. The reply may take as long as the
         load.
         """
-        told: Optional[Told] = self._ask(Request.load(key))
+        told: Optional[Told] = self._ask(lambda: Request.load(key))
         return told
 
     def delete(self, key: Text) -> None:
-        """Deletes the key's value, if it has one."""
-        self._ask(Request.delete(key))
+        """Deletes the key's value, if it has one. The server does not say whether it had."""
+        self._ask(lambda: Request.delete(key))
+
+    def delete_many(self, keys: Iterable[Text]) -> None:
+        """Deletes the values of keys, in one pipeline. Raises the first error after the last
+        reply."""
+        raise_first(self.pipeline(map(Request.delete, several(keys))))
 
     def incr(self, key: Text, number: int = 1, *, ttl: Optional[Seconds] = None) -> Optional[int]:
         """Adds to the key's number (0 if it has no live value), stores the sum, and returns it.
@@ -151,7 +199,7 @@ class KeyedCommands(Generic[Given, Told]):
         deadline the value had before. Raises `NumberRefused`, `DeadlineRefused`, `DeadlineError`,
         and `NumberError` if the value is not a number or the sum is too large.
         """
-        return self._ask(Request.incr(key, number, ttl=ttl))
+        return self._ask(lambda: Request.incr(key, number, ttl=ttl))
 
     def add(self, key: Text, number: int, milliseconds: Optional[int] = None) -> Optional[int]:
         """The old name of `incr`, which some caches give to a call that stores a value only where
@@ -165,12 +213,12 @@ class Commands(KeyedCommands[Given, Told]):
 
     def clear(self) -> None:
         """Hides all stored values."""
-        self._ask(Request.clear())
+        self._ask(lambda: Request.clear())
 
     def drop_if(self, prefix: Text) -> None:
         """Hides all values whose keys begin with the prefix. Raises `KeyRefused` and
         `IdentifiersError`."""
-        self._ask(Request.drop_if(prefix))
+        self._ask(lambda: Request.drop_if(prefix))
 
     def keys(self) -> List[bytes]:
         """Returns the keys that have a live value, in byte order. Does not count as a use. There
@@ -178,16 +226,16 @@ class Commands(KeyedCommands[Given, Told]):
 
         Sent once more if its connection broke before a reply.
         """
-        return self._ask(Request.keys())
+        return self._ask(lambda: Request.keys())
 
     def sync(self) -> Held:
         """Runs maintenance, and returns what is held after it."""
-        return self._ask(Request.sync())
+        return self._ask(lambda: Request.sync())
 
     def ping(self) -> bool:
         """Returns True if the server answers; otherwise raises a `LinkError`. It asks whether a
         key has a value (`HAS`), which is no use of it."""
-        return self._ask(Request.ping())
+        return self._ask(lambda: Request.ping())
 
 
 def _connected(host: str, port: int, seconds: float) -> socket.socket:
@@ -254,7 +302,7 @@ class Connection(Link, Commands[Text, bytes]):
     def quit(self) -> None:
         """`QUIT`: the server replies `OK` and closes the connection; then so does the client."""
         try:
-            self._ask(QUIT)
+            self._ask(lambda: QUIT)
         finally:
             self.close()
 
@@ -314,8 +362,11 @@ class Client(Pool[Connection], Commands[Given, Told]):
     A connection that broke, timed out or sent an invalid reply is closed and never used again. A
     request that only reads (`GET`, `HAS`, `KEYS`), or a pipeline of such, is sent once more, on a
     new connection, if the first broke before a byte of the reply was received; no other request
-    is, since it may have run. Creating a `Client` does not connect yet.
+    is, since it may have run. Creating a `Client` does not connect yet. A copy, by `pickle` or
+    `copy`, has the same settings, and makes connections of its own.
     """
+
+    _own = frozenset({"_lock", "_idle", "_free"})
 
     @overload
     def __init__(
@@ -355,6 +406,24 @@ class Client(Pool[Connection], Commands[Given, Told]):
     ) -> None:
         self.codec = codec
         super().__init__(host, port, connections, connect_seconds, reply_seconds, wait_seconds)
+
+    @overload
+    @classmethod
+    def from_url(cls, url: str) -> "Client[Text, bytes]":
+        ...
+
+    @overload
+    @classmethod
+    def from_url(cls, url: str, *, codec: Codec[AnyGiven, AnyTold]) -> "Client[AnyGiven, AnyTold]":
+        ...
+
+    @classmethod
+    def from_url(cls, url: str, *, codec: Any = RAW) -> "Client[Any, Any]":
+        """A client of the server that a URL names: `bivrang://HOST:PORT`, where a port that is left
+        out is 7411, or `bivrang:///PATH/OF/SOCKET`; `?connections=2&reply_seconds=0.5` behind it
+        gives other arguments (`connections`, `connect_seconds`, `reply_seconds`, `wait_seconds`).
+        Raises ValueError for any other text."""
+        return cls(codec=codec, **arguments_of(url))
 
     def __enter__(self) -> "Client[Given, Told]":
         return self

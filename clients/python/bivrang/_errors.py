@@ -9,7 +9,9 @@ def is_path(host: str) -> bool:
 
 def place_of(host: str, port: Optional[int]) -> str:
     """How a server is called in texts."""
-    return host if is_path(host) else f"{host}:{port}"
+    if is_path(host):
+        return host
+    return f"[{host}]:{port}" if ":" in host else f"{host}:{port}"
 
 
 class BivrangError(Exception):

@@ -7,10 +7,13 @@ import time
 import weakref
 from typing import (
     Any,
+    Dict,
+    FrozenSet,
     Generator,
     Generic,
     List,
     NamedTuple,
+    NoReturn,
     Optional,
     Sequence,
     TypeVar,
@@ -18,6 +21,7 @@ from typing import (
 )
 
 from ._errors import (
+    ArgumentError,
     BadReply,
     BivrangError,
     ConnectionBroken,
@@ -50,9 +54,21 @@ def limit(seconds: float) -> float:
 class Forked:
     """What a child process made by `fork` gets too, and begins anew. Two processes that share a
     connection would read each other's replies, and a lock that another thread holds is never
-    released in the child, where that thread does not run."""
+    released in the child, where that thread does not run. A copy, by `pickle` or `copy`, begins
+    anew as well."""
+
+    _own: FrozenSet[str] = frozenset()
+    """The attributes that no copy gets: those that are set when it begins anew, at least."""
 
     def __init__(self) -> None:
+        _living.add(self)
+
+    def __getstate__(self) -> Dict[str, Any]:
+        return {name: value for name, value in vars(self).items() if name not in self._own}
+
+    def __setstate__(self, state: Dict[str, Any]) -> None:
+        vars(self).update(state)
+        self._begin_anew()
         _living.add(self)
 
     def _begin_anew(self) -> None:
@@ -108,6 +124,9 @@ class Link(Forked):
         state = "open" if self.is_open else "closed"
         return f"<{type(self).__name__} {place_of(self.host, self.port)}, {state}>"
 
+    def __getstate__(self) -> NoReturn:
+        raise TypeError("a connection is of one process: pickle or copy a Client")
+
     @property
     def is_open(self) -> bool:
         """Whether it can be used: it was not closed, and each reply was complete."""
@@ -118,6 +137,9 @@ class Link(Forked):
         if self._socket is not None:
             self._socket.close()
             self._socket = None
+
+    def _name_server(self, error: ArgumentError) -> None:
+        error._place(self.host, self.port, None)
 
     def is_quiet(self) -> bool:
         """Whether it can be used and nothing came that nobody asked for, neither bytes nor the end
@@ -244,7 +266,9 @@ AnyLink = TypeVar("AnyLink", bound=Link)
 
 class Pool(Forked, Generic[AnyLink]):
     """The settings of a pool of connections to one namespace, and those that are idle. A child
-    process made by `fork` begins without any."""
+    process made by `fork`, and a copy, begin without any."""
+
+    _own = frozenset({"_lock", "_idle"})
 
     def __init__(
         self,
@@ -283,6 +307,9 @@ class Pool(Forked, Generic[AnyLink]):
     def _begin_anew(self) -> None:
         self._lock = threading.Lock()
         self._idle: List[AnyLink] = []
+
+    def _name_server(self, error: ArgumentError) -> None:
+        error._place(self.host, self.port, None)
 
     def _place(self, error: LinkError, calls: Sequence[Call]) -> None:
         """Says where calls failed, if nothing was sent; otherwise the link has said it."""

@@ -1,4 +1,5 @@
 """Requests as lines, and replies as results, without any input or output."""
+import collections.abc
 import operator
 import re
 import warnings
@@ -9,6 +10,7 @@ from typing import (
     Dict,
     Generic,
     Iterable,
+    Iterator,
     List,
     Mapping,
     NamedTuple,
@@ -80,6 +82,8 @@ def key_bytes(key: Text) -> bytes:
         taken = key.encode("ascii") if isinstance(key, str) else bytes(memoryview(key))
     except UnicodeEncodeError:
         taken = b""
+    except TypeError:
+        raise TypeError(f"a key is text or bytes, not {type(key).__name__}") from None
     if not _KEY.fullmatch(taken):
         raise KeyRefused(f"a key is 1 to 250 bytes, each from ! to ~, unlike {key[:40]!r}")
     return taken
@@ -176,6 +180,10 @@ def _read_value(lines: Sequence[bytes]) -> Optional[bytes]:
     if not lines[0].startswith(b"VAL "):
         raise Mismatch
     return lines[0][4:]
+
+
+def _read_touched(lines: Sequence[bytes]) -> bool:
+    return _read_value(lines) is not None
 
 
 def _read_sum(lines: Sequence[bytes]) -> Optional[int]:
@@ -279,7 +287,7 @@ class Request(Generic[T]):
         """The result of a miss, if it is a look-up; otherwise the error."""
         if self.is_read and self._read is _read_value:
             return self._default
-        return False if self._read is _read_presence else error
+        return False if self._read in (_read_presence, _read_touched) else error
 
     @staticmethod
     def set(
@@ -305,6 +313,12 @@ class Request(Generic[T]):
         """`HAS key`"""
         taken = key_bytes(key)
         return Request((b"HAS", taken), _read_presence, taken, is_read=True)
+
+    @staticmethod
+    def touch(key: Text) -> "Request[bool]":
+        """`GET key`, of whose reply only the kind counts"""
+        taken = key_bytes(key)
+        return Request((b"GET", taken), _read_touched, taken, is_read=True)
 
     @staticmethod
     def load(key: Text) -> "Request[Any]":
@@ -373,9 +387,15 @@ class Call(NamedTuple):
     codec: Codec[Any, Any]
 
 
+def _call_of(request: Request[Any], codec: Codec[Any, Any]) -> Call:
+    if not isinstance(request, Request):
+        raise TypeError(f"a pipeline is of requests, such as Request.get(key), not {request!r:.40}")
+    return Call(request, request.line(codec), codec)
+
+
 def calls_of(requests: Iterable[Request[Any]], codec: Codec[Any, Any]) -> List[Call]:
     """The calls of requests. If one of them cannot be sent, none is."""
-    return [Call(request, request.line(codec), codec) for request in requests]
+    return [_call_of(request, codec) for request in requests]
 
 
 def only(results: Sequence[Any]) -> Any:
@@ -411,14 +431,23 @@ def may_be_sent_again(calls: Sequence[Call]) -> bool:
 # Many keys.
 
 
-def gets_of(keys: Iterable[Text]) -> List[Request[Any]]:
+def several(keys: Iterable[T]) -> List[T]:
+    """Keys as a list. A text, whose characters would pass for keys, is one key."""
+    if isinstance(keys, (str, bytes, bytearray, memoryview)):
+        raise TypeError(f"several keys are a list or the like, and {keys!r:.40} is one")
+    return list(keys)
+
+
+def gets_of(keys: Iterable[Text]) -> Iterator[Request[Any]]:
     """A look-up of each key, whose result is `ABSENT` where it is a miss."""
-    return [Request.get(key, ABSENT) for key in keys]
+    return (Request.get(key, ABSENT) for key in keys)
 
 
-def sets_of(values: Mapping[Key, Any], ttl: Optional[Seconds]) -> List[Request[bool]]:
+def sets_of(values: Mapping[Key, Any], ttl: Optional[Seconds]) -> Iterator[Request[bool]]:
     """A request that stores each key's value."""
-    return [Request.set(key, value, ttl=ttl) for key, value in values.items()]
+    if not isinstance(values, collections.abc.Mapping):
+        raise TypeError(f"values by key are a dictionary or the like, not {values!r:.40}")
+    return (Request.set(key, value, ttl=ttl) for key, value in values.items())
 
 
 def found(keys: Iterable[Key], results: Sequence[Any]) -> Dict[Key, Any]:

@@ -61,11 +61,13 @@ class Server(NamedTuple):
 
 class BackOff(Forked):
     """Whether one server is asked. After it did not answer, it is left alone for some seconds;
-    then one call tries it, while others leave it alone for as long again."""
+    then one call tries it, while others leave it alone for as long again. A copy asks it."""
+
+    _own = frozenset({"_lock", "_until"})
+    _until: Optional[float] = None
 
     def __init__(self, retry_after: float) -> None:
         self._retry_after = retry_after
-        self._until: Optional[float] = None
         self._begin_anew()
         super().__init__()
 
@@ -146,6 +148,10 @@ class Spread(Generic[AnyPool]):
             if score > best:
                 best, chosen = score, name
         return chosen
+
+    def _name_server(self, error: ArgumentError) -> None:
+        if error.key is not None:
+            self.clients[self.server_of(error.key)]._name_server(error)
 
     def _shares(self, calls: Sequence[Call]) -> Dict[str, Share]:
         """Each server's calls."""

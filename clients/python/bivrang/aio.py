@@ -29,6 +29,7 @@ from typing import (
     Iterable,
     List,
     Mapping,
+    NoReturn,
     Optional,
     Sequence,
     Type,
@@ -39,9 +40,10 @@ from typing import (
 
 from . import _blocking
 from ._codecs import RAW, Codec, Given, Text, Told
-from ._errors import BivrangError, ConnectionBroken, LinkError, PoolTimeout, is_path
+from ._errors import ArgumentError, BivrangError, ConnectionBroken, LinkError, PoolTimeout, is_path
 from ._links import RECEIVED_AT_ONCE, Link, Pool, Receive, Send, Steps
 from ._protocol import (
+    ABSENT,
     Call,
     Held,
     Request,
@@ -51,13 +53,18 @@ from ._protocol import (
     gets_of,
     may_be_sent_again,
     only,
+    raise_first,
     refused,
     sets_of,
+    several,
 )
 from ._spread import Server, Spread, merged, results_or_first_error
+from ._urls import arguments_of
 
 __all__ = ["Client", "Commands", "KeyedCommands", "Servers"]
 
+AnyGiven = TypeVar("AnyGiven")
+AnyTold = TypeVar("AnyTold")
 Default = TypeVar("Default")
 Key = TypeVar("Key", str, bytes)
 T = TypeVar("T")
@@ -85,15 +92,22 @@ class KeyedCommands(Generic[Given, Told]):
         raise NotImplementedError
 
     async def pipeline(self, requests: Iterable[Request[Any]]) -> List[Any]:
-        calls = calls_of(requests, self.codec)
+        try:
+            calls = calls_of(requests, self.codec)
+        except ArgumentError as error:
+            self._name_server(error)
+            raise
         return await self._run(calls) if calls else []
 
-    async def _ask(self, request: Request[T]) -> T:
-        result: T = only(await self.pipeline([request]))
+    def _name_server(self, error: ArgumentError) -> None:
+        raise NotImplementedError
+
+    async def _ask(self, make: Callable[[], Request[T]]) -> T:
+        result: T = only(await self.pipeline(it() for it in (make,)))
         return result
 
     async def set(self, key: Text, value: Given, *, ttl: Optional[Seconds] = None) -> bool:
-        return await self._ask(Request.set(key, value, ttl=ttl))
+        return await self._ask(lambda: Request.set(key, value, ttl=ttl))
 
     async def set_many(
         self, values: Mapping[Key, Given], *, ttl: Optional[Seconds] = None
@@ -109,26 +123,44 @@ class KeyedCommands(Generic[Given, Told]):
         ...
 
     async def get(self, key: Text, default: Any = None) -> Any:
-        return await self._ask(Request.get(key, default))
+        return await self._ask(lambda: Request.get(key, default))
 
     async def get_many(self, keys: Iterable[Key]) -> Dict[Key, Told]:
-        asked = list(keys)
+        asked = several(keys)
         return found(asked, await self.pipeline(gets_of(asked)))
 
     async def has(self, key: Text) -> bool:
-        return await self._ask(Request.has(key))
+        return await self._ask(lambda: Request.has(key))
+
+    def __contains__(self, key: Text) -> NoReturn:
+        """What `in` asks cannot be awaited."""
+        raise TypeError("`in` cannot be awaited: use `await client.has(key)`")
+
+    __iter__ = None
+
+    async def __getitem__(self, key: Text) -> Told:
+        told: Told = await self._ask(lambda: Request.get(key, ABSENT))
+        if told is ABSENT:
+            raise KeyError(key)
+        return told
+
+    async def touch(self, key: Text) -> bool:
+        return await self._ask(lambda: Request.touch(key))
 
     async def load(self, key: Text) -> Optional[Told]:
-        told: Optional[Told] = await self._ask(Request.load(key))
+        told: Optional[Told] = await self._ask(lambda: Request.load(key))
         return told
 
     async def delete(self, key: Text) -> None:
-        await self._ask(Request.delete(key))
+        await self._ask(lambda: Request.delete(key))
+
+    async def delete_many(self, keys: Iterable[Text]) -> None:
+        raise_first(await self.pipeline(map(Request.delete, several(keys))))
 
     async def incr(
         self, key: Text, number: int = 1, *, ttl: Optional[Seconds] = None
     ) -> Optional[int]:
-        return await self._ask(Request.incr(key, number, ttl=ttl))
+        return await self._ask(lambda: Request.incr(key, number, ttl=ttl))
 
 
 @_documented_as(_blocking.Commands)
@@ -136,19 +168,19 @@ class Commands(KeyedCommands[Given, Told]):
     """All requests except for `QUIT`, as in `bivrang.Commands`."""
 
     async def clear(self) -> None:
-        await self._ask(Request.clear())
+        await self._ask(lambda: Request.clear())
 
     async def drop_if(self, prefix: Text) -> None:
-        await self._ask(Request.drop_if(prefix))
+        await self._ask(lambda: Request.drop_if(prefix))
 
     async def keys(self) -> List[bytes]:
-        return await self._ask(Request.keys())
+        return await self._ask(lambda: Request.keys())
 
     async def sync(self) -> Held:
-        return await self._ask(Request.sync())
+        return await self._ask(lambda: Request.sync())
 
     async def ping(self) -> bool:
-        return await self._ask(Request.ping())
+        return await self._ask(lambda: Request.ping())
 
 
 def _settle(waiter: "asyncio.Future[bool]", outcome: bool) -> bool:
@@ -312,6 +344,8 @@ class Client(Pool[_Connection], Commands[Given, Told]):
     """A pool of connections to one namespace, which tasks share. Arguments and rules are those of
     `bivrang.Client`. `close` is not awaited."""
 
+    _own = frozenset({"_lock", "_idle", "_loop", "_permits"})
+
     @overload
     def __init__(
         self: "Client[Text, bytes]",
@@ -350,6 +384,21 @@ class Client(Pool[_Connection], Commands[Given, Told]):
     ) -> None:
         self.codec = codec
         super().__init__(host, port, connections, connect_seconds, reply_seconds, wait_seconds)
+
+    @overload
+    @classmethod
+    def from_url(cls, url: str) -> "Client[Text, bytes]":
+        ...
+
+    @overload
+    @classmethod
+    def from_url(cls, url: str, *, codec: Codec[AnyGiven, AnyTold]) -> "Client[AnyGiven, AnyTold]":
+        ...
+
+    @classmethod
+    def from_url(cls, url: str, *, codec: Any = RAW) -> "Client[Any, Any]":
+        """A client of the server that a URL names, as by `bivrang.Client.from_url`."""
+        return cls(codec=codec, **arguments_of(url))
 
     async def __aenter__(self) -> "Client[Given, Told]":
         return self

@@ -134,6 +134,7 @@ class ClientCase(unittest.TestCase):
     """A case of a client, of this kind."""
 
     make = Client
+    from_url = Client.from_url
     make_servers = Servers
 
     def made(self, port, **options):

@@ -35,15 +35,19 @@ class Awaited:
 class AwaitedCase:
     """Makes the clients of a case ones of asyncio."""
 
-    def make(self, *words, **options):
-        client = Awaited(aio.Client, *words, **options)
+    def awaited(self, *words, **options):
+        client = Awaited(*words, **options)
         self.addCleanup(client.loop.close)
         return client
 
+    def make(self, *words, **options):
+        return self.awaited(aio.Client, *words, **options)
+
+    def from_url(self, *words, **options):
+        return self.awaited(aio.Client.from_url, *words, **options)
+
     def make_servers(self, *words, **options):
-        servers = Awaited(aio.Servers, *words, **options)
-        self.addCleanup(servers.loop.close)
-        return servers
+        return self.awaited(aio.Servers, *words, **options)
 
 
 class Commands(AwaitedCase, test_client.Commands):
@@ -80,6 +84,10 @@ class Arguments(AwaitedCase, test_client.Arguments):
 
 
 class Lives(AwaitedCase, test_client.Lives):
+    pass
+
+
+class Urls(AwaitedCase, test_client.Urls):
     pass
 
 
@@ -123,6 +131,23 @@ async def until(holds):
         if asyncio.get_running_loop().time() > ends:
             raise AssertionError("it does not come to hold")
         await asyncio.sleep(0.001)
+
+
+class Items(FakeCase):
+    def test_items_are_awaited(self):
+        async def main(fake):
+            async with aio.Client(HOST, fake.port, **PATIENT) as cache:
+                self.assertEqual(await cache["a"], b"1")
+                with self.assertRaises(KeyError):
+                    await cache["b"]
+                with self.assertRaisesRegex(TypeError, "await client.has"):
+                    "a" in cache  # noqa: B015
+                with self.assertRaisesRegex(TypeError, "not iterable"):
+                    iter(cache)
+
+        fake = Fake(self, replies(b"VAL 1\n", b"NONE\n"))
+        asyncio.run(main(fake))
+        self.assertEqual(fake.received, [b"GET a\nGET b\n"])
 
 
 class Tasks(RealCase):

@@ -105,9 +105,27 @@ class Commands(RealCase):
         self.assertEqual(cache.get_many(["b", "nothing", "a"]), {"b": b"2", "a": b"1"})
         self.assertEqual(cache.get_many(iter([b"c"])), {b"c": b""})
         self.assertEqual(cache.get_many([]), {})
+        self.assertIsNone(cache.delete_many(iter(["a", "nothing"])))
+        self.assertIsNone(cache.delete_many([]))
+        self.assertEqual(cache.get_many(["a", "b"]), {"b": b"2"})
         self.assertEqual(cache.set_many({}), [])
         with self.assertRaises(bivrang.DeadlineError):
             self.client().set_many({"a": "1"}, ttl=1000)
+
+    def test_touch(self):
+        cache = self.client("small")
+        cache.set("a", "1")
+        cache.set("b", "2")
+        # (a use before maintenance has taken the value in does not count)
+        cache.sync()
+        self.assertIs(cache.touch("a"), True)
+        self.assertIs(cache.touch("c"), False)
+        # Of two values the one that was used least recently leaves.
+        cache.set("c", "3")
+        cache.sync()
+        self.assertEqual(cache.keys(), [b"a", b"c"])
+        both = [Request.touch("a"), Request.touch("b")]
+        self.assertEqual(cache.pipeline(both), [True, False])
 
     def test_ping(self):
         cache = self.client()
@@ -351,6 +369,7 @@ READS = [
     (lambda cache: cache.get("a"), b"VAL x\n", b"x"),
     (lambda cache: cache.has("a"), b"YES\n", True),
     (lambda cache: cache.keys(), b"KEYS 1\na\n", [b"a"]),
+    (lambda cache: cache.touch("a"), b"VAL x\n", True),
     (lambda cache: cache.ping(), b"NO\n", True),
     (lambda cache: cache.get_many(["a", "b"]), b"VAL x\nNONE\n", {"a": b"x"}),
     (lambda cache: cache.pipeline(TWO_READS), b"NONE\nNO\n", [None, False]),
@@ -365,6 +384,7 @@ OTHERS = [
     lambda cache: cache.drop_if("a"),
     lambda cache: cache.sync(),
     lambda cache: cache.set_many({"a": "1", "b": "2"}),
+    lambda cache: cache.delete_many(["a", "b"]),
     lambda cache: cache.pipeline([Request.get("a"), Request.delete("a")]),
 ]
 
@@ -620,7 +640,12 @@ class Arguments(FakeCase):
             (bivrang.DeadlineRefused, lambda cache: cache.incr("a", 1, ttl=-0.001)),
             (bivrang.NumberRefused, lambda cache: cache.incr("a", -1)),
             (bivrang.NumberRefused, lambda cache: cache.incr("a", 2**64)),
+            (bivrang.KeyRefused, lambda cache: cache.touch("")),
+            (bivrang.KeyRefused, lambda cache: cache.get_many(["a", ""])),
+            (bivrang.KeyRefused, lambda cache: cache.delete_many(["a", ""])),
             (TypeError, lambda cache: cache.get(5)),
+            (TypeError, lambda cache: cache.get_many(5)),
+            (TypeError, lambda cache: cache.get_many([5])),
             (TypeError, lambda cache: cache.set("a", 5)),
             (TypeError, lambda cache: cache.set("a", "1", ttl="1")),
             (TypeError, lambda cache: cache.incr("a", 0.5)),
@@ -687,13 +712,97 @@ class OldNames(FakeCase):
                 cache.set("a", "x", **arguments)
 
 
-class Membership(FakeCase):
+class Items(FakeCase):
+    """A client as a mapping."""
+
     def test_key_in_client(self):
         fake = Fake(self, replies(b"YES\n", b"NO\n"))
         cache = self.pool(fake)
         self.assertTrue("a" in cache)
         self.assertFalse(b"b" in cache)
         self.assertEqual(fake.received, [b"HAS a\nHAS b\n"])
+
+    def test_items(self):
+        fake = Fake(self, replies(b"OK\n", b"VAL 1\n", b"OK\n", b"NONE\n"))
+        cache = self.pool(fake)
+        cache["a"] = "1"
+        self.assertEqual(cache["a"], b"1")
+        del cache[b"a"]
+        with self.assertRaises(KeyError) as caught:
+            cache["a"]
+        self.assertEqual(caught.exception.args, ("a",))
+        self.assertEqual(fake.received, [b"SET a - 1\nGET a\nDEL a\nGET a\n"])
+
+    def test_a_stored_none_is_an_item(self):
+        cache = self.pool(Fake(self, replies(b"VAL null\n")), codec=bivrang.JSON)
+        self.assertIsNone(cache["a"])
+
+    def test_it_is_no_sequence(self):
+        with self.assertRaisesRegex(TypeError, "not iterable"):
+            iter(self.made(free_port()))
+
+
+class Urls(FakeCase):
+    """Clients made from URLs."""
+
+    def settings(self, url):
+        """What the client of a URL is made with, as far as it is not the default."""
+        cache, plain = self.from_url(url), self.make()
+        names = ("host", "port", "_connections", "_connect_seconds", "_reply_seconds")
+        told = {name: getattr(cache, name) for name in (*names, "_wait_seconds")}
+        return {name: value for name, value in told.items() if value != getattr(plain, name)}
+
+    def test_urls(self):
+        rows = {
+            "bivrang://": {},
+            "bivrang://127.0.0.1:7411/": {},
+            "bivrang://cache.example": {"host": "cache.example"},
+            "bivrang://:7412": {"port": 7412},
+            "bivrang://[::1]:7412": {"host": "::1", "port": 7412},
+            "bivrang:///run/bivrangd/a%20b": {"host": "/run/bivrangd/a b"},
+            "bivrang://h?connections=2&wait_seconds=3": {
+                "host": "h",
+                "_connections": 2,
+                "_wait_seconds": 3.0,
+            },
+            "bivrang:///s?connect_seconds=0.5&reply_seconds=1e1": {
+                "host": "/s",
+                "_connect_seconds": 0.5,
+                "_reply_seconds": 10.0,
+            },
+        }
+        for url, wanted in rows.items():
+            self.assertEqual(self.settings(url), wanted, url)
+
+    def test_other_texts(self):
+        rows = [
+            ("127.0.0.1:7411", "neither"),
+            ("redis://h", "neither"),
+            ("bivrang:h", "neither"),
+            ("bivrang://user@h", "neither"),
+            ("bivrang://h/0", "neither"),
+            ("bivrang://h#a", "neither"),
+            ("bivrang://h:x", "x"),
+            ("bivrang://h:65536", "65535"),
+            ("bivrang://h?conections=2", "a setting 'conections'; there are connections,"),
+            ("bivrang://h?connections", "connections"),
+            ("bivrang://h?connections=x", "'x'"),
+            ("bivrang://h?connections=0", "at least one"),
+            ("bivrang://h?reply_seconds=0", "above 0"),
+        ]
+        for url, text in rows:
+            with self.assertRaises(ValueError) as caught:
+                self.from_url(url)
+            self.assertIn(text, str(caught.exception), url)
+
+    def test_a_url_of_a_server(self):
+        fake = Fake(self, replies(b"OK\n", b"VAL [1]\n"))
+        url = f"bivrang://{HOST}:{fake.port}?reply_seconds={PATIENCE}"
+        cache = self.from_url(url, codec=bivrang.JSON)
+        self.addCleanup(cache.close)
+        cache.set("a", [1])
+        self.assertEqual(cache.get("a"), [1])
+        self.assertEqual(fake.received, [b"SET a - [1]\nGET a\n"])
 
 
 class Texts(FakeCase):
@@ -725,6 +834,40 @@ class Texts(FakeCase):
         with self.assertRaises(bivrang.PoolClosed) as caught:
             cache.get("a")
         self.says(caught.exception, port, b"a")
+
+    def test_arguments_name_the_server(self):
+        port = free_port()
+        cache = self.made(port)
+        rows = [
+            (lambda: cache.get("two words"), None),
+            (lambda: cache.get_many(["a", "two words"]), None),
+            (lambda: cache.drop_if(""), None),
+            (lambda: cache.set("a", "1\n"), b"a"),
+            (lambda: cache.set_many({"a": "1", "b": "1\n"}), b"b"),
+            (lambda: cache.set("a", "1", ttl=-1), b"a"),
+            (lambda: cache.incr("a", -1), b"a"),
+            (lambda: cache.pipeline([Request.set("a", "1\n")]), b"a"),
+            (lambda: cache.pipeline(Request.get(key) for key in ["a", ""]), None),
+        ]
+        for call, key in rows:
+            with self.assertRaises(bivrang.ArgumentError) as caught:
+                call()
+            self.says(caught.exception, port, key)
+
+    def test_wrong_types_are_named(self):
+        cache = self.made(free_port())
+        rows = [
+            (lambda: cache.get(5), "a key is text or bytes, not int"),
+            (lambda: cache.get(None), "not NoneType"),
+            (lambda: cache.get_many("abc"), "'abc' is one"),
+            (lambda: cache.get_many(b"abc"), "b'abc' is one"),
+            (lambda: cache.delete_many("abc"), "'abc' is one"),
+            (lambda: cache.set_many([("a", "1")]), r"a dictionary or the like, not \[\('a'"),
+            (lambda: cache.pipeline(["GET a"]), r"Request.get\(key\), not 'GET a'"),
+        ]
+        for call, text in rows:
+            with self.assertRaisesRegex(TypeError, text):
+                call()
 
     def says(self, error, port, key):
         self.assertEqual((error.host, error.port, error.key), (HOST, port, key))

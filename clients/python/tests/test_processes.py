@@ -1,11 +1,16 @@
 """Processes that share a client."""
+import asyncio
+import concurrent.futures
+import copy
 import multiprocessing
+import pickle
 import threading
 import time
 
-from support import HOST, PATIENCE, SHORT, Fake, FakeCase, Forked, RealCase, replies
+from support import HOST, PATIENCE, PATIENT, SHORT, Fake, FakeCase, Forked, RealCase
+from support import free_port, replies
 import bivrang
-from bivrang import Connection, Server, Servers
+from bivrang import Connection, Server, Servers, aio
 
 
 class ForkedWithServer(RealCase):
@@ -41,6 +46,75 @@ class ForkedWithServer(RealCase):
             told = pool.map_async(run_in_process, [150] * 4, chunksize=1)
             self.assertEqual(told.get(PATIENCE), [0] * 4)
         self.assertEqual(self.wrong(cache, 100), 0)
+
+
+class Pickled(RealCase):
+    """Clients that another process gets as bytes."""
+
+    def test_a_process_pool(self):
+        cache = self.client()
+        cache.set_many({"a": "1", "b": "2"})
+        spawn = multiprocessing.get_context("spawn")
+        with concurrent.futures.ProcessPoolExecutor(2, mp_context=spawn) as pool:
+            self.assertEqual(list(pool.map(cache.get, "abc")), [b"1", b"2", None])
+        self.assertEqual(cache.get("a"), b"1")
+
+    def test_a_copy_has_the_settings_and_connects_anew(self):
+        cache = self.client(connections=3, reply_seconds=41, wait_seconds=42, codec=bivrang.JSON)
+        cache.set("a", [1])
+        for made in (pickle.loads(pickle.dumps(cache)), copy.copy(cache), copy.deepcopy(cache)):
+            self.addCleanup(made.close)
+            self.assertEqual(len(made._idle), 0)
+            for name in ("host", "port", "_connections", "_reply_seconds", "_wait_seconds"):
+                self.assertEqual(getattr(made, name), getattr(cache, name))
+            self.assertEqual(made.get("a"), [1])
+            self.assertEqual((len(made._idle), len(cache._idle)), (1, 1))
+            child = Forked(lambda it=made: not it._idle and it.get("a") == [1])
+            self.assertEqual(child.status(), 0)
+
+    def test_several_servers(self):
+        places = [Server(HOST, self.server.ports[name]) for name in ("main", "timed")]
+        servers = self.servers_of(*places, codec=bivrang.JSON, errors_as_misses=True)
+        servers.clear()
+        servers.set_many({"a": [1], "b": [2], "c": [3]})
+        made = pickle.loads(pickle.dumps(servers))
+        self.addCleanup(made.close)
+        self.assertEqual(made.get_many("abcd".split("x")), {})
+        self.assertEqual(made.get_many(["a", "b", "c"]), {"a": [1], "b": [2], "c": [3]})
+        self.assertEqual([made.server_of(key) for key in "abc"], [*map(servers.server_of, "abc")])
+
+    def test_a_server_that_was_left_alone_is_asked(self):
+        servers = self.servers_of(Server(HOST, free_port()), retry_after=1000)
+        with self.assertRaises(bivrang.ConnectFailed):
+            servers.get("a")
+        with self.assertRaises(bivrang.ServerAway):
+            servers.get("a")
+        made = pickle.loads(pickle.dumps(servers))
+        self.addCleanup(made.close)
+        with self.assertRaises(bivrang.ConnectFailed):
+            made.get("a")
+
+    def test_asyncio(self):
+        cache = aio.Client(HOST, self.server.ports["main"], **PATIENT)
+        self.client().set("a", "1")
+
+        async def look():
+            async with pickle.loads(pickle.dumps(cache)) as made:
+                return await made.get("a"), await cache.get("a")
+
+        self.assertEqual(asyncio.run(look()), (b"1", b"1"))
+        cache.close()
+
+    def test_what_is_closed_stays_so(self):
+        cache = self.client()
+        cache.close()
+        with self.assertRaises(bivrang.PoolClosed):
+            pickle.loads(pickle.dumps(cache)).get("a")
+
+    def test_a_connection_is_of_one_process(self):
+        for call in (pickle.dumps, copy.copy):
+            with self.assertRaisesRegex(TypeError, "pickle or copy a Client"):
+                call(self.connection())
 
 
 def run_in_process(turns):

@@ -199,6 +199,18 @@ class ServersThatFail(FakeCase):
             servers.delete("a")
         self.assertIsNone(servers.delete("a"))
 
+    def test_a_refused_value_names_its_keys_server(self):
+        fake = Fake(self, replies(b"OK\n"))
+        port = free_port()
+        servers, theirs, its = self.both(fake, port)
+        for key, place in ((theirs, fake.port), (its, port)):
+            with self.assertRaises(bivrang.ValueRefused) as caught:
+                servers.set(key, "1\n")
+            self.assertEqual(caught.exception.port, place)
+        with self.assertRaises(bivrang.KeyRefused) as caught:
+            servers.get("two words")
+        self.assertIsNone(caught.exception.host)
+
     def test_nothing_is_sent_if_a_request_is_refused(self):
         fake = Fake(self, replies(b"OK\n"))
         servers, theirs, its = self.both(fake, free_port())

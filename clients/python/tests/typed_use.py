@@ -26,7 +26,19 @@ def raw() -> None:
     many: Dict[str, bytes] = cache.get_many(["a", "b"])
     left: List[bytes] = cache.set_many({b"a": "1"})
     total: Optional[int] = cache.incr("n")
-    print(stored, value, either, many, left, total)
+    item: bytes = cache["a"]
+    cache["a"] = "text"
+    cache["a"] = 5  # type: ignore[assignment]
+    del cache["a"]
+    used: bool = cache.touch("a")
+    cache.delete_many(["a", b"b"])
+    print(stored, value, either, many, left, total, item, used)
+
+
+def located() -> None:
+    plain: bivrang.Client[bivrang.Text, bytes] = bivrang.Client.from_url("bivrang://h:7411")
+    numbers: Optional[int] = bivrang.Client.from_url("bivrang:///s", codec=Numbers()).get("a")
+    print(plain, numbers)
 
 
 def coded() -> None:
@@ -51,6 +63,7 @@ def spread() -> None:
 async def awaited() -> None:
     async with aio.Client(port=7411) as cache:
         value: Optional[bytes] = await cache.get("a")
+        value = await cache["a"] if await cache.touch("a") else None
         either: Union[bytes, str] = await cache.get("a", "")
     async with aio.Servers([Server("h", 1)], codec=Numbers()) as servers:
         many: Dict[str, int] = await servers.get_many(["a"])
