@@ -4,7 +4,8 @@ use std::time::Duration;
 
 use crate::{Error, ErrorKind, LONGEST_KEY, LONGEST_LIFE, LONGEST_LINE};
 
-/// A request, for `pipeline`. The method of the same name of [`Pool`] says what it does.
+/// A request, for `pipeline`. The method of the same name of [`Pool`](crate::Pool) says what it
+/// does.
 #[derive(Clone, Copy, Debug, PartialEq, Eq)]
 pub enum Request<'a> {
     /// `SET key deadline value`
