@@ -1,5 +1,7 @@
 #!/usr/bin/env python3
-"""Tests of tools/watch.py, without the server: `python3 tools/test_watch.py`. They take seconds."""
+"""Tests of the watcher, `bivrang watch`, on fake servers, and on bivrangd where the gate has left it: `python3 tools/test_watch.py`.
+They take seconds."""
+import contextlib
 import html.parser
 import os
 import pathlib
@@ -8,13 +10,18 @@ import subprocess
 import sys
 import tempfile
 import threading
+import time
 import unittest
 
 sys.dont_write_bytecode = True
-sys.path.insert(0, str(pathlib.Path(__file__).resolve().parent))
-import watch  # noqa: E402
+ROOT = pathlib.Path(__file__).resolve().parent.parent
+sys.path.insert(0, str(ROOT / "clients/python"))
+from bivrang import _watch as watch  # noqa: E402
+from bivrang import Client, Held  # noqa: E402
+from bivrang._watch import Place  # noqa: E402
 
-PROGRAM = pathlib.Path(__file__).resolve().parent / "watch.py"
+PROGRAM = ROOT / "tools/watch.py"
+BIVRANGD = pathlib.Path(os.environ.get("BIVRANGD", ROOT / "crates/bivrangd/out/bivrangd"))
 HOST = "127.0.0.1"
 PATIENCE = 60
 
@@ -36,9 +43,38 @@ class Lines(unittest.TestCase):
             b"main NOTE Explicit k \xff\x00 NOTE Size\n"
         )
         self.assertEqual(board.look(), [
-            ("main", 7411, counts(Replaced=2, Size=1, Explicit=1)),
-            ("listening", 65535, counts(Expired=1)),
+            ("main", Place(HOST, 7411), counts(Replaced=2, Size=1, Explicit=1)),
+            ("listening", Place(HOST, 65535), counts(Expired=1)),
         ])
+
+    def test_addresses(self):
+        """What is listened at, where that is asked, and how it is shown."""
+        rows = [
+            ("127.0.0.1:7411", Place(HOST, 7411), "7411"),
+            ("0.0.0.0:7411", Place(HOST, 7411), "7411"),
+            ("10.1.2.3:7411", Place("10.1.2.3", 7411), "10.1.2.3:7411"),
+            ("[::1]:7411", Place("::1", 7411), "[::1]:7411"),
+            ("[::]:7411", Place("::1", 7411), "[::1]:7411"),
+            ("[fe80::1:2]:1", Place("fe80::1:2", 1), "[fe80::1:2]:1"),
+            ("/run/a b", Place("/run/a b", 7411), "/run/a b"),
+        ]
+        for address, place, shown in rows:
+            board = watch.Board()
+            board.take(b"listening a %b\n" % address.encode())
+            self.assertEqual(board.look(), [("a", place, counts())])
+            self.assertEqual(place.shown(), shown)
+
+    def test_named_servers(self):
+        rows = [
+            ("main=127.0.0.1:1", ("main", Place(HOST, 1))),
+            ("localhost:1", ("", Place("localhost", 1))),
+            ("[::1]:1", ("", Place("::1", 1))),
+            ("a=/run/x=y", ("a", Place("/run/x=y", 7411))),
+            ("/run/x=y", ("", Place("/run/x=y", 7411))),
+            ("bivrang://h:5", ("", Place("h", 5))),
+        ]
+        for text, wanted in rows:
+            self.assertEqual(watch.space_of_address(text), wanted)
 
     def test_lines_that_say_nothing(self):
         board = watch.Board()
@@ -52,7 +88,9 @@ class Lines(unittest.TestCase):
             b"a note Size k v",
             b"b NOTE Size k v",
             b"A NOTE Size k v",
-            b"listening b 127.0.0.2:1",
+            b"listening b 127.0.0.2",
+            b"listening b ::1:1",
+            b"listening b relative/path",
             b"listening b 127.0.0.1:",
             b"listening b 127.0.0.1:1 ",
             b"cached: out of memory",
@@ -65,13 +103,13 @@ class Lines(unittest.TestCase):
         board = watch.Board()
         for place in range(len(text)):
             board.take(text[place : place + 1])
-        self.assertEqual(board.look(), [("a", 1, counts(Size=1, Expired=1))])
+        self.assertEqual(board.look(), [("a", Place(HOST, 1), counts(Size=1, Expired=1))])
 
     def test_a_server_that_begins_anew_counts_anew(self):
         board = watch.Board()
         for port in (1, 2):
             board.take(b"listening a 127.0.0.1:%d\na NOTE Size k v\n" % port)
-        self.assertEqual(board.look(), [("a", 2, counts(Size=1))])
+        self.assertEqual(board.look(), [("a", Place(HOST, 2), counts(Size=1))])
 
 
 class Numbers(unittest.TestCase):
@@ -104,8 +142,8 @@ class Numbers(unittest.TestCase):
 
 class Screen(unittest.TestCase):
     def test_a_screen_without_notices(self):
-        watcher = watch.Watcher(watch.Board([watch.Space(":1", 1, False)]), 5, 2)
-        row = watch.Row(":1", 1, (3, 7), None, None)
+        watcher = watch.Watcher(watch.Board([watch.Space(":1", Place(HOST, 1), False)]), 5, 2)
+        row = watch.Row(":1", Place(HOST, 1), Held(3, 7), None, None)
         lines = watch.screen_lines(watcher, [row], 80)
         self.assertEqual(lines[3].split(), [":1", "1", "3", "7", "-", "-", "-", "-"])
         self.assertIn("not counted", lines[-1])
@@ -136,10 +174,27 @@ class Page(html.parser.HTMLParser):
         self.words += data.split()
 
 
-class FakeServer:
-    """Answers each line of one client after another with `SYNC 3 7`."""
+def free_ports(count):
+    """Ports that nobody listens on now, all different."""
+    with contextlib.ExitStack() as stack:
+        probes = [stack.enter_context(socket.create_server((HOST, 0))) for _ in range(count)]
+        return [probe.getsockname()[1] for probe in probes]
 
-    def __init__(self):
+
+def has_ipv6():
+    """Whether a server can listen at ::1."""
+    try:
+        socket.create_server(("::1", 0), family=socket.AF_INET6).close()
+        return True
+    except OSError:
+        return False
+
+
+class FakeServer:
+    """Answers each line of one client after another with the same."""
+
+    def __init__(self, reply=b"SYNC 3 7\n"):
+        self.reply = reply
         self.listener = socket.create_server((HOST, 0))
         self.listener.settimeout(PATIENCE)
         self.port = self.listener.getsockname()[1]
@@ -151,7 +206,7 @@ class FakeServer:
                 link, _ = self.listener.accept()
                 with link:
                     while link.recv(100):
-                        link.sendall(b"SYNC 3 7\n")
+                        link.sendall(self.reply)
         except OSError:
             pass
 
@@ -282,13 +337,69 @@ class Runs(unittest.TestCase):
         self.fails("has no line `listening", "--log", log)
         self.fails("the input had no line `listening", stdin=subprocess.DEVNULL)
         self.fails("No such file", "--log", self.folder / "other")
-        self.fails("needs its namespace's name", "--log", log, "--port", 1)
+        self.fails("a namespace needs its name", "--log", log, "--port", 1)
         for port in ("0", "65536", "a", "Main:7411", ":7411", "1 "):
             self.fails("PORT", "--port", port)
+        for server in ("", "a:x", "Main=a:1", "a=", "http://h"):
+            self.fails("ADDRESS", "--server", server)
 
     def test_a_port_without_a_server(self):
         self.server.listener.close()
         self.fails("nothing answers", "--port", self.server.port)
+
+    def test_a_server_of_another_kind(self):
+        other = FakeServer(b"HTTP/1.1 400 Bad Request\r\n\r\n")
+        self.addCleanup(other.listener.close)
+        self.fails("(web) speaks neither lines nor memcache", "--port", f"web:{other.port}")
+
+    @unittest.skipUnless(BIVRANGD.exists(), f"there is no {BIVRANGD}")
+    def test_bivrangd_at_each_kind_of_address(self):
+        config, log = self.folder / "config", self.folder / "log"
+        spaces = {"path": self.folder / "socket", "every": "0.0.0.0", "items": HOST}
+        if has_ipv6():
+            spaces["six"] = "::1"
+        for _ in range(5):
+            ports = dict(zip(spaces, free_ports(len(spaces))))
+            config.write_text("".join(
+                f'[[namespace]]\nname = "{name}"\nport = {ports[name]}\nbind = "{bind}"\n'
+                + 'capacity = 1000000\nprotocol = "memcache"\n' * (name == "items") for name, bind in spaces.items()
+            ))
+            with log.open("wb") as output:
+                server = subprocess.Popen([str(BIVRANGD), "--config", str(config)], stdin=subprocess.DEVNULL, stdout=output)
+            self.addCleanup(server.wait)
+            self.addCleanup(server.kill)
+            # (between its choice and the start another process may take a port)
+            if self.come_to(server, log, len(spaces)):
+                break
+        else:
+            self.fail("it does not listen")
+        with Client(str(spaces["path"])) as cache:
+            cache.set_many({"a": "1", "b": "2"})
+            cache.delete("a")
+        with socket.create_connection((HOST, ports["items"]), PATIENCE) as link:
+            link.sendall(b"set a 0 0 1\r\nx\r\nget a\r\n")
+            told = b""
+            while not told.endswith(b"END\r\n"):
+                told += link.recv(100)
+        told = self.start("--log", log, "--interval", 0.5, "--seconds", 0.6).communicate(timeout=PATIENCE)[0]
+        rows = {line.split()[0]: line.split()[1:4] for line in told.splitlines() if len(line.split()) > 4}
+        self.assertEqual(rows["path"], [str(spaces["path"]), "1", "1"])
+        self.assertEqual(rows["every"], [str(ports["every"]), "0", "0"])
+        if "six" in spaces:
+            self.assertEqual(rows["six"], [f"[::1]:{ports['six']}", "0", "0"])
+        # (of items it tells what was held at the last maintenance)
+        self.assertEqual(rows["items"][0], str(ports["items"]))
+        self.assertTrue(rows["items"][1].isdigit() and rows["items"][2].isdigit(), rows["items"])
+
+    def come_to(self, server, log, count):
+        """Whether a server comes to listen at so many addresses, before it ends."""
+        until = time.monotonic() + PATIENCE
+        while log.read_bytes().count(b"\n") < count:
+            if server.poll() is not None:
+                return False
+            self.assertLess(time.monotonic(), until)
+            time.sleep(0.01)
+        return True
 
     def test_a_server_that_is_gone(self):
         self.server.listener.close()

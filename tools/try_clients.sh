@@ -1,7 +1,8 @@
 #!/usr/bin/env bash
 # Runs the clients' tests in parallel, against each server of benches/servers.py, as `rt run` or the gate leaves it: in Python, and in Rust
 # (cargo without a registry; skipped if there is no cargo); and once their types (mypy, which apt-get installs where it can; skipped
-# otherwise), the tests of the watcher, and those of the judge of random use. The status is 1 if one fails, or if a server is missing.
+# otherwise), the tests of the watcher, of the starter of bivrangd, and those of the judge of random use. The status is 1 if one fails, or
+# if a server is missing.
 #
 #   tools/try_clients.sh
 set -uo pipefail
@@ -71,6 +72,7 @@ done
 try_types & running+=($!)
 try_rust & running+=($!)
 try watcher python3 tools/test_watch.py & running+=($!)
+try starter python3 tools/test_starter.py & running+=($!)
 try judge python3 tools/test_random_use.py Right Wrong Liars & running+=($!)
 try rows python3 tools/test_servers.py & running+=($!)
 failed=0

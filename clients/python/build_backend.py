@@ -1,7 +1,7 @@
 """Builds the package for pip and its like (PEP 517, PEP 660), by the standard library alone.
 
-The package's metadata are the table `project` of pyproject.toml, each key of which has a line of
-its own, and `bivrang.__version__`.
+The package's metadata are the tables `project` and `project.scripts` of pyproject.toml, each key of
+which has a line of its own, and `bivrang.__version__`.
 """
 import ast
 import base64
@@ -18,14 +18,19 @@ Files = Dict[str, bytes]
 """Contents by name."""
 
 
+def _table(name: str) -> Dict[str, Any]:
+    """A table of pyproject.toml."""
+    text = (FOLDER / "pyproject.toml").read_text()
+    table = text.split(f"\n[{name}]\n")[1].split("\n[")[0]
+    lines = re.findall(r"^([a-z-]+) = (.+)$", table, re.MULTILINE)
+    return {key: ast.literal_eval(value) for key, value in lines}
+
+
 def _project() -> Dict[str, Any]:
     """The table `project`, with the version."""
-    text = (FOLDER / "pyproject.toml").read_text()
-    table = text.split("\n[project]\n")[1].split("\n[")[0]
-    lines = re.findall(r"^([a-z-]+) = (.+)$", table, re.MULTILINE)
     module = (FOLDER / "bivrang/__init__.py").read_text()
     version = re.findall(r'^__version__ = "(.+)"$', module, re.MULTILINE)
-    return {"version": version[0], **{key: ast.literal_eval(value) for key, value in lines}}
+    return {"version": version[0], **_table("project")}
 
 
 def _package() -> Files:
@@ -47,6 +52,12 @@ def _metadata() -> bytes:
     return "\n".join([*lines, ""]).encode()
 
 
+def _entry_points() -> bytes:
+    """The commands that pip makes."""
+    lines = [f"{name} = {place}" for name, place in _table("project.scripts").items()]
+    return "\n".join(["[console_scripts]", *lines, ""]).encode()
+
+
 def _stem() -> str:
     project = _project()
     return f"{project['name']}-{project['version']}"
@@ -66,6 +77,7 @@ def _write_wheel(folder: str, files: Files) -> str:
     info = f"{_stem()}.dist-info"
     tag = "Wheel-Version: 1.0\nGenerator: bivrang\nRoot-Is-Purelib: true\nTag: py3-none-any\n"
     files = {**files, f"{info}/METADATA": _metadata(), f"{info}/WHEEL": tag.encode()}
+    files[f"{info}/entry_points.txt"] = _entry_points()
     files[f"{info}/RECORD"] = _record(files, f"{info}/RECORD")
     name = f"{_stem()}-py3-none-any.whl"
     with zipfile.ZipFile(pathlib.Path(folder, name), "w", zipfile.ZIP_DEFLATED) as wheel:

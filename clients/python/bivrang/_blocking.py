@@ -238,7 +238,7 @@ class Commands(KeyedCommands[Given, Told]):
         return self._ask(lambda: Request.ping())
 
 
-def _connected(host: str, port: int, seconds: float) -> socket.socket:
+def connected(host: str, port: int, seconds: float) -> socket.socket:
     """A socket connected to a port of a host, or to a path."""
     if is_path(host):
         link = socket.socket(socket.AF_UNIX, socket.SOCK_STREAM)
@@ -281,7 +281,7 @@ class Connection(Link, Commands[Text, bytes]):
     ) -> None:
         super().__init__(host, port, reply_seconds)
         try:
-            self._socket = _connected(host, port, limit(connect_seconds))
+            self._socket = connected(host, port, limit(connect_seconds))
         except OSError as error:
             self.close()
             failed = connect_error(error, connect_seconds)

@@ -249,7 +249,7 @@ class Request(Generic[T]):
         self._default = default
 
     def __repr__(self) -> str:
-        words = b" ".join(self._words).decode()
+        words = b" ".join(self._words).decode("ascii", "backslashreplace")
         stored = f" {self._stored.value!r:.40}" if self._stored else ""
         return f"<Request {words}{stored}>"
 
@@ -374,6 +374,16 @@ class Request(Generic[T]):
 
 
 QUIT: Request[None] = Request((b"QUIT",), _read_done)
+
+
+def _read_any(lines: Sequence[bytes]) -> bytes:
+    return lines[0]
+
+
+def any_request(line: bytes) -> "Request[Any]":
+    """A request as someone else wrote it, without its line feed, whose result is the first line of
+    its reply; of `KEYS` the keys."""
+    return Request((line,), _read_keys if line.rstrip(b"\r") == b"KEYS" else _read_any)
 
 
 # Calls: requests on their way.

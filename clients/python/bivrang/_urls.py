@@ -34,3 +34,11 @@ def arguments_of(url: str) -> Dict[str, Any]:
     if port is not None:
         arguments["port"] = port
     return arguments
+
+
+def arguments_of_place(text: str) -> Dict[str, Any]:
+    """The arguments of a `Client` that a text names: a URL, `HOST:PORT`, `HOST`, `:PORT`,
+    `[IPV6]:PORT`, or the path of a Unix socket, from `/` on. Raises ValueError."""
+    if text.startswith("/"):
+        return {"host": text}
+    return arguments_of(text if "://" in text else f"bivrang://{text}")

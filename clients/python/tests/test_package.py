@@ -1,4 +1,5 @@
 """The package as pip installs it."""
+import os
 import pathlib
 import subprocess
 import sys
@@ -29,6 +30,13 @@ class Package(unittest.TestCase):
         wanted = f"{bivrang.__version__} {pathlib.Path(source, 'bivrang/__init__.py').resolve()}\n"
         self.assertEqual(told, wanted)
 
+    def runs(self, folder):
+        """The command that pip has made runs by the package beside it."""
+        words = [sys.executable, str(folder / "bin/bivrang"), "--help"]
+        environment = {**os.environ, "PYTHONPATH": str(folder)}
+        told = subprocess.run(words, check=True, stdout=subprocess.PIPE, env=environment).stdout
+        self.assertIn(b"bivrang://HOST:PORT", told)
+
     def unpacked(self, name):
         """The folder of a wheel's files."""
         folder = self.folder / "unpacked"
@@ -45,6 +53,7 @@ class Package(unittest.TestCase):
         self.assertIn("py.typed", ours)
         info = folder / f"bivrang-{bivrang.__version__}.dist-info"
         self.assertIn(f"\nVersion: {bivrang.__version__}\n", (info / "METADATA").read_text())
+        self.assertIn("bivrang = bivrang._command:main\n", (info / "entry_points.txt").read_text())
 
     def test_editable(self):
         folder = self.unpacked(build_backend.build_editable(self.room.name))
@@ -72,6 +81,7 @@ class Package(unittest.TestCase):
             told = subprocess.run(made, stderr=subprocess.PIPE, check=False)
             self.assertEqual(told.returncode, 0, told.stderr.decode())
             self.imports(target, target)
+            self.runs(target)
 
 
 if __name__ == "__main__":
