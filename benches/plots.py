@@ -20,7 +20,9 @@ COLOURS = {
     "LRU": "#e69f00",
     "Caffeine": "#009e73",
     "plain LRU": "#8a8a8a",
-    "cached": "#0072b2",
+    "bivrangd": "#0072b2",
+    "bivrangd by the memcache protocol": "#cc79a7",
+    "cached": "#56b4e9",
     "Redis": "#d55e00",
     "memcached": "#009e73",
     "plain server": "#8a8a8a",
@@ -34,18 +36,28 @@ COLOURS = {
 FONT = "font-family='Helvetica, Arial, sans-serif'"
 
 
+# How wide a letter is, and how high a line stands above its foot, in parts of the font's size. Digits are a little wider than letters.
+LETTER, HEIGHT = 0.53, 0.72
+
+
 class Picture:
-    """Shapes on a page of so many points."""
+    """Shapes on a page of so many points. No two of its texts may overlap."""
 
     def __init__(self, width, height, title):
-        self.width, self.height, self.title, self.shapes = width, height, title, []
+        self.width, self.height, self.title, self.shapes, self.texts = width, height, title, [], []
 
-    def text(self, x, y, text, size=13, anchor="start", colour=INK, weight="normal", turn=None):
-        turned = f" transform='rotate({turn} {x:.1f} {y:.1f})'" if turn else ""
+    def text(self, x, y, text, size=13, anchor="start", colour=INK, weight="normal"):
         self.shapes.append(
             f"<text x='{x:.1f}' y='{y:.1f}' font-size='{size}' text-anchor='{anchor}' fill='{colour}' "
-            f"font-weight='{weight}'{turned}>{html.escape(text)}</text>"
+            f"font-weight='{weight}'>{html.escape(text)}</text>"
         )
+        wide = LETTER * size * len(text)
+        left = x - {"start": 0, "middle": wide / 2, "end": wide}[anchor]
+        box = (left, left + wide, y - HEIGHT * size, y)
+        for other, (first, last, top, foot) in self.texts:
+            if box[0] < last and first < box[1] and box[2] < foot and top < box[3]:
+                sys.exit(f"{self.title}: {text} overlaps {other}")
+        self.texts.append((text, box))
 
     def line(self, x1, y1, x2, y2, colour=LINE, width=1.0):
         self.shapes.append(
@@ -133,25 +145,28 @@ def draw_ratios(kept, measured):
     return picture.made(f"200,000 requests a trace; measured {measured}")
 
 
-SERVER_NAMES = {"cached": "cached", "redis": "Redis", "memcached": "memcached", "plain": "plain server"}
+SERVER_NAMES = {
+    "bivrangd": "bivrangd",
+    "cached": "cached",
+    "redis": "Redis",
+    "plain": "plain server",
+    "memcache": "bivrangd by the memcache protocol",
+    "memcached": "memcached",
+}
 
 
 def draw_requests(kept, measured):
     """Processor time a request by connections, a panel a depth."""
     series = [shown for name, shown in SERVER_NAMES.items() if any(name in row for row in kept.values())]
-    picture = Picture(980, 394, "Processor time per request")
-    picture.text(24, 34, "Processor microseconds per request, half SET, half GET", 19, weight="bold")
-    picture.keys(24, 62, series)
-    for place, (depth, about) in enumerate([(1, "one request at a time"), (32, "32 requests at a time")]):
+    panels = [(1, "one request at a time"), (32, "32 requests at a time")]
+    picture = tall(len(panels), "Processor time per request", "Processor microseconds per request, half SET, half GET", series)
+    for place, (depth, about) in enumerate(panels):
         rows = [
             (f"{name.split()[0]} connection{'s' if name.split()[0] != '1' else ''}", {shown: row.get(known) for known, shown in SERVER_NAMES.items()})
             for name, row in kept.items()
             if name.split()[1] == str(depth)
         ]
-        left = 52 + 480 * place
-        most = most_of([figures.middle(value) for _, row in rows for value in row.values() if value is not None])
-        picture.text(left - 28, 98, about, 14, weight="bold")
-        panel = Panel(picture, left, 118, 420, 220, most)
+        panel = below(picture, place, about, most_of([figures.middle(value) for _, row in rows for value in row.values() if value is not None]))
         panel.axis(5)
         panel.groups(rows, series, lambda value: f"{value:.1f}")
     return picture.made(f"medians, the kernel's part included; measured {measured}")
