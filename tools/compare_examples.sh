@@ -40,6 +40,18 @@ same "docs/man/cached.1's requests and docs/PROTOCOL.md's" \
 same "docs/man/cached.toml.5's keys and docs/PROTOCOL.md's" \
     "$(sed -n 's/^\.It Va \([a-z_]*\)$/\1/p' docs/man/cached.toml.5)" "$(rows '### The configuration file')"
 
+# Programs, package and clients have one version, CHANGELOG.md's last; tools/package.sh adds to it what a tree after that is.
+version=$(sed -n 's/^## \([0-9][0-9.]*\).*/\1/p' CHANGELOG.md | head -n 1)
+same "the versions of CHANGELOG.md, the programs and the clients" "$(
+    grep -rhoE --include='*.rt' --exclude-dir=out '"bivrangd [0-9]+\.[0-9]+\.[0-9]+' crates | sed 's/.* //' | sort -u
+    sed -n 's/^__version__ = "\(.*\)"/\1/p' clients/python/bivrang/__init__.py
+    sed -n 's/^version = "\(.*\)"/\1/p' clients/rust/Cargo.toml
+    grep -A 1 '^name = "bivrang"' clients/rust/Cargo.lock | sed -n 's/^version = "\(.*\)"/\1/p'
+)" "$version
+$version
+$version
+$version"
+
 # The gate checks it: the stored run of cached_check reads a copy.
 same "docs/cached.toml and crates/cached_check/data/cached.toml" "$(cat docs/cached.toml)" "$(cat crates/cached_check/data/cached.toml)"
 

@@ -1,11 +1,14 @@
 #!/usr/bin/env python3
-"""Checks the links of all documents: each file is there, and each heading. `python3 tools/test_links.py` takes a second."""
+"""Checks the links of all documents: each file is there, and each heading. `python3 tools/test_links.py` takes a second.
+
+    python3 tools/test_links.py [FOLDER]      of those in a folder where a package is installed, which is their `/`
+"""
 import functools
 import pathlib
 import re
 import sys
 
-ROOT = pathlib.Path(__file__).resolve().parent.parent
+ROOT = pathlib.Path(sys.argv[1] if len(sys.argv) > 1 else pathlib.Path(__file__).parent.parent).resolve()
 LINK = re.compile(r"!?\[[^\]\n]*\]\(([^)\s]+)\)")
 FENCED = re.compile(r"^(```|~~~).*?^\1", re.MULTILINE | re.DOTALL)
 
@@ -29,7 +32,7 @@ def faults(file):
         if re.match(r"[a-z]+:", link):
             continue
         path, _, anchor = link.partition("#")
-        target = (file.parent / path).resolve() if path else file
+        target = (ROOT / path[1:] if path.startswith("/") else file.parent / path).resolve() if path else file
         if not target.exists() or ROOT not in [target, *target.parents]:
             yield f"{link} is not there"
         elif anchor and anchor not in anchors(target.read_text(encoding="utf-8")):

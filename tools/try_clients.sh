@@ -33,15 +33,8 @@ try() { # name, command
     return "$status"
 }
 
-# Installs a Debian package, within a minute.
-install() { # name
-    [ "$(id -u)" = 0 ] && command -v apt-get > /dev/null || return 1
-    DEBIAN_FRONTEND=noninteractive timeout 60 sh -c 'apt-get install -yq "$0" || { apt-get update -q && apt-get install -yq "$0"; }' "$1" \
-        > "$folder/apt-get" 2>&1 < /dev/null
-}
-
 try_types() {
-    if ! command -v mypy > /dev/null && ! install mypy; then
+    if ! command -v mypy > /dev/null && ! tools/install_one.sh mypy; then
         echo "clients: types skipped: there is no mypy, and apt-get cannot install it"
         return
     fi

@@ -67,7 +67,7 @@ from ._protocol import (
 )
 from ._spread import Server, hash_bytes, mix
 
-__version__ = "0.3.0"
+__version__ = "0.2.0"
 
 __all__ = [
     "ArgumentError",

@@ -2,10 +2,15 @@
 import ast
 import contextlib
 import io
+import os
 import re
+import shlex
+import shutil
+import subprocess
+import sys
 import unittest
 
-from support import REPOSITORY, RealCase
+from support import HOST, PATIENCE, REPOSITORY, RealCase
 
 README = REPOSITORY / "clients/README.md"
 ASSIGNED = re.compile(r"^( *)(\w+) = .* # (.+)$", re.MULTILINE)
@@ -43,6 +48,28 @@ class Readme(RealCase):
                 exec(compile(checked(text), str(README), "exec"), {})
             for printed in PRINTED.findall(text):
                 self.assertIn(printed, output.getvalue())
+
+    @unittest.skipUnless(shutil.which("bash"), "there is no bash")
+    def test_commands(self):
+        """Each command, whose line begins with a dollar sign, prints what stands below it."""
+        self.client("main")
+        port = self.server.ports["main"]
+        (text,) = re.findall(
+            r"^```console\n(.*?)^```$", README.read_text(), re.MULTILINE | re.DOTALL
+        )
+        text = text.replace("7411", str(port))
+        script = re.sub(r"^(?!\$ ).*\n", "", text, flags=re.MULTILINE).replace("$ ", "")
+        wanted = re.sub(r"^\$ .*\n", "", text, flags=re.MULTILINE)
+        command = f"bivrang() {{ {shlex.quote(sys.executable)} -B -m bivrang \"$@\"; }}\n"
+        told = subprocess.run(
+            ["bash", "-c", command + script],
+            cwd=REPOSITORY / "clients/python",
+            env={**os.environ, "BIVRANG_SERVER": f"{HOST}:{port}"},
+            stdout=subprocess.PIPE,
+            timeout=PATIENCE,
+            check=True,
+        )
+        self.assertEqual(told.stdout.decode(), wanted)
 
     def test_values_are_compared(self):
         with self.assertRaises(AssertionError):
