@@ -40,6 +40,11 @@ same "docs/man/cached.1's requests and docs/PROTOCOL.md's" \
 same "docs/man/cached.toml.5's keys and docs/PROTOCOL.md's" \
     "$(sed -n 's/^\.It Va \([a-z_]*\)$/\1/p' docs/man/cached.toml.5)" "$(rows '### The configuration file')"
 
+# The pages of both programs have every key that a namespace may have, in the order of the program's own list.
+same "the keys of cached.toml(5) with bivrangd.toml(5) and those that bivrangd knows" \
+    "$(sed -n 's/^\.It Va \([a-z_]*\)$/\1/p' docs/man/cached.toml.5 docs/man/bivrangd.toml.5)" \
+    "$(sed -n '/^const KEYS: /,/^];/s/^ *"\([a-z_]*\)",$/\1/p' crates/cached_config/src/reading.rt)"
+
 # Programs, package and clients have one version, CHANGELOG.md's last; tools/package.sh adds to it what a tree after that is.
 version=$(sed -n 's/^## \([0-9][0-9.]*\).*/\1/p' CHANGELOG.md | head -n 1)
 same "the versions of CHANGELOG.md, the programs and the clients" "$(

@@ -4,8 +4,8 @@
 #
 #   tools/package.sh [FOLDER [PROGRAMS]]      FOLDER, where the package goes, is . by default
 #
-# Its version is CHANGELOG.md's last one. Of a tree after that the time of its commit and what the package has are added, so that packages
-# of different trees have different versions, of which the later is the newer.
+# Its version is CHANGELOG.md's last one. Of a tree after that the time of its commit (without git, that version's day) and a hash of what
+# the package has are added, so that packages of different trees have different versions, of which that of the later commit is the newer.
 set -euo pipefail
 to=$(realpath "${1:-.}")
 programs=${2:+$(realpath "$2")}
@@ -59,11 +59,11 @@ put 755 "$folder/bivrang" usr/bin/bivrang
 { cat NOTICE; printf '\nOn Debian the Apache License, version 2.0, is /usr/share/common-licenses/Apache-2.0.\n'; } > "$folder/copyright"
 put 644 "$folder/copyright" usr/share/doc/cached/copyright
 
-version=$(sed -n 's/^## \([0-9][0-9.]*\).*/\1/p' CHANGELOG.md | head -n 1)
-made=$(git log -1 --format=%ct 2> /dev/null || true)
+read -r version day < <(sed -n 's/^## \([0-9][0-9.]*\), \([0-9-]*\)$/\1 \2/p' CHANGELOG.md)
+made=$(git log -1 --format=%ct 2> /dev/null || date -u -d "$day" +%s)
 if [ "$(grep -m 1 '^## ' CHANGELOG.md)" = "## Next" ]; then
     contents=$(cd "$root" && find . -type f -print0 | LC_ALL=C sort -z | xargs -0 sha256sum | sha256sum | cut -c 1-8)
-    version=$version+${made:+$(date -u -d "@$made" +%Y%m%d%H%M%S).}$contents
+    version=$version+$(date -u -d "@$made" +%Y%m%d%H%M%S).$contents
 fi
 maintainer="Bivrang maintainers <maintainers@users.noreply.bivrang.example>"
 cat > "$folder/changelog" <<END
@@ -71,7 +71,7 @@ cached ($version) unstable; urgency=medium
 
   * CHANGELOG.md of the repository says what has changed.
 
- -- $maintainer  $(LC_ALL=C date -u -R -d "@${made:-0}")
+ -- $maintainer  $(LC_ALL=C date -u -R -d "@$made")
 END
 gzip -9n "$folder/changelog"
 put 644 "$folder/changelog.gz" usr/share/doc/cached/changelog.gz
@@ -98,5 +98,5 @@ Description: bounded cache behind a line protocol, proved
 END
 
 package=$to/cached_${version}_$machine.deb
-SOURCE_DATE_EPOCH=${made:-0} dpkg-deb --root-owner-group -Zgzip --build "$root" "$package" > /dev/null
+SOURCE_DATE_EPOCH=$made dpkg-deb --root-owner-group -Zgzip --build "$root" "$package" > /dev/null
 echo "$package"

@@ -100,7 +100,7 @@ done
 # The documents' links lead to what is installed.
 python3 -B "$tools/test_links.py" "$root" || fail "links of documents"
 if command -v lintian > /dev/null; then
-    lintian --allow-root --fail-on error --no-tag-display-limit "$package" > "$folder/told" 2>&1 || fail "lintian: $(cat "$folder/told")"
+    lintian --allow-root --fail-on error "$package" > "$folder/told" 2>&1 || fail "lintian: $(cat "$folder/told")"
 fi
 
 # The server, with the sample configuration on a free port.

@@ -483,7 +483,7 @@ class Servers(Spread["Client[Any, Any]"], KeyedCommands[Given, Told]):
     servers: the servers, with different names.
     retry_after: for how many seconds a server is left alone that could not be reached or did not
         reply in time; calls for its keys then raise `ServerAway` at once.
-    errors_as_misses: whether `get`, `get_many` and `has` take a `LinkError` as a miss.
+    errors_as_misses: whether `get`, `get_many`, `has` and `touch` take a `LinkError` as a miss.
     codec: how values are written and read, as in `Client`.
     options: others of `Client` (`connections`, `connect_seconds`, `reply_seconds`,
         `wait_seconds`), for each server.

@@ -924,5 +924,6 @@ class Texts(FakeCase):
         stored = repr(Request.set("a", "x" * 1000, ttl=1))
         self.assertTrue(stored.startswith("<Request SET a 1000 'xxx"), stored)
         self.assertLess(len(stored), 80)
+        self.assertIn("Client [::1]:7411, 0", repr(self.make("::1")))
         servers = self.servers_of(Server(HOST, 1), Server(HOST, 2, name="east"))
         self.assertEqual(repr(servers), f"<Servers {HOST}:1, east>")

@@ -139,6 +139,7 @@ class ServersThatFail(FakeCase):
         self.assertIsNone(servers.get(its))
         self.assertEqual(servers.get(its, 0), 0)
         self.assertIs(servers.has(its), False)
+        self.assertIs(servers.touch(its), False)
         self.assertEqual(servers.get_many([theirs, its]), {theirs: b"1"})
         asked = [Request.get(its, 0), Request.get(theirs, 0), Request.has(its), Request.has(theirs)]
         self.assertEqual(servers.pipeline(asked), [0, b"2", False, True])

@@ -159,7 +159,7 @@ impl Servers {
         }
     }
 
-    /// Takes a look-up (`get`, `get_many`, `has`) without a complete reply as a miss.
+    /// Takes a look-up (`get`, `get_many`, `has`, `touch`) without a complete reply as a miss.
     pub fn with_errors_as_misses(self) -> Servers {
         Servers {
             are_errors_misses: true,
