@@ -89,12 +89,12 @@ ${libc:+Depends: libc6 (>= $libc)
 Section: database
 Priority: optional
 Installed-Size: $(du -sk "$root" | cut -f 1)
-Description: bounded cache behind a line protocol, proved
+Description: server of a bounded cache, whose service is proved
  Holds values by key, evicts by TinyLFU or LRU, reports each value that leaves,
- and answers loads of missing values once per key. What it replies and reports
- is proved. Without authentication; it stores nothing on disk. bivrangd serves
- many connections, cached scripts and a thread for each connection; bivrang
- asks them from the command line.
+ and answers loads of missing values once per key. What its service replies and
+ reports is proved. Without authentication; it stores nothing on disk. bivrangd
+ serves many connections, cached scripts and a thread for each connection;
+ bivrang asks them from the command line.
 END
 
 package=$to/cached_${version}_$machine.deb

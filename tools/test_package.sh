@@ -19,6 +19,10 @@ same() { # what, as it is, as it has to be
     [ "$2" = "$3" ] || fail "$1: $2"
 }
 
+# What reads the man pages, below.
+installing=
+command -v mandoc > /dev/null || { "$tools/install_one.sh" mandoc & installing=$!; }
+
 package=$("$tools/package.sh" "$folder" "$@")
 root=$folder/root
 if [ "$(id -u)" = 0 ]; then
@@ -68,7 +72,7 @@ if command -v systemd-analyze > /dev/null; then
 fi
 
 # The pages: each program has one, each reference leads to one, and nothing is wrong with their form.
-command -v mandoc > /dev/null || "$tools/install_one.sh" mandoc || echo "package: mandoc, which reads the man pages, is missing and cannot be installed"
+[ -z "$installing" ] || wait "$installing" || echo "package: there is no mandoc, and apt-get cannot install it: its part is skipped"
 for program in usr/bin/*; do
     [ -f "usr/share/man/man1/$(basename "$program").1.gz" ] || fail "there is no page of $program"
 done
@@ -101,6 +105,8 @@ done
 python3 -B "$tools/test_links.py" "$root" || fail "links of documents"
 if command -v lintian > /dev/null; then
     lintian --allow-root --fail-on error "$package" > "$folder/told" 2>&1 || fail "lintian: $(cat "$folder/told")"
+else
+    echo "package: there is no lintian: its part is skipped"
 fi
 
 # The server, with the sample configuration on a free port.

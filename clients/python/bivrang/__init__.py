@@ -13,7 +13,10 @@ It needs only Python's standard library, for Python 3.8 or later.
 
 `Client` is a pool of connections to one server, for many threads. `Connection` is one connection,
 for one thread at a time. `Servers` spreads keys over several servers. All three have a method for
-each line of the protocol. `bivrang.aio` has a `Client` and `Servers` for asyncio.
+each line of the protocol. `bivrang.aio` has a `Client` and `Servers` for asyncio. A client can be
+made from a URL (`Client.from_url`), pickled and copied; `cache["a"]` is its value, or a KeyError.
+
+`python3 -m bivrang` is the command `bivrang`, by which people ask a server.
 
 Keys are text or bytes of the characters `!` to `~`. Values are bytes, or text, which is sent as
 UTF-8; they are returned as bytes. With `codec=bivrang.JSON` they are values of JSON, with
