@@ -1,5 +1,5 @@
 #!/usr/bin/env python3
-"""Tests tools/bivrangd-run under each shell of `sh` and `bash` that there is: `python3 tools/test_starter.py`. They take seconds.
+"""Tests tools/bivrangd-run under dash and bash, as far as they are there: `python3 tools/test_starter.py`. They take seconds.
 
 A server of a few lines of shell stands for bivrangd, and says what it reads. bivrangd itself is tried where the gate has left it.
 """
@@ -17,7 +17,7 @@ sys.dont_write_bytecode = True
 ROOT = pathlib.Path(__file__).resolve().parent.parent
 STARTER = ROOT / "tools/bivrangd-run"
 BIVRANGD = pathlib.Path(os.environ.get("BIVRANGD", ROOT / "crates/bivrangd/out/bivrangd"))
-SHELLS = [shell for shell in ("sh", "bash") if shutil.which(shell)]
+SHELLS = [shell for shell in ("dash", "bash") if shutil.which(shell)]
 PATIENCE = 60
 
 
@@ -152,5 +152,6 @@ class Starter(unittest.TestCase):
 
 if __name__ == "__main__":
     if not SHELLS:
-        sys.exit("there is neither sh nor bash")
+        print("skipped: there is neither dash nor bash")
+        sys.exit()
     unittest.main()

@@ -3,13 +3,14 @@ import contextlib
 import io
 import os
 import pathlib
+import re
 import subprocess
 import sys
 import tempfile
 import unittest
 from unittest import mock
 
-from support import HOST, PATIENCE, Fake, FakeCase, RealCase, free_port, replies
+from support import HOST, PATIENCE, REPOSITORY, Fake, FakeCase, RealCase, free_port, replies
 from bivrang import Held, _command, _notices
 
 PACKAGE = pathlib.Path(__file__).resolve().parents[1]
@@ -119,6 +120,17 @@ class Command(RealCase):
         self.assertEqual(cache.get("a"), "dürer".encode())
 
 
+class Texts(unittest.TestCase):
+    def test_the_page_and_the_help_have_every_command(self):
+        parser = _command._parser()
+        (choices,) = [it.choices for it in parser._actions if isinstance(it.choices, dict)]
+        names = {*choices, *_command.ELSEWHERE}
+        helped = re.findall(r"^    ([a-z]+)(?: .*?|)  +[a-z]", _command.__doc__, re.MULTILINE)
+        page = (REPOSITORY / "docs/man/bivrang.1").read_text()
+        self.assertEqual(set(helped), names)
+        self.assertEqual(set(re.findall(r"^\.It Cm ([a-z]+)", page, re.MULTILINE)), names)
+
+
 class Files(RealCase):
     """Lines of a file as requests."""
 
@@ -128,7 +140,7 @@ class Files(RealCase):
         self.file = pathlib.Path(folder.name, "lines")
 
     def send(self, text):
-        """Sends a file. Returns the status, its last line, and each error behind the file's name."""
+        """Sends a file. Returns the status, the output, and each error behind the file's name."""
         self.file.write_bytes(text)
         server = f"{HOST}:{self.server.ports['main']}"
         words = ["--server", server, "--seconds", str(PATIENCE), "send", str(self.file)]
@@ -149,7 +161,8 @@ class Files(RealCase):
     def test_refused_lines(self):
         cache = self.client()
         long = b"SET b - " + b"x" * 8185
-        status, output, errors = self.send(b"SET a 5 x\nQUIT\n" + long + b"\n\nSET c - 1\nfoo\xff\n")
+        text = b"SET a 5 x\nQUIT\n%b\n\nSET c - 1\nfoo\xff\n" % long
+        status, output, errors = self.send(text)
         self.assertEqual((status, output), (1, "4 lines sent, 5 refused\n"))
         wanted = ["1: ERR deadline", "2: QUIT", "3: longer than 8192 bytes", "4: ERR", "6: ERR"]
         for line, begin in zip(sorted(errors), wanted):
