@@ -23,6 +23,8 @@
     bivrang://HOST:PORT?reply_seconds=60; by default the environment's BIVRANG_SERVER, or
     127.0.0.1:7411. --seconds is the time limit of each reply, 5 by default.
 
+    Values are printed as they are; on a terminal what is not printable is escaped.
+
 `bivrang send --help`, `bivrang notices --help` and `bivrang watch --help` say more of these.
 
 The status is 0; 1 if there is no value (of get, has, touch and load), nothing was stored (of set
@@ -47,6 +49,7 @@ from typing import (
 from . import _notices, _watch
 from ._blocking import Client
 from ._errors import BivrangError, ServerError, place_of
+from ._output import printable, write_lines
 from ._protocol import LONGEST_LINE, Request, any_request
 from ._urls import arguments_of_place
 
@@ -57,17 +60,10 @@ SENT_AT_ONCE = 500
 """So many lines of a file are one pipeline."""
 
 
-def _print(*lines: bytes) -> None:
-    """Prints lines of any bytes."""
-    for line in lines:
-        sys.stdout.buffer.write(line + b"\n")
-    sys.stdout.buffer.flush()
-
-
 def _print_value(value: Optional[bytes]) -> bool:
     """Prints a value, if there is one. Whether there is."""
     if value is not None:
-        _print(value)
+        write_lines(value)
     return value is not None
 
 
@@ -94,13 +90,13 @@ def _del(cache: Cache, words: Words) -> bool:
 
 def _has(cache: Cache, words: Words) -> bool:
     told = cache.has(words.key)
-    _print(b"YES" if told else b"NO")
+    write_lines(b"YES" if told else b"NO")
     return told
 
 
 def _touch(cache: Cache, words: Words) -> bool:
     told = cache.touch(words.key)
-    _print(b"YES" if told else b"NO")
+    write_lines(b"YES" if told else b"NO")
     return told
 
 
@@ -110,7 +106,7 @@ def _incr(cache: Cache, words: Words) -> bool:
 
 
 def _keys(cache: Cache, words: Words) -> bool:
-    _print(*(key for key in cache.keys() if key.startswith(words.prefix)))
+    write_lines(*(key for key in cache.keys() if key.startswith(words.prefix)))
     return True
 
 
@@ -169,7 +165,7 @@ class Sending:
 
     def refuse(self, number: int, why: str) -> None:
         self.refused += 1
-        print(f"{self.name}:{number}: {why}", file=sys.stderr)
+        print(f"{self.name}:{number}: {printable(why)}", file=sys.stderr)
 
     def send(self, part: Sequence[Numbered]) -> None:
         """Sends lines as one pipeline."""
@@ -289,6 +285,6 @@ def main(words: Optional[Sequence[str]] = None) -> None:
     except KeyboardInterrupt:
         status = 130
     except (BivrangError, OSError, ValueError) as error:
-        print(f"bivrang: {error}", file=sys.stderr)
+        print(f"bivrang: {printable(str(error))}", file=sys.stderr)
         status = 2
     sys.exit(status)

@@ -18,6 +18,7 @@ import re
 import sys
 from typing import Optional, Sequence
 
+from ._output import write_lines
 from ._watch import CAUSES, CannotWatch, Source, open_log
 
 NOTICE = re.compile(rb"([^ ]+) NOTE (%s) ([^ ]+) .*" % "|".join(CAUSES).encode(), re.DOTALL)
@@ -39,10 +40,7 @@ class Printer:
     def take(self, piece: bytes) -> None:
         """Adds bytes of the output."""
         *lines, self.rest = (self.rest + piece).split(b"\n")
-        for line in lines:
-            if self.is_wanted(line):
-                sys.stdout.buffer.write(line + b"\n")
-        sys.stdout.buffer.flush()
+        write_lines(*filter(self.is_wanted, lines))
 
     def is_wanted(self, line: bytes) -> bool:
         told = NOTICE.fullmatch(line)

@@ -16,14 +16,20 @@ from bivrang import Held, _command, _notices
 PACKAGE = pathlib.Path(__file__).resolve().parents[1]
 
 
-def streams(given=b""):
-    """Standard input with these bytes, output and errors."""
-    return [io.TextIOWrapper(io.BytesIO(text)) for text in (given, b"", b"")]
+class Stream(io.TextIOWrapper):
+    """A stream of the program, with these bytes to read; whether it is a terminal."""
+
+    def __init__(self, given=b"", is_terminal=False):
+        super().__init__(io.BytesIO(given))
+        self.is_terminal = is_terminal
+
+    def isatty(self):
+        return self.is_terminal
 
 
-def run(main, words, given=b""):
+def run(main, words, given=b"", is_terminal=False):
     """Calls a `main` with words. Returns the status, the bytes of its output, and its errors."""
-    pipes = streams(given)
+    pipes = [Stream(given), Stream(is_terminal=is_terminal), Stream()]
     names = ("stdin", "stdout", "stderr")
     with contextlib.ExitStack() as stack:
         for name, pipe in zip(names, pipes):
@@ -40,11 +46,11 @@ def run(main, words, given=b""):
 
 
 class Command(RealCase):
-    def asks(self, *words, given=b"", name="main"):
+    def asks(self, *words, name="main", **streams):
         """The status and output of the command, which tells no error."""
         server = f"{HOST}:{self.server.ports[name]}"
         options = ["--server", server, "--seconds", str(PATIENCE)]
-        status, output, errors = run(_command.main, [*options, *words], given)
+        status, output, errors = run(_command.main, [*options, *words], **streams)
         self.assertEqual(errors, "")
         return status, output
 
@@ -60,6 +66,19 @@ class Command(RealCase):
         self.assertEqual(self.asks("keys"), (0, b"a\nb\nc\n"))
         self.assertEqual(self.asks("del", "a", "b", "nothing"), (0, b""))
         self.assertEqual(cache.keys(), [b"c"])
+
+    def test_a_terminal_gets_nothing_but_letters(self):
+        cache = self.client()
+        rows = {
+            b"two words": b"two words",
+            "dürer  ".encode(): "dürer \\u2028".encode(),
+            b"\x1b[2J\x07 \x9b\\": b"\\x1b[2J\\x07 \\x9b\\",
+            b"\x9b": b"\\x9b",
+        }
+        for value, shown in rows.items():
+            cache.set("a", value)
+            self.assertEqual(self.asks("get", "a", is_terminal=True), (0, shown + b"\n"))
+            self.assertEqual(self.asks("get", "a"), (0, value + b"\n"))
 
     def test_presence_and_uses(self):
         self.client().set("a", "1")
@@ -206,7 +225,7 @@ class Errors(FakeCase):
         rows = [
             (b"ERR number\n", ["incr", "a"], "ERR number (key a, server"),
             (b"what\n", ["check"], "b'what' is no reply"),
-            (b"ERR load \xff\n", ["load", "a"], "ERR load \\xff"),
+            (b"ERR load \xff\x1b[m\n", ["load", "a"], "ERR load \\xff\\x1b[m"),
         ]
         for reply, words, text in rows:
             fake = Fake(self, replies(reply))
