@@ -15,12 +15,12 @@ import unittest
 
 sys.dont_write_bytecode = True
 ROOT = pathlib.Path(__file__).resolve().parent.parent
-sys.path.insert(0, str(ROOT / "clients/python"))
+PACKAGE = ROOT / "clients/python"
+sys.path.insert(0, str(PACKAGE))
 from bivrang import _watch as watch  # noqa: E402
 from bivrang import Client, Held  # noqa: E402
 from bivrang._watch import Place  # noqa: E402
 
-PROGRAM = ROOT / "tools/watch.py"
 BIVRANGD = pathlib.Path(os.environ.get("BIVRANGD", ROOT / "crates/bivrangd/out/bivrangd"))
 HOST = "127.0.0.1"
 PATIENCE = 60
@@ -227,8 +227,8 @@ class Runs(unittest.TestCase):
 
     def start(self, *words, **options):
         process = subprocess.Popen(
-            [sys.executable, str(PROGRAM), "--plain", *map(str, words)],
-            stdout=subprocess.PIPE, text=True, **options,
+            [sys.executable, "-B", "-m", "bivrang", "watch", "--plain", *map(str, words)],
+            cwd=PACKAGE, stdout=subprocess.PIPE, text=True, **options,
         )
         self.addCleanup(process.stdout.close)
         self.addCleanup(process.wait)
