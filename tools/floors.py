@@ -1,7 +1,10 @@
-"""How many floors a call passes: functions that only forward, functions with many arguments, the longest chain of crates.
+"""How many floors a call passes: functions that only forward, functions with many arguments, the longest chain of crates; and what falls.
 
     python3 tools/floors.py            prints the figures
     python3 tools/floors.py --list     lists the functions that only forward, with their bodies, and those with many arguments
+    python3 tools/floors.py --drops LOG
+                                       how many proofs of what the gate printed are of a value's fall (`Destruct::drop`), by crate; the
+                                       status is 1 if they are more than they may be
 
 A function only forwards if its body is one call whose arguments are names, fields, or calls without arguments. Crates of tests and of
 examples are left out.
@@ -15,6 +18,10 @@ import sys
 ROOT = pathlib.Path(__file__).resolve().parent.parent
 # As many arguments a function may have, `self` included.
 MOST = 7
+# As many proofs of a fall the gate may have: those of 2026-11-30. Lower it when they are fewer; it is not raised without a reason in the
+# commit. A type's fall is proved again in each crate in which it falls.
+MOST_DROPS = 920
+DROP = re.compile(r"fn (\w+)::.*Destruct::drop: proved")
 HEAD = re.compile(r"( *)(?:pub(?:\([a-z]+\))? )?fn (\w+)")
 # What a call that forwards may pass.
 PLAIN = re.compile(r"(?:&mut |[&*])*[\w.:]+(?:\(\))?\??")
@@ -95,7 +102,22 @@ def chain(below):
     return max((to(name) for name in below), key=len)
 
 
+def drops(log):
+    """Prints the proofs of a fall by crate, and answers whether they are as few as they have to be."""
+    lines = pathlib.Path(log).read_text(encoding="utf-8", errors="replace").splitlines()
+    by_crate = collections.Counter(found[1] for found in map(DROP.match, lines) if found)
+    number = sum(by_crate.values())
+    if not number:
+        sys.exit(f"{log} has no proof of a fall: it is not what the gate printed")
+    for crate, those in by_crate.most_common():
+        print(f"{those:5} {crate}")
+    print(f"{number} proofs of a fall, at most {MOST_DROPS}")
+    return number <= MOST_DROPS
+
+
 def main(words):
+    if len(words) == 2 and words[0] == "--drops":
+        return 0 if drops(words[1]) else 1
     if words not in ([], ["--list"]):
         print(__doc__.strip())
         return 0 if words in (["--help"], ["-h"]) else 2
