@@ -3,7 +3,6 @@ ghost use Rattle.std.specs.Prelude.{◌≡◌, [], IfOk};
 
 use crate::uses::reading::read_through;
 use moka::{BuildError, CacheBuilder, CacheError, CacheState, Instant, StdHasher, next_call};
-use sqlite::{Alter, Connection, Error, params};
 use std::alloc::Global;
 use std::sync::Arc;
 use std::time::Duration;
@@ -22,6 +21,26 @@ pub struct Product {
     pub stock: i64,
 }
 
+/// Why a row cannot be read or written.
+#[derive(Debug, Drop, Error)]
+pub enum RowError {
+    /// The table has no such row.
+    #[error("no such row")]
+    Missing,
+    /// There is no memory for it.
+    #[error("out of memory")]
+    OutOfMemory,
+}
+
+/// A table of products, as that of a database.
+pub trait Table {
+    /// Reads a row.
+    fn read(&mut self, number: i64) -> Result<Product, RowError>;
+
+    /// Writes a row, new or old.
+    fn write(&mut self, number: i64, product: Product) -> Result<(), RowError>;
+}
+
 /// Why a product cannot be shown or changed.
 #[derive(Debug, Drop, Error)]
 pub enum ProductError {
@@ -30,45 +49,23 @@ pub enum ProductError {
     Cache(#[from] CacheError),
     /// The table has no such row, or it cannot be read.
     #[error("{0}")]
-    Row(Arc<Error>),
+    Row(Arc<RowError>),
     /// It cannot be written.
     #[error("{0}")]
-    Write(#[from] Error),
+    Write(#[from] RowError),
 }
 
 /// The products of a table, by the number of their row. Each is read once, and then kept for a
 /// minute or until it is written.
 #[derive(Drop)]
-pub struct Products<S: Alter> {
-    table: Connection<S>,
+pub struct Products<T: Table> {
+    table: T,
     cache: CacheState<i64, Product>,
 }
 
-/// The product of a row.
-fn read<S: Alter>(table: &mut Connection<S>, number: i64) -> Result<Product, Error> {
-    let row = table.query_row(
-        "SELECT price, stock FROM product WHERE number = ?1",
-        params![number],
-    )?;
-    Ok(Product {
-        price: row.get(0)?,
-        stock: row.get(1)?,
-    })
-}
-
-/// Writes a row, new or old.
-fn write<S: Alter>(table: &mut Connection<S>, number: i64, product: Product) -> Result<(), Error> {
-    let _changes = table.execute(
-        "INSERT OR REPLACE INTO product (number, price, stock) VALUES (?1, ?2, ?3)",
-        params![number, product.price, product.stock],
-    )?;
-    Ok(())
-}
-
-impl<S: Alter + Drop> Products<S> {
-    /// The products of a table `product (number INTEGER PRIMARY KEY, price INTEGER, stock
-    /// INTEGER)`, none of which was read yet.
-    pub fn new(alloc: Global, table: Connection<S>, clock: Instant) -> Result<Self, BuildError>
+impl<T: Table + Drop> Products<T> {
+    /// The products of a table, none of which was read yet.
+    pub fn new(alloc: Global, table: T, clock: Instant) -> Result<Self, BuildError>
         ensures alone { IfOk result (λ products. products.cache.turns ≡ []) }
     {
         let cache = CacheBuilder::new(CAPACITY)
@@ -84,7 +81,7 @@ impl<S: Alter + Drop> Products<S> {
     {
         let at = next_call(&self.cache, clock)?;
         let table = &mut self.table;
-        match read_through(&mut self.cache, number, || read(table, number), at)? {
+        match read_through(&mut self.cache, number, || table.read(number), at)? {
             Ok(product) => Ok(product),
             Err(fault) => Err(ProductError::Row(fault)),
         }
@@ -98,7 +95,7 @@ impl<S: Alter + Drop> Products<S> {
     {
         let at = next_call(&self.cache, clock)?;
         self.cache.invalidate(&number, at)?;
-        write(&mut self.table, number, product)?;
+        self.table.write(number, product)?;
         Ok(())
     }
 }

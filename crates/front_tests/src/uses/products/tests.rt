@@ -1,9 +1,9 @@
 ghost use Rattle.std.specs.Prelude.{◌≡◌, [], IfSome};
 
-use crate::uses::products::{Product, Products, write};
+use crate::uses::products::{Product, Products, RowError, Table};
 use moka::Instant;
-use sqlite::{Connection, Error, MemStore};
 use std::alloc::Global;
+use std::collections::BTreeMap;
 
 const OLD: Product = Product {
     price: 500,
@@ -20,20 +20,32 @@ fn at(seconds: u32) -> Instant {
     Instant::from_nanos(u64::from(seconds) * 1_000_000_000)
 }
 
-/// A table without rows.
-fn new_table(alloc: Global) -> Result<Connection<MemStore>, Error> {
-    let mut table = Connection::open_in_memory(alloc)?;
-    table.execute_batch(
-        "CREATE TABLE product (number INTEGER PRIMARY KEY, price INTEGER NOT NULL, stock INTEGER NOT NULL) STRICT",
-    )?;
-    Ok(table)
+/// A table in memory.
+#[derive(Drop)]
+struct InMemory {
+    rows: BTreeMap<i64, Product>,
 }
 
-/// Its products.
-fn open(alloc: Global) -> Option<Products<MemStore>>
+impl Table for InMemory {
+    fn read(&mut self, number: i64) -> Result<Product, RowError> {
+        self.rows.get(&number).copied().ok_or(RowError::Missing)
+    }
+
+    fn write(&mut self, number: i64, product: Product) -> Result<(), RowError> {
+        match self.rows.insert(number, product) {
+            Ok(_) => Ok(()),
+            Err(_) => Err(RowError::OutOfMemory),
+        }
+    }
+}
+
+/// The products of a table without rows.
+fn open(alloc: Global) -> Option<Products<InMemory>>
     ensures { IfSome result (λ products. products.cache.turns ≡ []) }
 {
-    let table = new_table(alloc).ok()?;
+    let table = InMemory {
+        rows: BTreeMap::new(alloc),
+    };
     Products::new(alloc, table, at(0)).ok()
 }
 
@@ -49,19 +61,19 @@ enum Deed {
 }
 
 /// Whether a deed comes out as it says.
-fn comes_so(products: &mut Products<MemStore>, deed: Deed) -> bool
+fn comes_so(products: &mut Products<InMemory>, deed: Deed) -> bool
     requires { products.old.cache.turns ≡ [] }
     ensures { products.new.cache.turns ≡ [] }
 {
     match deed {
         Deed::Finds(seconds, wanted) => products.find(7, at(seconds)).ok() == wanted,
         Deed::Sets(seconds, product) => products.set(7, product, at(seconds)).is_ok(),
-        Deed::Writes(product) => write(&mut products.table, 7, product).is_ok(),
+        Deed::Writes(product) => products.table.write(7, product).is_ok(),
     }
 }
 
 /// Whether each deed does.
-fn come_so(products: &mut Products<MemStore>, deeds: &[Deed]) -> bool
+fn come_so(products: &mut Products<InMemory>, deeds: &[Deed]) -> bool
     requires { products.old.cache.turns ≡ [] }
 {
     for deed in deeds {
