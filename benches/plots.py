@@ -13,7 +13,7 @@ import figures
 import tables
 
 ROOT = pathlib.Path(__file__).resolve().parent.parent
-DOCUMENTS = ["benches/README.md", "docs/CHOOSING.md"]
+DOCUMENTS = ["benches/README.md", "docs/OPERATING.md", "docs/PROVED.md"]
 INK, SOFT, LINE, PAGE = "#1c1c1c", "#5c5c5c", "#dcdcdc", "#ffffff"
 COLOURS = {
     "TinyLFU": "#0072b2",

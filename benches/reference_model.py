@@ -1,4 +1,4 @@
-"""A model in Python of the cache of one part, as docs/REFERENCE_CACHE.md describes it: values of weight one, no times, read through.
+"""A model in Python of the cache of one part, as docs/DEFINITIONS.md describes it: values of weight one, no times, read through.
 
 It is a model and not the cache. It predicts which keys are found if each key of a trace is looked up and, if it is not found, written.
 `hit_ratios.py check` compares it, key by key, with the proved program. It also allows trying a rule that the cache does not have (`Aging`).

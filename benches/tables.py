@@ -221,6 +221,11 @@ def same_memory(kept):
     return "\n\n".join(map(of_kind, kinds))
 
 
+def sweeps(kept):
+    rows = [[f"`{name}`", row["date"], row["figure"]] for name, row in kept["sweeps"].items()]
+    return table(["Sweep", "Last run", "What came of it"], rows)
+
+
 # By the name in a document: the kind whose date is told, and what makes the table.
 TABLES = {
     "requests": ("requests", requests),
@@ -240,6 +245,7 @@ TABLES = {
     "reading": ("reading", reading),
     "hit ratios": ("hit_ratios", ratios),
     "shards": ("shards", shards),
+    "sweeps": (None, sweeps),
 }
 
 

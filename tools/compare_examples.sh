@@ -31,14 +31,14 @@ same "docs/PROTOCOL.md's example and crates/cached/stdout" \
 same "docs/man/cached.toml.5's example and docs/cached.toml" \
     "$(sed -n '/^\.Bd -literal/,/^\.Ed/p' docs/man/cached.toml.5 | grep -v '^\.')" "$(grep -v '^#' docs/cached.toml)"
 
-# The man pages have the requests and the keys of docs/PROTOCOL.md, in its order.
-rows() { # heading: the first words of a table's rows
-    awk -v head="$1" '!seen { seen = ($0 == head); next } /^#/ { exit } 1' docs/PROTOCOL.md | sed -n 's/^| `\([A-Za-z_]*\).*/\1/p'
+# The man pages have the requests of docs/PROTOCOL.md and the keys of docs/OPERATING.md, in their order.
+rows() { # file, heading: the first words of a table's rows
+    awk -v head="$2" '!seen { seen = ($0 == head); next } /^#/ { exit } 1' "$1" | sed -n 's/^| `\([A-Za-z_]*\).*/\1/p'
 }
 same "docs/man/cached.1's requests and docs/PROTOCOL.md's" \
-    "$(sed -n 's/^\.It Ic \([A-Z]*\).*/\1/p' docs/man/cached.1)" "$(rows '## Requests and replies')"
-same "docs/man/cached.toml.5's keys and docs/PROTOCOL.md's" \
-    "$(sed -n 's/^\.It Va \([a-z_]*\)$/\1/p' docs/man/cached.toml.5)" "$(rows '### The configuration file')"
+    "$(sed -n 's/^\.It Ic \([A-Z]*\).*/\1/p' docs/man/cached.1)" "$(rows docs/PROTOCOL.md '## Requests and replies')"
+same "docs/man/cached.toml.5's keys and docs/OPERATING.md's" \
+    "$(sed -n 's/^\.It Va \([a-z_]*\)$/\1/p' docs/man/cached.toml.5)" "$(rows docs/OPERATING.md '### Keys of a namespace')"
 
 # The pages of both programs have every key that a namespace may have, in the order of the program's own list.
 same "the keys of cached.toml(5) with bivrangd.toml(5) and those that bivrangd knows" \

@@ -11,7 +11,7 @@ import sys
 REPOSITORY = pathlib.Path(__file__).resolve().parent.parent
 SHARED = pathlib.PurePosixPath("/usr/share/doc/cached")
 # Where what stands in the repository is installed.
-DOCUMENTS = {f"docs/{name}.md": SHARED / f"{name}.md" for name in ("PROTOCOL", "MEMCACHE", "OPERATING", "CHOOSING")}
+DOCUMENTS = {f"docs/{name}.md": SHARED / f"{name}.md" for name in ("PROTOCOL", "MEMCACHE", "OPERATING")}
 DOCUMENTS["clients/README.md"] = SHARED / "CLIENTS.md"
 OTHERS = {f"docs/{name}.service": f"/usr/lib/systemd/system/{name}.service" for name in ("cached", "bivrangd")}
 OTHERS.update({f"docs/{name}.toml": f"/etc/{name}.toml" for name in ("cached", "bivrangd")})
