@@ -1,4 +1,5 @@
-"""How many words the proofs take: lines, splits by hand, relations of the service, names of specs that stand in several crates.
+"""How many words the proofs take: lines, splits by hand, relations of the service, names of specs that stand in several crates; and how
+many the documents have.
 
     python3 tools/words.py            prints the figures
     python3 tools/words.py --check    says which of them are above what they may be, for the gate
@@ -48,6 +49,17 @@ def declared(path):
             yield name, " ".join(head)
 
 
+def words_by_hand():
+    """The words of all documents, without code, tables, the targets of links, and what is made from sources."""
+    count = 0
+    for path in ROOT.rglob("*.md"):
+        if not {"out", "target", "promises"} & set(path.relative_to(ROOT).parts):
+            text = re.sub(r"<!-- figures:.*?<!-- end of figures -->|```.*?```", "", path.read_text(encoding="utf-8"), flags=re.DOTALL)
+            text = re.sub(r"^(    |\|).*$", "", text, flags=re.MULTILINE)
+            count += len(re.findall(r"[A-Za-z0-9`][^\s|]*", re.sub(r"\]\([^)]*\)", "]", text)))
+    return count
+
+
 def figures():
     specs = files("specs")
     crates_of = collections.defaultdict(set)
@@ -68,6 +80,7 @@ def figures():
         "relations of the service's specs": relations,
         "names of relations in several crates": len(capital),
         "names of functions in several crates": len(several) - len(capital),
+        "words of documents": words_by_hand(),
     }, several
 
 
