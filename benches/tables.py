@@ -161,12 +161,13 @@ def judge(kept):
 def server(kept):
     lines, line = kept["million_lines"]["a million lines"]["seconds"], kept["instructions"]["a line"]
     soak, made = kept["soak"]["cached"], kept["calls_made"]["GET a"]
-    memory = kept["memory"]["bivrangd: 1,000,000 values of 32 bytes"]
+    memory, once = kept["memory"].get("bivrangd: 1,000,000 values of 32 bytes"), kept["memory"].get("cached")
+    # (what was measured of values that nothing was written over stands until the other is measured)
+    held = f"{memory['filled']} bytes beside key and value when just filled, {memory['steady']} once each was written over and replaced" if memory else f"{once['bytes']} bytes per value in addition to key and value, when just filled"
     idle, spaces = kept["idle"]["bivrangd"], kept.get("spaces")
     rows = [
         ("million_lines", "`million_lines.py`", f"{shown(lines, 2)} s of processor time", "1 s"),
-        ("memory", "`connections.py memory`", f"{memory['filled']} bytes beside key and value when just filled, {memory['steady']} once each was written over and replaced: "
-         "a million values of 32 bytes, keys of 16", "90"),
+        ("memory", "`connections.py memory`", f"{held}: a million values of 32 bytes, keys of 16", "90"),
         ("idle", "`connections.py idle`", f"{idle['bytes']} bytes for each of 10,000 idle connections of `bivrangd`; a request over 16 others takes "
          f"{idle['alone']} us without them, {idle['beside']} us with them", "350, and no more"),
         ("soak", "`connections.py soak`", f"at most {soak['first quarter']} MiB in the first quarter of a million requests, {soak['last quarter']} MiB in the last", "flat"),
