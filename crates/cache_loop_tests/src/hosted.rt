@@ -103,7 +103,7 @@ fn files_of_items_are_read(rt: HostRuntime) {
 const FAULTY: &[(&str, &str)] = &[
     (
         "[metrics]\nport = 0\n[[namespace]]\nname = \"a\"\nport = 1\nbind = \"b\"\nmode = \"8\"\nloops = 65\nmax_connections = 0\nidle_s = 0\nnotices = true\nnotice = 1\nload_ms = 86400001\n",
-        "1: metrics is a table with a port, a number from 1 to 65535, and nothing else\n6: bind is an IP address, or a path that begins with / and has at most 107 bytes\n7: mode is a text of three digits from 0 to 7\n8: loops is a number from 1 to 64\n9: max_connections is a number from 1 to 1000000\n10: idle_s is a number of seconds from 1 to 86400000\n11: notices is \"values\", \"keys\" or \"off\"\n12: unknown key notice: did you mean `notices`?\n13: load_ms is a number of milliseconds from 1 to 86400000\n",
+        "2: metrics is a table with a port, a number from 1 to 65535, and nothing else\n6: bind is an IP address, or a path that begins with / and has at most 107 bytes\n7: mode is a text of three digits from 0 to 7\n8: loops is a number from 1 to 64\n9: max_connections is a number from 1 to 1000000\n10: idle_s is a number of seconds from 1 to 86400000\n11: notices is \"values\", \"keys\" or \"off\"\n12: unknown key notice: did you mean `notices`?\n13: load_ms is a number of milliseconds from 1 to 86400000\n",
     ),
     // A protocol that is not known, and a key of another one.
     (
@@ -113,7 +113,42 @@ const FAULTY: &[(&str, &str)] = &[
     // Keys that do not go with the memcache protocol.
     (
         "[[namespace]]\nname = \"a\"\nport = 1\nprotocol = \"memcache\"\ncapacity = 1\nparts = 2\nweight = \"bytes\"\nlive_ms = 1\nidle_ms = 1\ndeadlines = false\nloops = 1\nnotices = \"off\"\nitem_size = 0\nload_ms = 1\n[namespace.loads]\n",
-        "1: loads does not go with the memcache protocol\n6: parts does not go with the memcache protocol\n7: weight does not go with the memcache protocol\n8: live_ms does not go with the memcache protocol\n9: idle_ms does not go with the memcache protocol\n10: deadlines does not go with the memcache protocol\n11: loops does not go with the memcache protocol\n12: notices does not go with the memcache protocol\n13: item_size is a number of bytes from 1 to 134217728\n14: load_ms does not go with the memcache protocol\n",
+        "6: parts does not go with the memcache protocol\n7: weight does not go with the memcache protocol\n8: live_ms does not go with the memcache protocol\n9: idle_ms does not go with the memcache protocol\n10: deadlines does not go with the memcache protocol\n11: loops does not go with the memcache protocol\n12: notices does not go with the memcache protocol\n13: item_size is a number of bytes from 1 to 134217728\n14: load_ms does not go with the memcache protocol\n15: loads does not go with the memcache protocol\n",
+    ),
+    // Words of other servers.
+    (
+        "[[namespace]]\nname = \"a\"\nport = 1\nmaxmemory = 1\nidle_timeout = 60\nprotocol = \"memcached\"\n",
+        "4: unknown key maxmemory: did you mean `capacity`?\n5: unknown key idle_timeout: did you mean `idle_s`?\n6: protocol is \"lines\" or \"memcache\": did you mean `memcache`?\n",
+    ),
+    // The port of the metrics twice, and a key that they do not have.
+    (
+        "[[namespace]]\nname = \"a\"\nport = 9\n\n[metrics]\nport = 9\n",
+        "3: port is that of the metrics\n",
+    ),
+    (
+        "[[namespace]]\nname = \"a\"\nport = 9\n\n[metrics]\nport = 8\nbind = \"::1\"\n",
+        "7: metrics is a table with a port, a number from 1 to 65535, and nothing else\n",
+    ),
+    (
+        "metrics.port = 0\n[[namespace]]\nname = \"a\"\nport = 9\n",
+        "1: metrics is a table with a port, a number from 1 to 65535, and nothing else\n",
+    ),
+    (
+        "metrics = 9\n[[namespace]]\nname = \"a\"\nport = 9\n",
+        "1: metrics is a table with a port, a number from 1 to 65535, and nothing else\n",
+    ),
+    // Paths: one twice, a folder, one with a NUL; an address may be had twice.
+    (
+        "[[namespace]]\nname = \"a\"\nport = 1\nbind = \"/run/a\"\n[[namespace]]\nname = \"b\"\nport = 2\nbind = \"/run/a\"\n",
+        "8: bind is that of another namespace\n",
+    ),
+    (
+        "[[namespace]]\nname = \"a\"\nport = 1\nbind = \"/run/\"\n[[namespace]]\nname = \"b\"\nport = 2\nbind = \"/run/\\u0000a\"\n",
+        "4: bind is a folder, as it ends with /\n8: bind is no path, as it has a NUL\n",
+    ),
+    (
+        "[[namespace]]\nname = \"a\"\nport = 1\nbind = \"::1\"\n[[namespace]]\nname = \"b\"\nport = 2\nbind = \"::1\"\n",
+        "",
     ),
     // No capacity.
     (

@@ -11,6 +11,10 @@ const PATH_BYTES: usize = 107;
 
 const BIND: &str = "is an IP address, or a path that begins with / and has at most 107 bytes";
 
+const FOLDER: &str = "is a folder, as it ends with /";
+
+const NUL: &str = "is no path, as it has a NUL";
+
 const MODE: &str = "is a text of three digits from 0 to 7";
 
 const LOOPS: &str = "is a number from 1 to 64";
@@ -19,17 +23,36 @@ const NOTICES: &str = "is \"values\", \"keys\" or \"off\"";
 
 const PROTOCOL: &str = "is \"lines\" or \"memcache\"";
 
+const MEMCACHED: &str = "is \"lines\" or \"memcache\": did you mean `memcache`?";
+
 const ITEM_SIZE: &str = "is a number of bytes from 1 to 134217728";
 
 const METRICS: &str = "is a table with a port, a number from 1 to 65535, and nothing else";
 
-/// Whether a text is an address or a path.
-fn is_bind(text: &str) -> bool {
+/// What is wrong with a text that is to be an address or a path.
+fn fault_of_bind(text: &str) -> Option<&'static str> {
     if text.starts_with("/") {
-        return text.len() <= PATH_BYTES;
+        return fault_of_path(text);
     }
     let address: Result<IpAddr, _> = text.parse();
-    address.is_ok()
+    match address {
+        Ok(_) => None,
+        Err(_) => Some(BIND),
+    }
+}
+
+/// What is wrong with a text that begins with / and is to be the path of a Unix socket.
+fn fault_of_path(text: &str) -> Option<&'static str> {
+    if text.len() > PATH_BYTES {
+        return Some(BIND);
+    }
+    if text.ends_with("/") {
+        return Some(FOLDER);
+    }
+    if text.as_bytes().contains(&0) {
+        return Some(NUL);
+    }
+    None
 }
 
 /// Returns where a table says that the namespace listens, or 127.0.0.1 without the key. Returns what is wrong if the value is not allowed.
@@ -37,10 +60,18 @@ pub fn bind_in(table: &Table) -> Result<&str, &'static str> {
     match at_key(table, "bind") {
         None => Ok("127.0.0.1"),
         Some(value) => match value.as_str() {
-            Some(text) if is_bind(text) => Ok(text),
-            _ => Err(BIND),
+            Some(text) => match fault_of_bind(text) {
+                None => Ok(text),
+                Some(what) => Err(what),
+            },
+            None => Err(BIND),
         },
     }
+}
+
+/// Returns whether a table says that the namespace listens at a path.
+pub fn is_at_path(table: &Table) -> bool {
+    bind_in(table).is_ok_and(|bind| bind.starts_with("/"))
 }
 
 /// Returns the permissions that a table says, as a number, or those of 660 without the key. Returns what is wrong if the value is not
@@ -88,6 +119,21 @@ pub fn metrics_in(document: &Table) -> Result<Option<u16>, &'static str> {
         Some(value) => match value.as_table() {
             Some(table) if table.len() == 1 => port_of_metrics(table),
             _ => Err(METRICS),
+        },
+    }
+}
+
+/// Returns the key at which the table of metrics is not as it has to be, if it is not: one that it may not have, or else its port.
+pub fn key_of_metrics(document: &Table) -> &str {
+    match at_key(document, "metrics") {
+        None => "port",
+        Some(value) => match value.as_table() {
+            Some(table) => table
+                .keys()
+                .map(|key| key.as_str())
+                .find(|key| *key != "port")
+                .unwrap_or("port"),
+            None => "port",
         },
     }
 }
@@ -157,6 +203,7 @@ pub fn memcache_in(table: &Table) -> Result<bool, &'static str> {
         Some(value) => match value.as_str() {
             Some("lines") => Ok(false),
             Some("memcache") => Ok(true),
+            Some("memcached") => Err(MEMCACHED),
             _ => Err(PROTOCOL),
         },
     }

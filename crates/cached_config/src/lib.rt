@@ -14,5 +14,6 @@ pub use listed::{
     ConfigError, ConfigFault, ConfigReport, HostedNamespace, Hosting, ItemLimits, Listed, Notices,
     Protocol,
 };
+pub use places::line_of_bind;
 pub use reading::{Hosted, check_config, check_hosted, read_config, read_hosted};
 pub use unread::Unread;

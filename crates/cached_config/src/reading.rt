@@ -8,19 +8,20 @@ ghost use Rattle.cached_config.specs.Said.{IsConfigOf, Says, SaysAll, SaysLimits
 
 use crate::good::{MOST, are_good};
 use crate::hosting::{
-    OF_LINES, OF_MEMCACHE, bind_in, connections_in, idle_in, item_capacity_in, item_policy_in,
-    item_size_in, load_limit_in, loops_in, memcache_in, metrics_in, mode_in, notices_in,
+    OF_LINES, OF_MEMCACHE, bind_in, connections_in, idle_in, is_at_path, item_capacity_in,
+    item_policy_in, item_size_in, key_of_metrics, load_limit_in, loops_in, memcache_in, metrics_in,
+    mode_in, notices_in,
 };
 use crate::listed::{
     ConfigError, ConfigFault, ConfigReport, HostedNamespace, Hosting, ItemLimits, Listed, Notices,
     Protocol,
 };
-use crate::places::{Part, line_at, line_of_header, line_of_key, line_outside};
+use crate::places::{Part, line_at, line_of_header, line_of_key, line_of_metrics, line_outside};
 use crate::values::{
     at_key, capacity_in, deadlines_in, load_in, name_in, parts_in, policy_in, port_in, time_in,
     weight_in,
 };
-use crate::words::nearest;
+use crate::words::meant;
 use audit_model::{Bytes, Config, EvictionPolicy, Seq, Weight};
 use std::alloc::{AllocError, Global};
 use std::fmt::Display;
@@ -110,7 +111,8 @@ pub fn read_config(alloc: Global, text: &str) -> Result<Vec<HostedNamespace>, Co
 /// Like `read_config`, for `bivrangd`. In addition a namespace may have `bind` (an IP address, by default 127.0.0.1, or the path of a Unix
 /// socket, of at most 107 bytes), `mode` (the permissions of that socket, by default `"660"`), `loops` (1 to 64), `max_connections` (1 to
 /// 1,000,000, by default 10,000), `idle_s` (1 to 86,400,000; by default idle connections stay), `notices` (`"values"`, the default,
-/// `"keys"` or `"off"`), `load_ms` (1 to 86,400,000; by default no load is given up for its time) and `protocol` (`"lines"`, the default, or `"memcache"`), and the file may have a table `metrics` with a `port`.
+/// `"keys"` or `"off"`), `load_ms` (1 to 86,400,000; by default no load is given up for its time) and `protocol` (`"lines"`, the default, or
+/// `"memcache"`), and the file may have a table `metrics` with a `port`, which is no namespace's. No two namespaces have the same path.
 ///
 /// One that speaks the memcache protocol has a `capacity`, in bytes, and optionally `policy` (by default `"lru"`) and `item_size` (1 to
 /// 134,217,728 bytes, by default 1,048,576), and none of `parts`, `weight`, `live_ms`, `idle_ms`, `deadlines`, `loads`, `loops`,
@@ -139,8 +141,8 @@ pub fn read_hosted(alloc: Global, text: &str) -> Result<Hosted, ConfigError>
 /// Returns the faults of the text of a configuration file, in the order of its lines, and its warnings; there are no faults if
 /// `read_config` accepts it. Returns an error if there is not enough memory.
 ///
-/// Of a text that is not TOML only the first fault is reported. A fault of a key is reported with the line of the key, or, if that is not
-/// found (as in a table on one line), with the line of its namespace's header. There is a warning for each namespace without a capacity.
+/// Of a text that is not TOML only the first fault is reported. A fault of a key is reported with the line of the key, or, if no line begins
+/// with it (as in a table on one line), with the line of its table. There is a warning for each namespace without a capacity.
 pub fn check_config(alloc: Global, text: &str) -> Result<ConfigReport, AllocError>
     ensures text { parse_document text.now ≡ None
         → IfOk result (λ report. report.faults.items ≢ []) }
@@ -247,11 +249,11 @@ impl Reader<'_> {
     fn unknown(&mut self, line: usize, key: &str, known: &[&str]) -> Result<(), AllocError>
         ensures { OnOk result (vec_len self.old.faults < vec_len self.new.faults) }
     {
-        match nearest(key, known) {
-            Some(meant) => {
+        match meant(key, known) {
+            Some(other) => {
                 self.add(
                     line,
-                    format_args!("unknown key {key}: did you mean `{meant}`?"),
+                    format_args!("unknown key {key}: did you mean `{other}`?"),
                 )
             }
             None => self.add(line, format_args!("unknown key {key}")),
@@ -319,7 +321,7 @@ impl Reader<'_> {
                 Ok(())
             }
             Err(what) => {
-                let line = line_outside(self.text, "metrics");
+                let line = line_of_metrics(self.text, key_of_metrics(document));
                 self.add(line, format_args!("metrics {what}"))
             }
         }
@@ -380,6 +382,7 @@ impl Reader<'_> {
         let space = self.space(at)?;
         self.hosting(at)?;
         self.twins(at, before)?;
+        self.apart_from_metrics(at)?;
         Ok(Some(space))
     }
 
@@ -583,8 +586,23 @@ impl Reader<'_> {
         for other in before {
             self.twin(at, other, "name")?;
             self.twin(at, other, "port")?;
+            if is_at_path(at.table) {
+                self.twin(at, other, "bind")?;
+            }
         }
         Ok(())
+    }
+
+    /// Refuses the port at which metrics are served.
+    fn apart_from_metrics(&mut self, at: At<'_>) -> Result<(), AllocError>
+        ensures { OnOk result (vec_len self.old.faults ≤ vec_len self.new.faults) }
+    {
+        match (self.metrics, port_in(at.table)) {
+            (Some(metrics), Ok(port)) if metrics == port => {
+                self.fault(at, Part::Own, "port", "is that of the metrics")
+            }
+            _ => Ok(()),
+        }
     }
 
     /// Refuses that another namespace has the same at a key.

@@ -1,7 +1,31 @@
 //! Which word was probably meant.
 
-/// Returns the word of a list that differs from this one by a letter, or by two neighbours that changed places, or `None` if there is none.
-pub fn nearest<'a>(word: &str, known: &[&'a str]) -> Option<&'a str> {
+/// Words of other servers' configurations, each with the one that says about the same here.
+const ELSEWHERE: [(&str, &str); 5] = [
+    ("maxmemory", "capacity"),
+    ("maxmemory-policy", "policy"),
+    ("idle_timeout", "idle_s"),
+    ("timeout", "idle_s"),
+    ("maxclients", "max_connections"),
+];
+
+/// Returns the word of a list that was probably meant by another one: the word that differs from it by a letter, or by two neighbours that
+/// changed places, or the one that says what other servers say by it. Returns `None` if there is none.
+pub fn meant<'a>(word: &str, known: &[&'a str]) -> Option<&'a str> {
+    match nearest(word, known) {
+        Some(near) => Some(near),
+        None => from_elsewhere(word, known),
+    }
+}
+
+/// The word of a list that says what other servers say by another one.
+fn from_elsewhere<'a>(word: &str, known: &[&'a str]) -> Option<&'a str> {
+    let (_, here) = ELSEWHERE.iter().find(|(there, _)| *there == word)?;
+    known.iter().find(|other| **other == *here).copied()
+}
+
+/// The word of a list that differs from this one by a letter, or by two neighbours that changed places.
+fn nearest<'a>(word: &str, known: &[&'a str]) -> Option<&'a str> {
     for other in known {
         if are_near(word.as_bytes(), other.as_bytes()) {
             return Some(*other);

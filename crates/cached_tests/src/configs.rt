@@ -84,6 +84,7 @@ const FILES: &[Row<'static>] = &[
         "1: a namespace begins with [[namespace]]\n",
     ),
     ("namespace = [1]\n", "1: a namespace is a table\n"),
+    ("\nnamespace = [{ name = \"a\" }]\n", "2: port is missing\n"),
     ("[[namespace]]\nport = 1\n", "1: name is missing\n"),
     ("[[namespace]]\nname = \"a\"\n", "1: port is missing\n"),
     (
@@ -175,10 +176,36 @@ const REST: &[Row<'static>] = &[
     ),
     ("deadlines = false\nlive_ms = 5\n", ""),
     ("loads = 1\n", "4: loads is a table of texts\n"),
-    ("loads = { k = 1 }\n", "1: k is a text\n"),
-    ("loads = { k = \"a\\nb\" }\n", "1: k has a line end\n"),
-    ("loads = { k = \"a\\rb\" }\n", "1: k has a line end\n"),
+    ("loads = { k = 1 }\n", "4: k is a text\n"),
+    ("loads = { k = \"a\\nb\" }\n", "4: k has a line end\n"),
+    ("loads = { k = \"a\\rb\" }\n", "4: k has a line end\n"),
     ("loads = { k = \"\" }\n", ""),
+    ("loads.k = 1\n", "4: k is a text\n"),
+    (
+        "loads.k = \"v\"\nlive_ms.a = 1\n",
+        "5: live_ms is a number of milliseconds from 1 to 999999999999\n",
+    ),
+    // a table within the namespace's, which is not known
+    (
+        "[namespace.load]\nport = 2\n",
+        "4: unknown key load: did you mean `loads`?\n",
+    ),
+    // a line of the first namespace, and of the second
+    (
+        "[namespace.loads]\nport = 1\nk = \"v\"\n[[namespace]]\nname = \"b\"\nport = 2\n[namespace.loads]\nk = 1\n",
+        "5: port is a text\n11: k is a text\n",
+    ),
+    // words of other servers
+    (
+        "maxmemory = 1\n",
+        "4: unknown key maxmemory: did you mean `capacity`?\n",
+    ),
+    ("idle_timeout = 1\n", "4: unknown key idle_timeout\n"),
+    // a table outside all namespaces
+    (
+        "[other]\nport = 1\n[[namespace]]\nname = \"b\"\nport = 0\n",
+        "4: unknown key other\n8: port is a number from 1 to 65535\n",
+    ),
     (
         "[[namespace]]\nname = \"b\"\nport = 1\n",
         "6: port is that of another namespace\n",
@@ -237,7 +264,7 @@ const LONG: &[(&[Lines<'static>], &str)] = &[
             ("x", 1, 8193),
             ("\" }\n", 1, 1),
         ],
-        "1: k has more than 8192 bytes\n",
+        "4: k has more than 8192 bytes\n",
     ),
 ];
 
