@@ -39,6 +39,8 @@ same "docs/man/cached.1's requests and docs/PROTOCOL.md's" \
     "$(sed -n 's/^\.It Ic \([A-Z]*\).*/\1/p' docs/man/cached.1)" "$(rows docs/PROTOCOL.md '## Requests and replies')"
 same "docs/man/cached.toml.5's keys and docs/OPERATING.md's" \
     "$(sed -n 's/^\.It Va \([a-z_]*\)$/\1/p' docs/man/cached.toml.5)" "$(rows docs/OPERATING.md '### Keys of a namespace')"
+same "docs/man/bivrangd.toml.5's keys and docs/OPERATING.md's" \
+    "$(sed -n 's/^\.It Va \([a-z_]*\)$/\1/p' docs/man/bivrangd.toml.5)" "$(rows docs/OPERATING.md '### Keys that only `bivrangd` has')"
 
 # The pages of both programs have every key that a namespace may have, in the order of the program's own list.
 same "the keys of cached.toml(5) with bivrangd.toml(5) and those that bivrangd knows" \
