@@ -161,9 +161,8 @@ def judge(kept):
 def server(kept):
     lines, line = kept["million_lines"]["a million lines"]["seconds"], kept["instructions"]["a line"]
     soak, made = kept["soak"]["cached"], kept["calls_made"]["GET a"]
-    memory, once = kept["memory"].get("bivrangd: 1,000,000 values of 32 bytes"), kept["memory"].get("cached")
-    # (what was measured of values that nothing was written over stands until the other is measured)
-    held = f"{memory['filled']} bytes beside key and value when just filled, {memory['steady']} once each was written over and replaced" if memory else f"{once['bytes']} bytes per value in addition to key and value, when just filled"
+    memory = kept["memory"]["bivrangd: 1,000,000 values of 32 bytes"]
+    held = f"{memory['filled']} bytes beside key and value when just filled, {memory['steady']} steady"
     idle, spaces = kept["idle"]["bivrangd"], kept.get("spaces")
     rows = [
         ("million_lines", "`million_lines.py`", f"{shown(lines, 2)} s of processor time", "1 s"),
@@ -184,10 +183,14 @@ def server(kept):
 
 def memory(kept):
     """For each number and length of values what each server holds for one, filled and steady."""
-    kinds = list(dict.fromkeys(name.split(": ", 1)[1] for name in kept["memory"]))
-    names = list(dict.fromkeys(name.split(": ", 1)[0] for name in kept["memory"]))
-    cell = lambda row: f"{row['filled']}, {row['steady']}" if row else ""
-    return table(["", *names], [[kind, *(cell(kept["memory"].get(f"{name}: {kind}")) for name in names)] for kind in kinds])
+    names = {"bivrangd": "`bivrangd`, lines", "memcache": "`bivrangd`, memcache", "memcached": "memcached", "redis": "Redis"}
+    kinds = dict.fromkeys(name.split(": ", 1)[1] for name in kept["memory"])
+
+    def cell(name, kind):
+        row = kept["memory"][f"{name}: {kind}"]
+        return f"{row['filled']}, {row['steady']}"
+
+    return table(["", *names.values()], [[kind, *(cell(name, kind) for name in names)] for kind in kinds])
 
 
 def reading(kept):
@@ -232,6 +235,7 @@ TABLES = {
     "requests": ("requests", requests),
     "hits": ("hits", hits),
     "waits": ("waits", waits),
+    "memory": ("memory", memory),
     "same memory": ("same_memory", same_memory),
     "server": (None, server),
     "calls": ("calls", calls),
