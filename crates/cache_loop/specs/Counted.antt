@@ -38,6 +38,7 @@ counts_both a b = record a {
   refused = counted_both a.refused b.refused;
   idle = counted_both a.idle b.idle;
   starved = counted_both a.starved b.starved;
+  lacking = counted_both a.lacking b.lacking;
   read = counted_both a.read b.read;
   written = counted_both a.written b.written;
   found = found_both a.found b.found;

@@ -71,6 +71,8 @@ pub struct Counts {
     pub idle: u64,
     /// How many accepts failed for lack of descriptors or memory.
     pub starved: u64,
+    /// How many connections were closed for lack of memory.
+    pub lacking: u64,
     /// How many bytes were read.
     pub read: u64,
     /// How many bytes were written.
@@ -95,6 +97,7 @@ impl Counts {
             refused: 0,
             idle: 0,
             starved: 0,
+            lacking: 0,
             read: 0,
             written: 0,
             found: Found::new(),
@@ -114,6 +117,7 @@ impl Counts {
         self.refused = self.refused.saturating_add(other.refused);
         self.idle = self.idle.saturating_add(other.idle);
         self.starved = self.starved.saturating_add(other.starved);
+        self.lacking = self.lacking.saturating_add(other.lacking);
         self.read = self.read.saturating_add(other.read);
         self.written = self.written.saturating_add(other.written);
         self.found.add(&other.found);
@@ -172,6 +176,35 @@ impl<T: Write> Write for Metered<'_, T> {
     }
 }
 
+/// A reader that does not wait, each of whose reads goes on until its room is full or there is no more: one read of a socket may stop before
+/// bytes that the system tells apart, such as urgent ones, or those with which descriptors were passed.
+#[derive(Drop)]
+pub struct Thorough<T> {
+    inner: T,
+    // whether reads go on
+    goes_on: bool,
+}
+
+impl<T> Thorough<T> {
+    /// Wraps a device, by one read at a time unless reads go on.
+    pub fn new(inner: T, goes_on: bool) -> Thorough<T> {
+        Thorough { inner, goes_on }
+    }
+}
+
+impl<T: Read> Read for Thorough<T> {
+    fn read(&mut self, buf: &mut [u8]) -> io::Result<usize> {
+        let mut count = self.inner.read(buf)?;
+        while self.goes_on && 0 < count && count < buf.len() {
+            match self.inner.read(&mut buf[count..]) {
+                Ok(0) | Err(_) => break,
+                Ok(more) => count += more,
+            }
+        }
+        Ok(count)
+    }
+}
+
 /// A stopwatch of a machine's clock.
 #[derive(Drop)]
 pub struct Stopwatch {
@@ -192,6 +225,13 @@ impl Stopwatch {
         let nanos = self.nanos_to(now);
         self.since = Some(now);
         nanos
+    }
+
+    /// Returns how many nanoseconds have passed since the last lap, or `None` if there was none or the clock cannot be read.
+    pub fn passed<R: Clock>(&self, rt: &R) -> Option<u64> {
+        let since = self.since?;
+        let now = Instant::now(rt).ok()?;
+        u64::try_from(now.saturating_duration_since(since).as_nanos()).ok()
     }
 
     /// How many nanoseconds have passed since the last lap, at this time.

@@ -4,11 +4,22 @@ use mio::event::Source;
 use mio::net::{TcpListener, TcpStream, UnixListener, UnixStream};
 use mio::{Interest, Registry, Token};
 use std::io;
-use std::io::{Read, Write};
+use std::io::{ErrorKind, Read, Write};
 use std::net::Shutdown;
 
-/// So many reads at most are made of what comes in when a connection is over.
+/// So many reads are made in a row of what comes in when a connection is over.
 const DROPPED_READS: usize = 32;
+
+/// How much was read and dropped of what comes in at a socket.
+#[derive(Clone, Copy, PartialEq, Eq, Drop)]
+pub enum Dropped {
+    /// Some of it: there may be more.
+    Some,
+    /// What has come in. More may come.
+    Present,
+    /// All of it: nothing more will come.
+    All,
+}
 
 /// Where connections come in.
 #[derive(Drop)]
@@ -58,8 +69,8 @@ impl Stream {
     /// Makes a registry report under a token when there are bytes to read. Returns the registry's error.
     pub fn register(&mut self, registry: &Registry, token: Token) -> io::Result<()> {
         match self {
-            Stream::Tcp(stream) => registry.register(stream, token, Interest::READABLE),
-            Stream::Unix(stream) => registry.register(stream, token, Interest::READABLE),
+            Stream::Tcp(stream) => registry.register(stream, token, bytes()),
+            Stream::Unix(stream) => registry.register(stream, token, bytes()),
         }
     }
 
@@ -71,24 +82,33 @@ impl Stream {
         };
     }
 
-    /// Tells the client that nothing more will come, and drops what has come in, unless it is much: closing a socket that has something to
-    /// read takes back what was written.
-    pub fn wind_up(&mut self) {
+    /// Tells the client that nothing more will come.
+    pub fn end_writing(&mut self) {
+        let _ = match self {
+            Stream::Tcp(stream) => stream.shutdown(Shutdown::Write),
+            Stream::Unix(stream) => stream.shutdown(Shutdown::Write),
+        };
+    }
+
+    /// Reads and drops what has come in, unless it is much.
+    pub fn drop_input(&mut self) -> Dropped {
         match self {
-            Stream::Tcp(stream) => {
-                let _ = stream.shutdown(Shutdown::Write);
-                drop_input(stream);
-            }
-            Stream::Unix(stream) => {
-                let _ = stream.shutdown(Shutdown::Write);
-                drop_input(stream);
-            }
+            Stream::Tcp(stream) => drop_input(stream),
+            Stream::Unix(stream) => drop_input(stream),
+        }
+    }
+
+    /// Makes a registry report under another token, and once more what it has reported. Returns the registry's error.
+    pub fn report_as(&mut self, registry: &Registry, token: Token) -> io::Result<()> {
+        match self {
+            Stream::Tcp(stream) => registry.reregister(stream, token, bytes()),
+            Stream::Unix(stream) => registry.reregister(stream, token, bytes()),
         }
     }
 
     /// Makes a registry report in addition when there is room to write, also if there is some by now. Returns the registry's error.
     pub fn watch_room(&mut self, registry: &Registry, token: Token) -> io::Result<()> {
-        let both = Interest::READABLE | Interest::WRITABLE;
+        let both = bytes() | Interest::WRITABLE;
         match self {
             Stream::Tcp(stream) => registry.reregister(stream, token, both),
             Stream::Unix(stream) => registry.reregister(stream, token, both),
@@ -96,13 +116,22 @@ impl Stream {
     }
 }
 
-/// Reads what has come in, unless it is much.
-fn drop_input<I: Read>(reader: &mut I) {
+/// The interest in bytes to read, also in urgent ones.
+fn bytes() -> Interest {
+    Interest::READABLE | Interest::PRIORITY
+}
+
+/// Reads and drops what has come in, unless it is much.
+fn drop_input<I: Read>(reader: &mut I) -> Dropped {
     let mut buffer = [0u8; 4096];
     for _read in 0..DROPPED_READS {
         match reader.read(&mut buffer) {
-            Ok(count) if count == buffer.len() => {}
-            _ => return,
+            Ok(0) => return Dropped::All,
+            Ok(_) => {}
+            Err(error) if error.kind() == ErrorKind::WouldBlock => return Dropped::Present,
+            Err(error) if error.kind() == ErrorKind::Interrupted => {}
+            Err(_) => return Dropped::All,
         }
     }
+    Dropped::Some
 }

@@ -2,7 +2,8 @@
 
 use crate::counts::{Counts, Stopwatch};
 use crate::doorway::{Doorway, Stream};
-use crate::looping::{Crew, LISTENER, LOADED, STOP};
+use crate::farewells::Farewells;
+use crate::looping::{Crew, LISTENER, LOADED, STOP, shorter};
 use crate::served::Served;
 use crate::steward::Steward;
 use cache_link::Next;
@@ -16,8 +17,8 @@ use std::sync::atomic::Ordering;
 use std::time::Duration;
 use std::{mem, time};
 
-/// After an accept that failed for lack of something, the next one comes after so many milliseconds.
-const PAUSE: u64 = 10;
+/// After an accept that failed for lack of something, the next one comes after so many nanoseconds, unless a connection ends before.
+const PAUSE: u64 = 10_000_000;
 
 /// Whether accepting goes on.
 #[derive(Clone, Copy, PartialEq, Eq, Drop)]
@@ -42,6 +43,10 @@ pub struct Hall<S: Steward> {
     // where connections come in; none if nobody is accepted any more
     doorway: Option<Doorway>,
     door: Door,
+    // since an accept failed for lack of something
+    shut: Stopwatch,
+    // those that are over
+    farewells: Farewells,
     // whether loads were settled for which some may wait
     is_loaded: bool,
     // how often it was asked to stop
@@ -71,6 +76,8 @@ impl<S: Steward> Hall<S> {
             spare: Vec::new(alloc),
             doorway: Some(doorway),
             door: Door::Idle,
+            shut: Stopwatch::new(),
+            farewells: Farewells::new(alloc),
             is_loaded: false,
             stops: 0,
             watch: Stopwatch::new(),
@@ -89,15 +96,17 @@ impl<S: Steward> Hall<S> {
         if !self.again.is_empty() || self.is_loaded || self.door == Door::Open {
             return Some(Duration::from_millis(0));
         }
-        match self.door {
-            Door::Starved => Some(Duration::from_millis(PAUSE)),
+        let pause = match self.door {
+            Door::Starved => Some(Duration::from_nanos(PAUSE)),
             _ => None,
-        }
+        };
+        shorter(pause, self.farewells.patience())
     }
 
     /// Returns whether the loop ends.
     pub fn is_done(&self) -> bool {
-        self.stops > 1 || (self.doorway.is_none() && self.served.is_empty())
+        let is_empty = self.served.is_empty() && self.farewells.is_empty();
+        self.stops > 1 || (self.doorway.is_none() && is_empty)
     }
 
     /// Notes what the sockets reported.
@@ -111,16 +120,31 @@ impl<S: Steward> Hall<S> {
     fn note(&mut self, steward: &mut S, event: &Event) {
         let token = event.token();
         if token == LISTENER {
-            self.door = Door::Open;
+            self.knock();
         } else if token == STOP {
             self.stop(steward);
         } else if token == LOADED {
             self.is_loaded = true;
-        } else if let Some(served) = self.served.get_mut(token.0) {
+        } else if !self.farewells.note(token) {
+            self.note_served(steward, token.0, event);
+        }
+    }
+
+    /// Notes what the socket of a connection reported.
+    fn note_served(&mut self, steward: &mut S, key: usize, event: &Event) {
+        if let Some(served) = self.served.get_mut(key) {
             let is_ending = event.is_read_closed() || event.is_error();
             steward.wake(&mut served.link, event.is_readable(), is_ending);
             served.quiet = 0;
-            self.enqueue(token.0);
+            served.stops_short = served.stops_short || event.is_priority();
+            self.enqueue(key);
+        }
+    }
+
+    /// Notes that somebody may wait.
+    fn knock(&mut self) {
+        if self.door == Door::Idle {
+            self.door = Door::Open;
         }
     }
 
@@ -178,20 +202,28 @@ impl<S: Steward> Hall<S> {
         }
     }
 
-    /// Accepts connections, until nobody waits or many were accepted.
-    pub fn accept_all<R>(&mut self, steward: &mut S, round: &Round<'_, R>) {
+    /// Accepts connections, until nobody waits, many were accepted, or an accept fails for lack of something.
+    pub fn accept_all<R: time::Clock>(&mut self, steward: &mut S, round: &Round<'_, R>) {
+        self.try_again(round.rt);
         for _accept in 0..round.crew.rules.accepts {
-            if self.door == Door::Idle {
+            if self.door != Door::Open {
                 return;
             }
-            if let Some(stream) = self.accept() {
+            if let Some(stream) = self.accept(round.rt) {
                 let _ = self.admit(steward, round, stream);
             }
         }
     }
 
+    /// Lets accepting go on, some time after an accept failed for lack of something.
+    fn try_again<R: time::Clock>(&mut self, rt: &R) {
+        if self.door == Door::Starved && self.shut.passed(rt).is_none_or(|nanos| nanos >= PAUSE) {
+            self.door = Door::Open;
+        }
+    }
+
     /// Accepts a connection, if somebody waits.
-    fn accept(&mut self) -> Option<Stream> {
+    fn accept<R: time::Clock>(&mut self, rt: &R) -> Option<Stream> {
         let Some(doorway) = &self.doorway else {
             self.door = Door::Idle;
             return None;
@@ -203,14 +235,14 @@ impl<S: Steward> Hall<S> {
                 Some(stream)
             }
             Err(error) => {
-                self.note_failure(error.kind());
+                self.note_failure(rt, error.kind());
                 None
             }
         }
     }
 
     /// Notes that accepting failed.
-    fn note_failure(&mut self, kind: ErrorKind) {
+    fn note_failure<R: time::Clock>(&mut self, rt: &R, kind: ErrorKind) {
         self.door = match kind {
             ErrorKind::WouldBlock => Door::Idle,
             ErrorKind::ConnectionAborted
@@ -222,23 +254,38 @@ impl<S: Steward> Hall<S> {
             _ => Door::Starved,
         };
         if self.door == Door::Starved {
-            self.counts.starved = self.counts.starved.saturating_add(1);
+            self.starve(rt);
+        }
+    }
+
+    /// Notes that an accept failed for lack of something, which those that are over may have.
+    fn starve<R: time::Clock>(&mut self, rt: &R) {
+        self.counts.starved = self.counts.starved.saturating_add(1);
+        let _since_the_last = self.shut.lap(rt);
+        if self.farewells.clear() {
+            self.door = Door::Open;
         }
     }
 
     /// Begins to serve a connection. `None`, and it is closed, if there is no place for it, or what it needs is not available.
-    fn admit<R>(&mut self, steward: &mut S, round: &Round<'_, R>, stream: Stream) -> Option<()> {
+    fn admit<R: time::Clock>(
+        &mut self,
+        steward: &mut S,
+        round: &Round<'_, R>,
+        stream: Stream,
+    ) -> Option<()> {
         let crew = round.crew;
         if crew.open.fetch_add(1, Ordering::SeqCst) >= crew.rules.connections {
             crew.open.fetch_sub(1, Ordering::SeqCst);
             self.counts.refused = self.counts.refused.saturating_add(1);
             let mut stream = stream;
             stream.tell(steward.refusal());
-            stream.wind_up();
+            self.part(round, stream);
             return None;
         }
         let admitted = self.seat(steward, round, stream);
         if admitted.is_none() {
+            self.counts.lacking = self.counts.lacking.saturating_add(1);
             crew.open.fetch_sub(1, Ordering::SeqCst);
         }
         admitted
@@ -288,9 +335,9 @@ impl<S: Steward> Hall<S> {
             return;
         };
         match served.turn(steward, counts) {
-            Ok(Next::Over) => self.end(steward, round.crew, key, Ok(())),
+            Ok(Next::Over) => self.end(steward, round, key, Ok(())),
             Ok(next) => self.note_next(round.registry, key, next),
-            Err(error) => self.end(steward, round.crew, key, Err(error)),
+            Err(error) => self.fail(steward, round, key, error),
         }
         let settled = steward.ask_loads();
         self.note_settled(round.crew, settled);
@@ -320,27 +367,75 @@ impl<S: Steward> Hall<S> {
         }
     }
 
-    /// Closes a connection.
-    fn end(&mut self, steward: &mut S, crew: &Crew, key: usize, outcome: Result<(), RunError>)
+    /// Ends a connection with an error.
+    fn fail<R: time::Clock>(
+        &mut self,
+        steward: &mut S,
+        round: &Round<'_, R>,
+        key: usize,
+        error: RunError,
+    )
         requires { S.rests_on }
     {
-        let Some(mut served) = self.served.try_remove(key) else {
-            return;
-        };
-        served.stream.wind_up();
-        let Served { link, .. } = served;
+        if error == RunError::OutOfMemory {
+            self.counts.lacking = self.counts.lacking.saturating_add(1);
+        }
+        self.end(steward, round, key, Err(error));
+    }
+
+    /// Ends a connection, so that its client receives what was written to it.
+    fn end<R: time::Clock>(
+        &mut self,
+        steward: &mut S,
+        round: &Round<'_, R>,
+        key: usize,
+        outcome: Result<(), RunError>,
+    )
+        requires { S.rests_on }
+    {
+        if let Some(stream) = self.close(steward, round.crew, key, outcome) {
+            self.part(round, stream);
+        }
+    }
+
+    /// Closes a connection, and returns its socket.
+    fn close(
+        &mut self,
+        steward: &mut S,
+        crew: &Crew,
+        key: usize,
+        outcome: Result<(), RunError>,
+    ) -> Option<Stream>
+        requires { S.rests_on }
+    {
+        let Served { stream, link, .. } = self.served.try_remove(key)?;
         steward.close(link, outcome);
         crew.open.fetch_sub(1, Ordering::SeqCst);
+        Some(stream)
+    }
+
+    /// Keeps the socket of a connection that is over, unless descriptors are short.
+    fn part<R: time::Clock>(&mut self, round: &Round<'_, R>, stream: Stream) {
+        self.farewells.take(round.rt, round.registry, stream);
+        if self.door == Door::Starved {
+            let _had_some = self.farewells.clear();
+            self.door = Door::Open;
+        }
+    }
+
+    /// Reads what has come in at the sockets of connections that are over, and closes those that are done.
+    pub fn say_farewell<R: time::Clock>(&mut self, rt: &R) {
+        self.farewells.work(rt);
     }
 
     /// Counts a second, and closes the connections whose sockets have reported nothing for so many seconds, unless they wait for a load.
-    pub fn count_second(&mut self, steward: &mut S, crew: &Crew, idle: u64)
+    pub fn count_second<R: time::Clock>(&mut self, steward: &mut S, round: &Round<'_, R>, idle: u64)
         requires { S.rests_on }
     {
         for key in 0..self.served.capacity() {
             if self.is_too_quiet(key, idle) {
                 self.counts.idle = self.counts.idle.saturating_add(1);
-                self.end(steward, crew, key, Ok(()));
+                self.end(steward, round, key, Ok(()));
             }
         }
     }
@@ -359,7 +454,10 @@ impl<S: Steward> Hall<S> {
         requires { S.rests_on }
     {
         for key in 0..self.served.capacity() {
-            self.end(steward, crew, key, Ok(()));
+            if let Some(mut stream) = self.close(steward, crew, key, Ok(())) {
+                stream.end_writing();
+                let _dropped = stream.drop_input();
+            }
         }
     }
 }

@@ -69,7 +69,7 @@ impl Crew {
 }
 
 /// The shorter of two waits.
-fn shorter(a: Option<Duration>, b: Option<Duration>) -> Option<Duration> {
+pub fn shorter(a: Option<Duration>, b: Option<Duration>) -> Option<Duration> {
     match (a, b) {
         (Some(a), Some(b)) => Some(a.min(b)),
         (Some(a), None) => Some(a),
@@ -180,9 +180,10 @@ fn work<S: Steward, R: Wait + time::Clock>(
     hall.wake_waiting();
     hall.accept_all(steward, round);
     hall.take_turns(steward, round);
+    hall.say_farewell(round.rt);
     if let Some(idle) = round.crew.rules.idle {
         if seconds.passes(round.rt) {
-            hall.count_second(steward, round.crew, idle);
+            hall.count_second(steward, round, idle);
         }
     }
     let counts = hall.counts(steward);

@@ -1,6 +1,6 @@
 //! A connection with its socket.
 
-use crate::counts::{Counts, Metered};
+use crate::counts::{Counts, Metered, Thorough};
 use crate::doorway::Stream;
 use crate::steward::Steward;
 use cache_link::Next;
@@ -20,6 +20,8 @@ pub struct Served<L: Drop> {
     pub is_waiting: bool,
     /// Whether the connection's socket reports room to write.
     pub tells_room: bool,
+    /// Whether a read of the connection's socket may stop before all that has come.
+    pub stops_short: bool,
     /// For how many seconds the connection's socket has reported nothing.
     pub quiet: u64,
 }
@@ -27,12 +29,14 @@ pub struct Served<L: Drop> {
 impl<L: Drop> Served<L> {
     /// Creates the record of a connection that was opened.
     pub fn new(stream: Stream, link: L) -> Served<L> {
+        let stops_short = matches!(stream, Stream::Unix(_));
         Served {
             stream,
             link,
             is_queued: false,
             is_waiting: false,
             tells_room: false,
+            stops_short,
             quiet: 0,
         }
     }
@@ -47,10 +51,21 @@ impl<L: Drop> Served<L> {
     {
         self.is_queued = false;
         self.is_waiting = false;
-        let Served { stream, link, .. } = self;
+        let Served {
+            stream,
+            link,
+            stops_short,
+            ..
+        } = self;
         match stream {
-            Stream::Tcp(stream) => turn_over(steward, link, &*stream, &*stream, counts),
-            Stream::Unix(stream) => turn_over(steward, link, &*stream, &*stream, counts),
+            Stream::Tcp(stream) => {
+                let reader = Thorough::new(&*stream, *stops_short);
+                turn_over(steward, link, reader, &*stream, counts)
+            }
+            Stream::Unix(stream) => {
+                let reader = Thorough::new(&*stream, *stops_short);
+                turn_over(steward, link, reader, &*stream, counts)
+            }
         }
     }
 }

@@ -268,6 +268,17 @@ const SCENES: &[Scene] = &[
             Step::Read(1, b"NONE\n", 1),
         ],
     },
+    // What was answered before a line that is too long is read, and much that follows it is dropped.
+    Scene {
+        keys: "",
+        steps: &[
+            Step::Connect,
+            Step::Send(0, b"GET z\n", 1000),
+            Step::Send(0, &[b'k'; 262_144], 1),
+            Step::Read(0, b"NONE\n", 1000),
+            Step::AtEnd(0),
+        ],
+    },
     // One more than may be connected is told so; there is a place again when another one goes.
     Scene {
         keys: "max_connections = 2",
