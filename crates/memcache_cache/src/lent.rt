@@ -1,5 +1,6 @@
 //! Items in a lent cache.
-ghost use Rattle.std.specs.Prelude.{◌≡◌, ◌*◌, ◌<◌, ◌≤◌, ◌^◌, Ok, IfOk, is_some, option_map};
+ghost use Rattle.std.specs.Prelude.{◌≡◌, ◌*◌, ◌<◌, ◌≤◌, ◌^◌, Ok, IfOk, is_some, nat_lt, option_map};
+ghost use Rattle.memcache_cache.specs.Rules.{item_weight};
 ghost use Rattle.memcache_cache.specs.Showing.{shelved_by};
 ghost use Rattle.memcache_cache.specs.Weights.{IsItemCache};
 ghost use Rattle.memcache_model.specs.Items.{unexpired};
@@ -10,7 +11,8 @@ use crate::rules::ItemRules;
 use audit_model::Key;
 use memcache_service::{Counters, Shelf, StoredItem, Tally};
 use moka::{
-    At, EvictionPolicy, HasWays, Instant, LentState, Notice, RemovalCause, Settings, Shared, Single,
+    At, EvictionPolicy, HasWays, Instant, LentState, Notice, RemovalCause, Rules, Settings, Shared,
+    Single,
 };
 use std::alloc::{AllocError, Global};
 use std::hash::BuildHasher;
@@ -45,6 +47,8 @@ impl<S: BuildHasher + Drop> LentShelf<S> {
             (shelved_by ⟦<ItemRules as HasWays<Key, StoredItem, S>>⟧.ways made.cache)) }
         ensures capacity { IfOk result (λ made. (shelved_by
             ⟦<ItemRules as HasWays<Key, StoredItem, S>>⟧.ways made.cache).capacity ≡ capacity) }
+        ensures policy { IfOk result (λ made. made.cache.common.settings.policy ≡ policy) }
+        ensures hasher { IfOk result (λ made. made.cache.common.hasher ≡ hasher) }
     {
         let settings = Settings {
             capacity: Some(capacity),
@@ -69,6 +73,16 @@ impl<S: BuildHasher + Drop> LentShelf<S> {
             now: instant(moment),
             step,
         }
+    }
+
+    /// Whether an item weighs more than all items may.
+    fn is_too_heavy(&self, key: &Key, item: &StoredItem) -> bool
+        ensures { result ≡ nat_lt (shelved_by
+            ⟦<ItemRules as HasWays<Key, StoredItem, S>>⟧.ways self.now.cache).capacity
+            (item_weight key.now item.now) }
+    {
+        let capacity = self.cache.policy().max_capacity().unwrap_or(0);
+        capacity < u64::from(ItemRules.weight(key, item))
     }
 
     /// The key that an item is kept under: the one that is held already, or a copy.
@@ -163,6 +177,9 @@ impl<S: BuildHasher + Drop> Shelf for LentShelf<S> {
     }
 
     fn put(&mut self, key: &Key, item: StoredItem, moment: u64) -> Result<(), AllocError> {
+        if self.is_too_heavy(key, &item) {
+            return Err(AllocError);
+        }
         self.cache.keeps();
         let hash = self.cache.hash(key);
         let at = self.at(moment);

@@ -10,7 +10,7 @@ use Rattle.std.proofs.lemmas.List.Folds.{list_all_at}
 use Rattle.std.proofs.lemmas.Int.Digits.{digits_value_push}
 use Rattle.std.proofs.lemmas.Str.{digit_value_digit}
 use Rattle.std.proofs.lemmas.Str.Parse.{digits_value-take-le}
-use Rattle.memcache_model.specs.Bytes.{is_decimal_digit, is_decimal_number, number_below}
+use Rattle.memcache_model.specs.Bytes.{is_decimal_digit, is_decimal_number, digits_below}
 
 abbrev pub AreDigits : List ℕ → Type 0
 AreDigits word = list_all is_decimal_digit word ≡ true
@@ -31,15 +31,15 @@ pub digit-at : (word : List ℕ) (i : ℕ) → i < length word → AreDigits wor
 digit-at word i inside digits = ⊎_elim (λ e. e) (λ e. absurd (true≢false (sym digits ∙ list_all_at is_decimal_digit word i 0 inside e))) (cases_Bool (is_decimal_digit (get_or word i 0)))
 
 -- a number that has grown too large in front is too large
-pub number_below-large : (word : List ℕ) (i : ℕ) → i < length word → AreDigits word → 2 ^ 64 ≤ digits_value 10 (take i word) * 10 + (get_or word i 0 - 48) → number_below (2 ^ 64) word ≡ None
-number_below-large word i inside digits large =
+pub digits_below-large : (word : List ℕ) (i : ℕ) → i < length word → AreDigits word → 2 ^ 64 ≤ digits_value 10 (take i word) * 10 + (get_or word i 0 - 48) → digits_below (2 ^ 64) word ≡ None
+digits_below-large word i inside digits large =
     let front = digits_value_more word i inside (digit-at word i inside digits) in
     let grows = digits_value-take-le 10 word (i + 1) (omega arith) in
     cond-false (is_decimal_number word && nat_lt (digits_value 10 word) (2 ^ 64)) _ _ (and_right _ _ (le-ltb (digits_value 10 word) (2 ^ 64) (omega arith)))
 
 -- a number that fits
-pub number_below-fits : (word : List ℕ) → 1 ≤ length word → length word ≤ 20 → AreDigits word → digits_value 10 word < 2 ^ 64 → number_below (2 ^ 64) word ≡ Some (digits_value 10 word)
-number_below-fits word some short digits small =
+pub digits_below-fits : (word : List ℕ) → 1 ≤ length word → length word ≤ 20 → AreDigits word → digits_value 10 word < 2 ^ 64 → digits_below (2 ^ 64) word ≡ Some (digits_value 10 word)
+digits_below-fits word some short digits small =
     cond-true (is_decimal_number word && nat_lt (digits_value 10 word) (2 ^ 64)) _ _
     (and_from _ _ (and_from _ _ (and_from _ _ (le-leb 1 (length word) some) (le-leb (length word) 20 short)) digits) (lt-ltb (digits_value 10 word) (2 ^ 64) small))
 
@@ -57,8 +57,8 @@ below-none true n limit most less none = ⊎_elim
     (cases_lt n most)
 
 -- what is no number below a limit is none below a lesser one
-pub number_below-none : (limit most : ℕ) (word : List ℕ) → limit ≤ most → number_below most word ≡ None → number_below limit word ≡ None
-number_below-none limit most word less none = below-none (is_decimal_number word) (digits_value 10 word) limit most less none
+pub digits_below-none : (limit most : ℕ) (word : List ℕ) → limit ≤ most → digits_below most word ≡ None → digits_below limit word ≡ None
+digits_below-none limit most word less none = below-none (is_decimal_number word) (digits_value 10 word) limit most less none
 
 below-some : (numeral : Bool) (n limit most value : ℕ) → below numeral n most ≡ Some value → below numeral n limit ≡ below true value limit
 below-some false n limit most value some = let none : None ≡ Some value = some in cc
@@ -71,5 +71,5 @@ below-some true n limit most value some = ⊎_elim
     the_value same = cc
 
 -- what is a number below a limit, tested by a lesser one
-pub number_below-some : (limit most value : ℕ) (word : List ℕ) → number_below most word ≡ Some value → number_below limit word ≡ cond (nat_lt value limit) (Some value) None
-number_below-some limit most value word some = below-some (is_decimal_number word) (digits_value 10 word) limit most value some
+pub digits_below-some : (limit most value : ℕ) (word : List ℕ) → digits_below most word ≡ Some value → digits_below limit word ≡ cond (nat_lt value limit) (Some value) None
+digits_below-some limit most value word some = below-some (is_decimal_number word) (digits_value 10 word) limit most value some

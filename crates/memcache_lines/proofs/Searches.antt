@@ -1,5 +1,5 @@
 -- A search for a byte, as the first place that passes a test.
-use Rattle.std.proofs.Common.{◌≡◌, ℕ, ◌<◌, ◌≤◌, List, length, take, Option, Some, None, min, sym, ap, ◌∙◌, arith}
+use Rattle.std.proofs.Common.{◌≡◌, ℕ, ◌+◌, ◌<◌, ◌≤◌, List, length, take, Option, Some, None, min, sym, ap, ◌∙◌, arith}
 use Rattle.std.specs.List.{position, position_or_len}
 use Rattle.std.proofs.lemmas.Bool.{false_from_ne_true, cond-true, cond-false, lt-ltb, le-ltb}
 use Rattle.std.proofs.lemmas.List.{take_min, length-take-le}
@@ -18,16 +18,16 @@ position-searched bytes (Some k) found =
     let place = position_or_len_is is_feed bytes k 0 (omega arith) (λ j under. false_from_ne_true _ (found.0.before j (omega arith) under)) (λ under. found.1) in
     cond-true _ (Some (position_or_len is_feed bytes)) None (lt-ltb (position_or_len is_feed bytes) (length bytes) (omega arith)) ∙ ap Some place
 
--- a search of at most the first 65537 bytes
-pub position-within : (bytes : List ℕ) (end : ℕ) (r : Option ℕ) → end ≡ min (length bytes) 65537 → IsFirstByte (is_byte 10) (take end bytes) r → position is_feed (take 65537 bytes) ≡ r
-position-within bytes end r is searched =
-    let same : take end bytes ≡ take 65537 bytes = ap (λ n. take n bytes) (omega (arith, is)) ∙ take_min 65537 bytes in
+-- a search of at most so many first bytes
+pub position-within : (bytes : List ℕ) (most end : ℕ) (r : Option ℕ) → end ≡ min (length bytes) most → IsFirstByte (is_byte 10) (take end bytes) r → position is_feed (take most bytes) ≡ r
+position-within bytes most end r is searched =
+    let same : take end bytes ≡ take most bytes = ap (λ n. take n bytes) (omega (arith, is)) ∙ take_min most bytes in
     ap (position is_feed) (sym same) ∙ position-searched (take end bytes) r searched
 
 -- what it finds is inside
-pub found-within : (bytes : List ℕ) (end : ℕ) (r : Option ℕ) → end ≡ min (length bytes) 65537 → IsFirstByte (is_byte 10) (take end bytes) r → IfSome r (λ at. (at < length bytes) × (at ≤ 65536))
-found-within bytes end None is none = tt
-found-within bytes end (Some at) is found =
+pub found-within : (bytes : List ℕ) (most end : ℕ) (r : Option ℕ) → end ≡ min (length bytes) (most + 1) → IsFirstByte (is_byte 10) (take end bytes) r → IfSome r (λ at. (at < length bytes) × (at ≤ most))
+found-within bytes most end None is none = tt
+found-within bytes most end (Some at) is found =
     let high = found.0.high in
     let long = length-take-le end bytes (omega (arith, is)) in
     (omega (arith, high, long, is), omega (arith, high, long, is))

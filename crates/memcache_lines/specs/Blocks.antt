@@ -1,9 +1,8 @@
 -- Commands with their data blocks.
 use Rattle.std.specs.Prelude.{ℕ, false}
 use Rattle.memcache_model.specs.Bytes.{tokens}
-use Rattle.memcache_model.specs.Commands.{store, oversize, meta_set}
+use Rattle.memcache_model.specs.Commands.{store, oversize, meta_set, meta_oversize}
 use Rattle.memcache_model.specs.Grammar as model
-use Rattle.memcache_model.specs.declared.command.Storage.TheVariants.{Set}
 use Rattle.memcache_lines.specs.declared.arrival.Block.{Block}
 use Rattle.memcache_lines.specs.declared.arrival.Block.TheVariants.{TooLarge, Unfinished, Broken, Filled}
 use Rattle.memcache_lines.specs.declared.storing.Head.{Head}
@@ -24,4 +23,4 @@ store_with h used block = model.with_block (store h.storage h.key.now h.flags h.
 -- a `ms`
 abbrev pub meta_set_with : MetaHead → (used : ℕ) → model.Block → model.Arrived
 meta_set_with h used block = model.with_block (meta_set h.key.now (tokens h.flags.now))
-    (oversize Set h.key.now) false used block
+    (meta_oversize h.key.now (tokens h.flags.now)) false used block

@@ -6,7 +6,7 @@ use Rattle.memcache_model.specs.Grammar as model-of
 use Rattle.memcache_lines.specs.declared.arrival.Arrived as arrival
 use Rattle.memcache_lines.specs.declared.arrival.Arrived.TheVariants.{Part, Request}
 use Rattle.memcache_lines.specs.declared.line.Command.{Command}
-use Rattle.memcache_lines.specs.declared.line.Command.TheVariants.{Get, Gat, Store, Oversize, Delete, Arithmetic, Touch, FlushAll, Stats, Version, Verbosity, Quit, Meta, MetaSet, MetaNoOp, Malformed}
+use Rattle.memcache_lines.specs.declared.line.Command.TheVariants.{Get, Gat, Store, Oversize, Delete, Arithmetic, Touch, FlushAll, Stats, Version, Verbosity, Quit, Meta, MetaSet, MetaOversize, MetaNoOp, Malformed}
 use Rattle.memcache_lines.specs.declared.line.Line.{Line}
 use Rattle.memcache_lines.specs.declared.line.Line.TheVariants.{Whole, Head, MetaHead}
 
@@ -26,6 +26,7 @@ asks Verbosity = model.verbosity
 asks Quit = model.quit
 asks (Meta kind key flags) = model.meta kind key.now (tokens flags.now)
 asks (MetaSet key flags block) = model.meta_set key.now (tokens flags.now) block.now
+asks (MetaOversize key flags) = model.meta_oversize key.now (tokens flags.now)
 asks MetaNoOp = model.meta_no_op
 asks (Malformed error) = model.malformed error
 

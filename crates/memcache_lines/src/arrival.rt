@@ -2,13 +2,13 @@
 ghost use Rattle.std.specs.Prelude.{◌≡◌, ◌+◌, ◌<◌, ◌≤◌, ◌^◌, length, take, IfSome};
 ghost use Rattle.std.specs.List.{position};
 ghost use Rattle.memcache_model.specs.Bytes.{is_feed, without_one_return};
-ghost use Rattle.memcache_model.specs.Grammar.{arrived, arrives, arrived_line, block_in, has_end, unended};
+ghost use Rattle.memcache_model.specs.Grammar.{arrived, arrives, arrived_line, block_in, has_end, line_within, line_limit, unended};
 ghost use Rattle.memcache_lines.specs.Said.{asks, comes, said_by};
 ghost use Rattle.memcache_lines.specs.Blocks.{blocks, meta_set_with, store_with};
 
 use crate::line::{Command, Line, read_line};
 use crate::storing::{Head, MetaHead};
-use memcache_model::{MAX_LINE, ProtocolError, Storage};
+use memcache_model::{MAX_KEYS_LINE, MAX_LINE, ProtocolError};
 use memchr::memchr;
 
 /// A request of a client.
@@ -43,37 +43,67 @@ enum Block<'a> {
 pub fn read_request<'a>(most: u32, bytes: &'a [u8]) -> Arrived<'a>
     ensures { comes result ≡ arrived most bytes.now }
 {
-    match first_feed(bytes) {
+    if bytes.starts_with(b"\x80") {
+        arrives(Command::Malformed(ProtocolError::Foreign), false, 1)
+    } else {
+        read_within(most, line_limit(bytes), bytes)
+    }
+}
+
+/// How many bytes a line may have: those that name many keys have more.
+fn line_limit(bytes: &[u8]) -> usize
+    ensures line { result ≡ line_limit bytes.now }
+    ensures most { result ≤ 2097152 }
+{
+    if bytes.starts_with(b"get ")
+        || bytes.starts_with(b"gets ")
+        || bytes.starts_with(b"gat ")
+        || bytes.starts_with(b"gats ")
+    {
+        MAX_KEYS_LINE
+    } else {
+        MAX_LINE
+    }
+}
+
+/// What stands at the front of a stream whose first line has at most `longest` bytes.
+fn read_within<'a>(most: u32, longest: usize, bytes: &'a [u8]) -> Arrived<'a>
+    requires { longest ≤ 2097152 }
+    ensures { comes result ≡ line_within most longest bytes.now }
+{
+    match first_feed(longest, bytes) {
         Some(at) => behind(
             most,
             read_line(without_return(&bytes[..at])),
             at + 1,
             &bytes[at + 1..],
         ),
-        None => unended(bytes.len()),
+        None => unended(longest, bytes.len()),
     }
 }
 
-/// Where the first line feed is, if it is within 65,537 bytes.
-fn first_feed(bytes: &[u8]) -> Option<usize>
-    ensures place { result ≡ position is_feed (take 65537 bytes.now) }
-    ensures inside { IfSome result (λ at. (at < length bytes.now) × (at ≤ 65536)) }
+/// Where the first line feed is, if at most `longest` bytes stand before it.
+fn first_feed(longest: usize, bytes: &[u8]) -> Option<usize>
+    requires { longest ≤ 2097152 }
+    ensures place { result ≡ position is_feed (take (longest + 1) bytes.now) }
+    ensures inside { IfSome result (λ at. (at < length bytes.now) × (at ≤ longest)) }
 {
-    let end = bytes.len().min(MAX_LINE + 1);
+    let end = bytes.len().min(longest + 1);
     memchr(b'\n', &bytes[..end])
 }
 
-/// What stands at the front of this many bytes that have no end of a line.
-fn unended<'a>(count: usize) -> Arrived<'a>
-    ensures { comes result ≡ unended count }
+/// What stands at the front of this many bytes that have no end of a line, which may have at most `longest`.
+fn unended<'a>(longest: usize, count: usize) -> Arrived<'a>
+    requires { longest ≤ 2097152 }
+    ensures { comes result ≡ unended longest count }
 {
-    if count <= MAX_LINE {
+    if count <= longest {
         Arrived::Part
     } else {
         arrives(
             Command::Malformed(ProtocolError::TooLong),
             false,
-            MAX_LINE + 1,
+            longest + 1,
         )
     }
 }
@@ -90,7 +120,7 @@ fn arrives<'a>(command: Command<'a>, quiet: bool, used: usize) -> Arrived<'a>
 
 /// A line of `used` bytes with its line feed, and what stands behind it.
 fn behind<'a>(most: u32, line: Line<'a>, used: usize, rest: &'a [u8]) -> Arrived<'a>
-    requires { used ≤ 65537 }
+    requires { used ≤ 2097153 }
     ensures { comes result ≡ arrived_line most (said_by line.entry) used rest.now }
 {
     match line {
@@ -162,10 +192,7 @@ fn meta_sets<'a>(head: MetaHead<'a>, used: usize, block: Block<'a>) -> Arrived<'
         size: _,
     } = head;
     match block {
-        Block::TooLarge => {
-            let storage = Storage::Set;
-            arrives(Command::Oversize { storage, key }, false, used)
-        }
+        Block::TooLarge => arrives(Command::MetaOversize { key, flags }, false, used),
         Block::Unfinished => Arrived::Part,
         Block::Broken => arrives(Command::Malformed(ProtocolError::Chunk), false, used),
         Block::Filled(block) => arrives(Command::MetaSet { key, flags, block }, false, used),

@@ -1,13 +1,13 @@
 //! What a line says, with its words as they are in it.
 ghost use Rattle.std.specs.Prelude.{◌≡◌, codes, bytes_eq};
 ghost use Rattle.memcache_model.specs.Bytes.{tokens};
-ghost use Rattle.memcache_model.specs.Grammar.{request_line, whole, faulty, keys_fault, read_get, read_gat, read_delete, delete_quiet, delete_word, delete_words, on_key, read_arithmetic, read_touch, read_flush, timed, read_verbosity, read_meta, read_arguments, verb_named, rare_verb_in, server_verb_in, meta_verb_in, quiet_in, exptime_in};
+ghost use Rattle.memcache_model.specs.Grammar.{request_line, whole, faulty, keys_fault, read_get, read_gat, read_delete, delete_quiet, delete_word, delete_words, on_key, read_arithmetic, read_touch, read_flush, timed, read_verbosity, read_meta, read_arguments, stranger, verb_named, rare_verb_in, server_verb_in, meta_verb_in, quiet_in, exptime_in};
 ghost use Rattle.memcache_model.specs.Commands.{flush_all};
 ghost use Rattle.memcache_lines.specs.Said.{said_by, asks};
 
 use crate::numbers::{exptime, number};
 use crate::storing::{Head, MetaHead, read_cas, read_meta_set, read_store};
-use crate::tokens::{are_keys, has_token, key_fits, next_token};
+use crate::tokens::{are_keys, has_token, key_fits, last_word, next_token};
 use memcache_model::{Direction, Exptime, Meta, ProtocolError, Storage, Verb};
 
 /// What a request asks for, with its words as they are in the bytes that came. `keys`, `words` and `flags` are words with spaces between
@@ -79,6 +79,11 @@ pub enum Command<'a> {
         flags: &'a [u8],
         block: &'a [u8],
     },
+    /// `ms`, with a data block that is too large.
+    MetaOversize {
+        key: &'a [u8],
+        flags: &'a [u8],
+    },
     /// `mn`.
     MetaNoOp,
     /// A request that cannot be read, by its fault.
@@ -103,9 +108,20 @@ pub fn read_line<'a>(line: &'a [u8]) -> Line<'a>
     match next_token(line) {
         Some((word, rest)) => match verb_of(word) {
             Some(verb) => read_behind(verb, rest),
-            None => fault(ProtocolError::Unknown),
+            None => fault(stranger(word, rest)),
         },
         None => fault(ProtocolError::Unknown),
+    }
+}
+
+/// What is wrong with a line that begins with no command's word.
+fn stranger(word: &[u8], rest: &[u8]) -> ProtocolError
+    ensures { result ≡ stranger word.now (tokens rest.now) }
+{
+    if last_word(word, rest).starts_with(b"HTTP/") {
+        ProtocolError::Foreign
+    } else {
+        ProtocolError::Unknown
     }
 }
 

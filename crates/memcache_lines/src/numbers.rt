@@ -1,17 +1,38 @@
 //! Numbers of a few digits, and expiries.
 ghost use Rattle.std.specs.Prelude.{◌≡◌, ◌≤◌, ◌+◌, ◌-◌, ◌*◌, ◌<◌, ◌^◌, ◌∷◌, SomeIff, IfSome, Some, None, nat_lt, if◌then◌else◌};
 ghost use Rattle.std.specs.List.{list_all};
-ghost use Rattle.memcache_model.specs.Bytes.{is_decimal_digit, number_below};
-ghost use Rattle.memcache_model.specs.Grammar.{exptime_in, exptime_by, negative, seconds};
+ghost use Rattle.memcache_model.specs.Bytes.{digits_below, is_decimal_digit, number_below, without_plus};
+ghost use Rattle.memcache_model.specs.Grammar.{exptime_in, exptime_by, negative, seconds, signed, size_in};
 
 use memcache_model::Exptime;
 
 /// A number has at most this many digits.
 const MAX_DIGITS: usize = 20;
 
-/// Returns the number that at most twenty digits write, or `None` if the word is not of this form or the number is 2^64 or above.
+/// The size of a data block is at most this many bytes.
+const MAX_SIZE: u64 = 2_147_483_645;
+
+/// Returns the number that at most twenty digits write, behind a plus or alone, or `None` if the word is not of this form or the number is
+/// 2^64 or above.
 pub fn number(word: &[u8]) -> Option<u64>
     ensures { result ≡ number_below (2 ^ 64) word.now }
+{
+    digits(without_plus(word))
+}
+
+/// The word without a plus before it.
+fn without_plus(word: &[u8]) -> &[u8]
+    ensures { result.now ≡ without_plus word.now }
+{
+    match word.split_first() {
+        Some((first, rest)) => { if *first == b'+' { rest } else { word } }
+        None => word,
+    }
+}
+
+/// The number that at most twenty digits write, if it is below 2^64.
+fn digits(word: &[u8]) -> Option<u64>
+    ensures { result ≡ digits_below (2 ^ 64) word.now }
 {
     if word.is_empty() || word.len() > MAX_DIGITS {
         return None;
@@ -45,12 +66,20 @@ fn with_digit(value: u64, digit: u8) -> Option<u64>
     tens.checked_add(u64::from(digit - b'0'))
 }
 
-/// The number that at most twenty digits write, if it is at most `most`.
+/// The number that at most twenty digits write, behind a plus or alone, if it is at most `most`.
 fn number_up_to(most: u64, word: &[u8]) -> Option<u64>
     ensures number { result ≡ number_below (most + 1) word.now }
     ensures small { IfSome result (λ value. value ≤ most) }
 {
-    match number(word) {
+    digits_up_to(most, without_plus(word))
+}
+
+/// The number that at most twenty digits write, if it is at most `most`.
+fn digits_up_to(most: u64, word: &[u8]) -> Option<u64>
+    ensures number { result ≡ digits_below (most + 1) word.now }
+    ensures small { IfSome result (λ value. value ≤ most) }
+{
+    match digits(word) {
         Some(value) => at_most(most, value),
         None => None,
     }
@@ -64,7 +93,8 @@ fn at_most(most: u64, value: u64) -> Option<u64>
     if value <= most { Some(value) } else { None }
 }
 
-/// Returns the number that at most twenty digits write, or `None` if the word is not of this form or the number is 2^32 or above.
+/// Returns the number that at most twenty digits write, behind a plus or alone, or `None` if the word is not of this form or the number is
+/// 2^32 or above.
 pub fn short_number(word: &[u8]) -> Option<u32>
     ensures { result ≡ number_below (2 ^ 32) word.now }
 {
@@ -74,11 +104,11 @@ pub fn short_number(word: &[u8]) -> Option<u32>
     }
 }
 
-/// Returns the size in bytes of a data block, or `None` if the word is no number or the number is 2^31 or above.
+/// Returns the size in bytes of a data block, or `None` if the word is no number or the number is above 2^31 - 3.
 pub fn block_size(word: &[u8]) -> Option<u32>
-    ensures { result ≡ number_below (2 ^ 31) word.now }
+    ensures { result ≡ size_in word.now }
 {
-    match number_up_to(0x7fff_ffff, word) {
+    match number_up_to(MAX_SIZE, word) {
         Some(value) => Some(value as u32),
         None => None,
     }
@@ -108,22 +138,40 @@ fn exptime_at(first: u8, digits: &[u8], word: &[u8]) -> Option<Exptime>
 
 /// The expiry that digits behind a minus say.
 fn exptime_below(digits: &[u8]) -> Option<Exptime>
-    ensures { result ≡ exptime_by negative (number_below (2 ^ 32) digits.now) }
+    ensures { result ≡ exptime_by negative (digits_below (2 ^ 63 + 1) digits.now) }
 {
-    match short_number(digits) {
+    match digits_up_to(1 << 63, digits) {
+        Some(value) => Some(seconds((1 << 32) - value % (1 << 32))),
         None => None,
-        Some(0) => Some(Exptime::Never),
-        Some(_) => Some(Exptime::AtOnce),
     }
 }
 
-/// The expiry that digits say.
-fn exptime_from(digits: &[u8]) -> Option<Exptime>
-    ensures { result ≡ exptime_by seconds (number_below (2 ^ 32) digits.now) }
+/// The expiry that a number says.
+fn exptime_from(word: &[u8]) -> Option<Exptime>
+    ensures { result ≡ exptime_by seconds (number_below (2 ^ 63) word.now) }
 {
-    match short_number(digits) {
+    match number_up_to((1 << 63) - 1, word) {
+        Some(value) => Some(seconds(value)),
         None => None,
-        Some(0) => Some(Exptime::Never),
-        Some(seconds) => Some(Exptime::Seconds(seconds)),
+    }
+}
+
+/// The expiry of a number of seconds, of which the last 32 bits count.
+fn seconds(number: u64) -> Exptime
+    ensures { result ≡ seconds number }
+{
+    signed((number % (1 << 32)) as u32)
+}
+
+/// The expiry of a number of seconds whose first bit is its sign.
+fn signed(seconds: u32) -> Exptime
+    ensures { result ≡ signed seconds }
+{
+    if seconds == 0 {
+        Exptime::Never
+    } else if seconds < 1 << 31 {
+        Exptime::Seconds(seconds)
+    } else {
+        Exptime::AtOnce
     }
 }

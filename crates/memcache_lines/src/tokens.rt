@@ -2,6 +2,7 @@
 ghost use Rattle.std.specs.Prelude.{◌≡◌, ◌∷◌, ◌<◌, [], length, slice_index, false, not, IfSome, MatchOption};
 ghost use Rattle.std.specs.List.{list_all, position};
 ghost use Rattle.memcache_model.specs.Bytes.{is_filled, is_item_key, is_space, tokens};
+ghost use Rattle.memcache_model.specs.Grammar.{last_word};
 
 use memcache_model::MAX_KEY;
 
@@ -52,6 +53,19 @@ pub fn has_token(line: &[u8]) -> bool
         Some(_) => true,
         None => false,
     }
+}
+
+/// Returns the last word of a line that begins with a word and goes on so.
+pub fn last_word<'a>(word: &'a [u8], rest: &'a [u8]) -> &'a [u8]
+    ensures { result.now ≡ last_word word.now (tokens rest.now) }
+{
+    let mut last = word;
+    let mut rest = rest;
+    while let Some((next, behind)) = next_token(rest) {
+        last = next;
+        rest = behind;
+    }
+    last
 }
 
 /// Returns whether a word may stand as a key.

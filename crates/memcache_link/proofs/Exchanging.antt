@@ -1,7 +1,6 @@
 -- What an exchange with the service leaves.
 use Rattle.std.proofs.Common.{◌≡◌, ◌≢◌, ◌⊎◌, inl, inr, ◌∙◌, refl, sym, ap, subst, ℕ, Bool, true, false, not, List, [], Option, None, Some, Result, Ok, Err, IfOk, OnErr, MatchResult}
 use Rattle.std.proofs.lemmas.Option.{none-some}
-use Rattle.memcache_service.specs.Serving as serving
 use Rattle.memcache_service.specs.Serving.{HasFed, IsDoneFor}
 use Rattle.memcache_service.specs.Talks.{FailsToFeed, Feeds, Takes, connection_of}
 use Rattle.memcache_service.specs.declared.connection.Connection.{Connection}
@@ -9,7 +8,7 @@ use Rattle.memcache_service.specs.declared.service.Service.{Service}
 use Rattle.memcache_service.specs.declared.shelf.Shelf.{Ghosts}
 use Rattle.memcache_link.specs.Served.{KnowsConnection, OwesNothing}
 
-there : {X : Type 0} (o : Option X) (x : X) → o ≡ Some x → o ≢ None
+pub there : {X : Type 0} (o : Option X) (x : X) → o ≡ Some x → o ≢ None
 there o x is none = none-some x (sym none ∙ is)
 
 same-some : {X : Type 0} (o : Option X) (x y : X) → o ≡ Some x → o ≡ Some y → x ≡ y

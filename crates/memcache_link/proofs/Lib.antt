@@ -1,2 +1,3 @@
 mod Exchanging
 mod Serving
+mod Turning

@@ -1,5 +1,5 @@
 -- How far a connection of a memcache service has come.
-use Rattle.std.specs.Prelude.{◌≡◌, ◌≤◌, ◌⊎◌, ◌++◌, ℕ, Bool, true, false, List, [], Option, Some, Result, Ok}
+use Rattle.std.specs.Prelude.{◌≡◌, ◌≢◌, ◌≤◌, ◌⊎◌, ◌++◌, ℕ, Bool, true, false, List, [], Option, Some, Result, Ok}
 use Rattle.std.specs.Io.KnownBytes.{Appends, Consumes, IsAtEnd}
 use Rattle.cache_run.specs.declared.devices.errors.RunError.{RunError}
 use Rattle.cache_link.specs.Dialogues.{Wire}
@@ -8,6 +8,7 @@ use Rattle.cache_link.specs.declared.link.Next.{Next}
 use Rattle.cache_link.specs.declared.link.Next.TheVariants.{Over as IsOver}
 use Rattle.cache_link.specs.declared.link.Report.TheVariants.{Nothing}
 use Rattle.cache_link.specs.declared.patient.Patient.{Patient}
+use Rattle.memcache_service.specs.Talking.{later_of}
 use Rattle.memcache_service.specs.Talks.{FailsToFeed, Feeds, OpensTalk, Takes, connection_of, moment_of_last_call}
 use Rattle.memcache_service.specs.declared.connection.Connection.{Connection}
 use Rattle.memcache_service.specs.declared.service.Service.{Service}
@@ -32,6 +33,14 @@ pub record OthersTurns {T : Type 0} {shelf : Ghosts T} (conn : ℕ) (p q : Servi
   pub same : connection_of conn q ≡ connection_of conn p
   pub later : moment_of_last_call p ≤ moment_of_last_call q
 
+-- a connection had its turn at a moment: the others are as they were, and if something was fed, then at the later of this moment and that
+-- of the last call
+pub record TookTurn {T : Type 0} {shelf : Ghosts T} (conn moment : ℕ) (p q : Service T shelf) : Type 0
+  where
+    pub others : (other : ℕ) → other ≢ conn → OthersTurns other p q
+    pub fed_at : (moment_of_last_call q ≡ moment_of_last_call p)
+        ⊎ (moment_of_last_call q ≡ later_of (moment_of_last_call p) moment)
+
 -- it was opened
 pub record WasJustOpened {T : Type 0} {shelf : Ghosts T} (link : MemcacheLink)
     (p q : Service T shelf) : Type 0 where
@@ -39,6 +48,7 @@ pub record WasJustOpened {T : Type 0} {shelf : Ghosts T} (link : MemcacheLink)
   pub backlog : link.backlog ≡ []
   pub report : link.report ≡ Nothing
   pub phase : link.phase ≡ Fed
+  pub reads : link.is_stopped ≡ false
 
 -- the service has the connection, and has ended it or not
 pub record KnowsConnection {T : Type 0} {shelf : Ghosts T} (conn : ℕ) (ended : Bool)

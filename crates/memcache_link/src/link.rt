@@ -1,12 +1,12 @@
 //! One connection of the memcache service, between the wake-ups of its socket.
-ghost use Rattle.std.specs.Prelude.{◌≡◌, ◌≢◌, ◌⊎◌, [], true, false, not, None, Ok, IfOk, IfErr, MatchResult};
+ghost use Rattle.std.specs.Prelude.{◌≡◌, ◌≢◌, ◌⊎◌, ℕ, [], true, false, not, None, Ok, IfOk, IfErr, MatchResult};
 ghost use Rattle.cache_run.specs.Driver.Causes.{Because};
 ghost use Rattle.cache_link.specs.Dialogues.{Wire};
 ghost use Rattle.cache_link.specs.Patience.{BreaksDown, WritesOn, is_broken_by};
 ghost use Rattle.cache_link.specs.Reports.{HearsOf, Hears, report_with};
 ghost use Rattle.cache_link.specs.Served.{wire};
 ghost use Rattle.memcache_service.specs.Talks.{connection_of};
-ghost use Rattle.memcache_link.specs.Served.{AnswersPiece, WasJustOpened, IsServedByTalk, StaysServedOrOver, TakesItsTurn, WorksServed, WritesOwedFirst, has_ended, is_phase_over};
+ghost use Rattle.memcache_link.specs.Served.{AnswersPiece, IsServedByTalk, OthersTurns, StaysServedOrOver, TakesItsTurn, TookTurn, WasJustOpened, WorksServed, WritesOwedFirst, has_ended, is_phase_over};
 
 use cache_link::{Backlog, Next, Patient, Report, Room};
 use cache_run::{Inbox, RunError};
@@ -65,7 +65,9 @@ impl MemcacheLink {
 
     /// Closes the connection.
     pub fn close<T: Shelf>(self, service: &mut Service<T>)
-        ensures { connection_of self.conn service.new ≡ None }
+        ensures closed { connection_of self.conn service.new ≡ None }
+        ensures others { (other : ℕ) → other ≢ self.conn
+            → OthersTurns other service.old service.new }
     {
         service.close(self.conn);
     }
@@ -107,6 +109,7 @@ impl MemcacheLink {
             reader.new writer.old writer.new }
         ensures hears { Hears I.remaining self.old.report self.new.report reader.old reader.new }
         ensures idle { result ≡ Ok Next.Input → self.new.report ≡ Report.Nothing }
+        ensures turn { TookTurn self.old.conn moment service.old service.new }
     {
         if !self.backlog.write_to(writer)? {
             return Ok(Next::Room);
@@ -135,6 +138,7 @@ impl MemcacheLink {
         ensures writes { WritesOn O.contents writer.old writer.new }
         ensures hears { Hears I.remaining self.old.report self.new.report reader.old reader.new
             × (result ≡ Ok Next.Input → self.new.report ≡ Report.Nothing) }
+        ensures turn { TookTurn self.old.conn moment service.old service.new }
     {
         self.serve(service, reader, room, moment)?;
         if !self.backlog.write_to(writer)? {
@@ -157,6 +161,7 @@ impl MemcacheLink {
             reader.old reader.new }
         ensures why { IfErr result (Because (BreaksDown reader.old reader.new) ⊥ ⊥ ⊥) }
         ensures hears { Hears I.remaining self.old.report self.new.report reader.old reader.new }
+        ensures turn { TookTurn self.old.conn moment service.old service.new }
     {
         if self.phase == Phase::Held {
             self.exchange(service, b"", room, moment);
@@ -185,6 +190,7 @@ impl MemcacheLink {
             reader.old reader.new }
         ensures why { IfErr result (Because (BreaksDown reader.old reader.new) ⊥ ⊥ ⊥) }
         ensures hears { Hears I.remaining self.old.report self.new.report reader.old reader.new }
+        ensures turn { TookTurn self.old.conn moment service.old service.new }
     {
         let Ok(mut inbox) = room.take_inbox() else {
             return Err(RunError::OutOfMemory);
@@ -225,7 +231,8 @@ impl MemcacheLink {
         room: &mut Room,
         moment: u64,
     )
-        ensures { AnswersPiece T.Shelf piece.now self.old self.new service.old service.new }
+        ensures answers { AnswersPiece T.Shelf piece.now self.old self.new service.old service.new }
+        ensures turn { TookTurn self.old.conn moment service.old service.new }
     {
         let mut bytes = room.take_bytes();
         service.take_output(self.conn, &mut bytes);

@@ -1,16 +1,16 @@
 -- What stands at the front of a stream, and more bytes behind it.
 use Rattle.std.proofs.Common.{◌≡◌, ℕ, zero, suc, ◌+◌, ◌<◌, ◌≤◌, Bool, false, cond, List, [], ◌∷◌, ◌++◌, length, take, drop, Option, Some, None, refl, sym, ap, ◌∙◌, subst, arith, ⊎_elim, length-append, length-drop}
-use Rattle.std.specs.Prelude.{not, codes}
+use Rattle.std.specs.Prelude.{nat_eq, not, codes}
 use Rattle.std.specs.Str.{bytes_eq}
-use Rattle.std.specs.List.{position, position_or_len}
-use Rattle.std.proofs.lemmas.Bool.{cond-true, cond-false, lt-ltb, le-ltb, ltb-true, ne_eqb, cases_lt}
+use Rattle.std.specs.Cmp.Lexicographic.{pointwise}
+use Rattle.std.specs.List.{position, position_or_len, starts_with}
+use Rattle.std.proofs.lemmas.Bool.{cond-true, cond-false, lt-ltb, le-ltb, ltb-true, ne_eqb, cases_lt, cases_Bool, cond_both}
 use Rattle.std.proofs.lemmas.List.{take-append-le, drop-append-le, take_all, length-take-le}
 use Rattle.std.proofs.lemmas.List.Folds.{prefix_len-append}
 use Rattle.std.proofs.lemmas.Option.{cond_some}
 use Rattle.memcache_model.specs.Bytes.{is_feed, without_one_return}
-use Rattle.memcache_model.specs.Commands.{Command, Request, store, oversize, meta_set}
-use Rattle.memcache_model.specs.declared.command.Storage.TheVariants.{Set}
-use Rattle.memcache_model.specs.Grammar.{RequestLine, whole, head, meta_head, Arrived, part, request, Block, too_large, unfinished, broken, filled, has_end, block_in, with_block, arrived_line, line_at, arrived, request_line}
+use Rattle.memcache_model.specs.Commands.{Command, Request, store, oversize, meta_set, meta_oversize}
+use Rattle.memcache_model.specs.Grammar.{RequestLine, whole, head, meta_head, Arrived, part, request, Block, too_large, unfinished, broken, filled, has_end, block_in, with_block, arrived_line, line_at, line_within, line_limit, request_line}
 use Rattle.memcache_model.specs.Streams.{IsCutFree, TakesBytes}
 
 -- ---- places
@@ -90,28 +90,81 @@ arrived_line-append most (whole command quiet) used rest more r n is = is
 arrived_line-append most (head storage key flags exptime size quiet) used rest more r n is =
     with_block-append (store storage key flags exptime) (oversize storage key) quiet (used + size + 2) most size rest more r n is
 arrived_line-append most (meta_head key flags size) used rest more r n is =
-    with_block-append (meta_set key flags) (oversize Set key) false (used + size + 2) most size rest more r n is
+    with_block-append (meta_set key flags) (meta_oversize key flags) false (used + size + 2) most size rest more r n is
 
 -- ---- the front of a stream
 
-pub cuts : IsCutFree
-cuts most bytes more r used is = go (position is_feed (take 65537 bytes)) refl
+start-append : (first bytes more : List ℕ) → length first ≤ length bytes → starts_with nat_eq (bytes ++ more) first ≡ starts_with nat_eq bytes first
+start-append first bytes more long = ap (pointwise nat_eq first) (take-append-le (length first) bytes more long)
+
+-- five bytes say how long a line may be
+longest-append : (bytes more : List ℕ) → 5 ≤ length bytes → line_limit (bytes ++ more) ≡ line_limit bytes
+longest-append bytes more long =
+    let a = start-append (codes "get ") bytes more (omega (arith, long)) in
+    let b = start-append (codes "gets ") bytes more (omega (arith, long)) in
+    let c = start-append (codes "gat ") bytes more (omega (arith, long)) in
+    let d = start-append (codes "gats ") bytes more (omega (arith, long)) in
+    cc
+
+-- and it may be longer than they
+longest-long : (bytes : List ℕ) → 5 ≤ line_limit bytes
+longest-long bytes = cond_both _ 2097152 65536 (λ n. 5 ≤ n) (λ _. omega arith) (λ _. omega arith)
+
+-- the line that ends at a place within the bytes
+line-append : (most n m : ℕ) (bytes more : List ℕ) (r : Request) (used end : ℕ) → position is_feed (take (n + 1) bytes) ≡ Some end → position is_feed (take (m + 1) (bytes ++ more)) ≡ Some end → end < length bytes
+    → line_within most n bytes ≡ request r used → line_within most m (bytes ++ more) ≡ request r used
+line-append most n m bytes more r used end found again inside is =
+    ap (line_at most m (bytes ++ more)) again
+    ∙ ap (λ line. arrived_line most (request_line (without_one_return line)) (end + 1) (drop (end + 1) (bytes ++ more))) (take-append-le end bytes more (omega arith))
+    ∙ ap (arrived_line most (request_line (without_one_return (take end bytes))) (end + 1)) (drop-append-le (end + 1) bytes more (omega arith))
+    ∙ arrived_line-append most (request_line (without_one_return (take end bytes))) (end + 1) (drop (end + 1) bytes) more r used (sym (ap (line_at most n bytes) found) ∙ is)
+
+-- a line that has no end has arrived only if it is too long
+unended-long : (most n : ℕ) (bytes : List ℕ) (r : Request) (used : ℕ) → position is_feed (take (n + 1) bytes) ≡ None → line_within most n bytes ≡ request r used → n < length bytes
+unended-long most n bytes r used none is = ⊎_elim
+    (λ long. long)
+    (λ short. absurd (no_request r used (sym (cond-false _ _ _ (le-ltb n (length bytes) short)) ∙ sym (ap (line_at most n bytes) none) ∙ is)))
+    (cases_lt n (length bytes))
+
+-- as long as a line may be as long as before
+alike : (most n : ℕ) (bytes more : List ℕ) (r : Request) (used : ℕ) → line_within most n bytes ≡ request r used → line_within most n (bytes ++ more) ≡ request r used
+alike most n bytes more r used is = go (position is_feed (take (n + 1) bytes)) refl
   where
-    go : (o : Option ℕ) → position is_feed (take 65537 bytes) ≡ o → arrived most (bytes ++ more) ≡ request r used
-    go None none = ⊎_elim
-        (λ long.
-        ap (line_at most (bytes ++ more)) (ap (position is_feed) (take-append-le 65537 bytes more (omega arith)) ∙ none)
-        ∙ cond-true _ _ _ (lt-ltb 65536 (length (bytes ++ more)) (omega (arith, length-append bytes more)))
-        ∙ sym (cond-true _ _ _ (lt-ltb 65536 (length bytes) long))
-        ∙ sym (ap (line_at most bytes) none) ∙ is)
-        (λ short. absurd (no_request r used (sym (cond-false _ _ _ (le-ltb 65536 (length bytes) short)) ∙ sym (ap (line_at most bytes) none) ∙ is)))
-        (cases_lt 65536 (length bytes))
+    go : (o : Option ℕ) → position is_feed (take (n + 1) bytes) ≡ o → line_within most n (bytes ++ more) ≡ request r used
+    go None none =
+        let long = unended-long most n bytes r used none is in
+        ap (line_at most n (bytes ++ more)) (ap (position is_feed) (take-append-le (n + 1) bytes more (omega (arith, long))) ∙ none)
+        ∙ cond-true _ _ _ (lt-ltb n (length (bytes ++ more)) (omega (arith, long, length-append bytes more)))
+        ∙ sym (cond-true _ _ _ (lt-ltb n (length bytes) long))
+        ∙ sym (ap (line_at most n bytes) none) ∙ is
+    go (Some end) found = line-append most n n bytes more r used end found (feed-append (n + 1) bytes more end found) (feed-inside (n + 1) bytes end found) is
+
+-- where there are fewer bytes than a line may have
+few : (most n m : ℕ) (bytes more : List ℕ) (r : Request) (used : ℕ) → length bytes ≤ n → length bytes ≤ m → line_within most n bytes ≡ request r used → line_within most m (bytes ++ more) ≡ request r used
+few most n m bytes more r used in_n in_m is = go (position is_feed (take (n + 1) bytes)) refl
+  where
+    go : (o : Option ℕ) → position is_feed (take (n + 1) bytes) ≡ o → line_within most m (bytes ++ more) ≡ request r used
+    go None none = absurd (omega (arith, in_n, unended-long most n bytes r used none is))
     go (Some end) found =
-        let inside = feed-inside 65537 bytes end found in
-        ap (line_at most (bytes ++ more)) (feed-append 65537 bytes more end found)
-        ∙ ap (λ line. arrived_line most (request_line (without_one_return line)) (end + 1) (drop (end + 1) (bytes ++ more))) (take-append-le end bytes more (omega arith))
-        ∙ ap (arrived_line most (request_line (without_one_return (take end bytes))) (end + 1)) (drop-append-le (end + 1) bytes more (omega arith))
-        ∙ arrived_line-append most (request_line (without_one_return (take end bytes))) (end + 1) (drop (end + 1) bytes) more r used (sym (ap (line_at most bytes) found) ∙ is)
+        let longer = take-longer (m + 1) bytes more (omega (arith, in_m)) in
+        let there = position-append is_feed bytes longer.0 end (sym (ap (position is_feed) (take_all (n + 1) bytes (omega (arith, in_n)))) ∙ found) in
+        line-append most n m bytes more r used end found (ap (position is_feed) longer.1 ∙ there) (feed-inside (n + 1) bytes end found) is
+
+within : (most : ℕ) (bytes more : List ℕ) (r : Request) (used : ℕ) → line_within most (line_limit bytes) bytes ≡ request r used → line_within most (line_limit (bytes ++ more)) (bytes ++ more) ≡ request r used
+within most bytes more r used is = ⊎_elim
+    (λ short. few most (line_limit bytes) (line_limit (bytes ++ more)) bytes more r used (omega (arith, short, longest-long bytes)) (omega (arith, short, longest-long (bytes ++ more))) is)
+    (λ long. ap (λ n. line_within most n (bytes ++ more)) (longest-append bytes more long) ∙ alike most (line_limit bytes) bytes more r used is)
+    (cases_lt (length bytes) 5)
+
+pub cuts : IsCutFree
+cuts most [] more r used is = absurd (no_request r used is)
+cuts most (b ∷ bs) more r used is = ⊎_elim
+    (λ t. cond-true _ _ _ (first ∙ t) ∙ sym (cond-true _ _ _ t) ∙ is)
+    (λ f. cond-false _ _ _ (first ∙ f) ∙ within most (b ∷ bs) more r used (sym (cond-false _ _ _ f) ∙ is))
+    (cases_Bool (starts_with nat_eq (b ∷ bs) (128 ∷ [])))
+  where
+    first : starts_with nat_eq ((b ∷ bs) ++ more) (128 ∷ []) ≡ starts_with nat_eq (b ∷ bs) (128 ∷ [])
+    first = start-append (128 ∷ []) (b ∷ bs) more (omega arith)
 
 -- ---- how many bytes a request takes
 
@@ -129,15 +182,20 @@ arrived_line-takes most (whole command quiet) used rest r n some is = omega (ari
 arrived_line-takes most (head storage key flags exptime size quiet) used rest r n some is =
     with_block-takes (store storage key flags exptime) (oversize storage key) quiet (used + size + 2) (block_in most size rest) r n (omega arith) is
 arrived_line-takes most (meta_head key flags size) used rest r n some is =
-    with_block-takes (meta_set key flags) (oversize Set key) false (used + size + 2) (block_in most size rest) r n (omega arith) is
+    with_block-takes (meta_set key flags) (meta_oversize key flags) false (used + size + 2) (block_in most size rest) r n (omega arith) is
+
+line-takes : (most n : ℕ) (bytes : List ℕ) (r : Request) (used : ℕ) → line_within most n bytes ≡ request r used → 1 ≤ used
+line-takes most n bytes r used is = go (position is_feed (take (n + 1) bytes)) refl
+  where
+    go : (o : Option ℕ) → position is_feed (take (n + 1) bytes) ≡ o → 1 ≤ used
+    go None none =
+        let long = unended-long most n bytes r used none is in
+        omega (arith, same_used _ r (n + 1) used (sym (cond-true _ _ _ (lt-ltb n (length bytes) long)) ∙ sym (ap (line_at most n bytes) none) ∙ is))
+    go (Some end) found =
+        arrived_line-takes most (request_line (without_one_return (take end bytes))) (end + 1) (drop (end + 1) bytes) r used (omega arith) (sym (ap (line_at most n bytes) found) ∙ is)
 
 pub takes : TakesBytes
-takes most bytes r used is = go (position is_feed (take 65537 bytes)) refl
-  where
-    go : (o : Option ℕ) → position is_feed (take 65537 bytes) ≡ o → 1 ≤ used
-    go None none = ⊎_elim
-        (λ long. omega (arith, same_used _ r 65537 used (sym (cond-true _ _ _ (lt-ltb 65536 (length bytes) long)) ∙ sym (ap (line_at most bytes) none) ∙ is)))
-        (λ short. absurd (no_request r used (sym (cond-false _ _ _ (le-ltb 65536 (length bytes) short)) ∙ sym (ap (line_at most bytes) none) ∙ is)))
-        (cases_lt 65536 (length bytes))
-    go (Some end) found =
-        arrived_line-takes most (request_line (without_one_return (take end bytes))) (end + 1) (drop (end + 1) bytes) r used (omega arith) (sym (ap (line_at most bytes) found) ∙ is)
+takes most bytes r used is = ⊎_elim
+    (λ t. omega (arith, same_used _ r 1 used (sym (cond-true _ _ _ t) ∙ is)))
+    (λ f. line-takes most (line_limit bytes) bytes r used (sym (cond-false _ _ _ f) ∙ is))
+    (cases_Bool (starts_with nat_eq bytes (128 ∷ [])))

@@ -4,16 +4,16 @@ use Rattle.std.proofs.Math.Bool.{or-true}
 use Rattle.std.proofs.lemmas.Bool.{cases_Bool, cond_both}
 use Rattle.std.proofs.lemmas.Slice.Eq.{bytes_eq-Decides}
 use Rattle.std.specs.Fmt.{decimal}
-use Rattle.std.specs.Option.{option_or, option_map_or}
+use Rattle.std.specs.Option.{option_map_or}
 use Rattle.std.specs.Prelude.{◌==◌, is_some}
 use Rattle.memcache_model.specs.Answers.{Service, answer, counts, counts_by, deletes_one, retimed, store_over, stores_within, touched, touches_one}
 use Rattle.std.specs.Str.{bytes_eq}
 use Rattle.memcache_model.specs.Bytes.{number_below}
-use Rattle.memcache_model.specs.Commands.{Command, get, gat, store, oversize, delete, arithmetic, touch, flush_all, stats, version, verbosity, quit, malformed, meta, meta_set, meta_no_op}
+use Rattle.memcache_model.specs.Commands.{Command, get, gat, store, oversize, delete, arithmetic, touch, flush_all, stats, version, verbosity, quit, malformed, meta, meta_set, meta_oversize, meta_no_op}
 use Rattle.memcache_model.specs.Items.{Item, Items, Stock, exptime_deadline, with_item}
 use Rattle.memcache_model.specs.Leases.{OneWins, TellsLease, is_leased, may_end, wins}
 use Rattle.memcache_model.specs.Meta as meta_of
-use Rattle.memcache_model.specs.Meta.{exptime_of, flags_fault, has_flag, is_late, is_other, is_one_of, item_text, lease_text, meta_compare, meta_count_none, meta_counted, meta_counts, meta_get_live, meta_get_none, meta_item, meta_put, meta_refuses, meta_stored, mode_fault, mode_of, number_of_letter, retimed_by, unless_faulty, vivified}
+use Rattle.memcache_model.specs.Meta.{count_fault, exptime_of, flags_fault, goes_on, has_flag, is_late, is_other, is_one_of, is_renewed, item_text, lease_text, meta_compare, meta_count_none, meta_counted, meta_counts, meta_get_live, meta_get_none, meta_item, meta_put, meta_refuses, meta_stored, mode_of, names_none, number_of_letter, retimed_by, set_fault, told_to_get, unless_faulty, vivified}
 use Rattle.memcache_model.specs.Outcomes.{Outcome, new_item}
 use Rattle.memcache_model.specs.declared.command.Direction.{Direction}
 use Rattle.memcache_model.specs.declared.command.Exptime.{Exptime}
@@ -130,7 +130,7 @@ module _ (key : List ℕ) (stock : Stock) (held : is_leased (stock.items key) �
 
     arithmetic_on : (moment : ℕ) (words : List (List ℕ)) (o : Option Item) → stock.items k ≡ o → Holds (meta_of.meta_arithmetic moment k words o stock)
     arithmetic_on moment words None none = first_count moment words (exptime_of (codes "N") words) none
-    arithmetic_on moment words (Some item) is = choose (is_other words item) _ _ held (counts_meta moment words item (number_below (2 ^ 64) item.bytes) is)
+    arithmetic_on moment words (Some item) is = choose (is_other words item && not (names_none words)) _ _ held (counts_meta moment words item (number_below (2 ^ 64) item.bytes) is)
 
     puts : (most moment mode : ℕ) (words : List (List ℕ)) (item : Item) (o : Option Item) → bytes_eq key k ≡ false → Holds (meta_put most moment mode k words item o stock)
     puts most moment mode words item None e = choose (is_one_of (codes "SE") mode) _ _ (other _ e) held
@@ -138,17 +138,17 @@ module _ (key : List ℕ) (stock : Stock) (held : is_leased (stock.items key) �
         (choose (is_one_of (codes "A") mode) _ _ (choose (nat_lt most (length (old.bytes ++ item.bytes))) _ _ held (other _ e))
         (choose (is_one_of (codes "P") mode) _ _ (choose (nat_lt most (length (item.bytes ++ old.bytes))) _ _ held (other _ e)) held))
 
-    compares_meta : (most moment unique : ℕ) (words : List (List ℕ)) (item : Item) (o : Option Item) → bytes_eq key k ≡ false → Holds (meta_compare most moment unique k words item o stock)
-    compares_meta most moment unique words item None e = held
-    compares_meta most moment unique words item (Some old) e = choose (old.unique == unique) _ _ (puts most moment (mode_of words) words item (Some old) e)
-        (choose (has_flag (codes "I") words && nat_lt unique old.unique) _ _ (other _ e) held)
+    compares_meta : (most moment mode unique : ℕ) (words : List (List ℕ)) (item : Item) (o : Option Item) → bytes_eq key k ≡ false → Holds (meta_compare most moment mode unique k words item o stock)
+    compares_meta most moment mode unique words item None e = choose (is_one_of (codes "SR") mode) _ _ held (puts most moment mode words item None e)
+    compares_meta most moment mode unique words item (Some old) e = choose (goes_on mode unique old) _ _ (puts most moment mode words item (Some old) e)
+        (choose (is_renewed mode unique words old) _ _ (other _ e) held)
 
     sets : (most moment : ℕ) (words : List (List ℕ)) (block : List ℕ) (o : Option Item) → bytes_eq key k ≡ false → Holds (meta_of.meta_set most moment k words block o stock)
     sets most moment words block o e = go (number_of_letter (codes "C") words) refl
       where
         go : (unique : Option ℕ) → number_of_letter (codes "C") words ≡ unique → Holds (meta_of.meta_set most moment k words block o stock)
-        go None is = rw is (puts most moment (mode_of words) words (meta_item moment words block) o e)
-        go (Some unique) is = rw is (compares_meta most moment unique words (meta_item moment words block) o e)
+        go None is = rw is (puts most moment (mode_of (codes "S") words) words (meta_item moment words block) o e)
+        go (Some unique) is = rw is (compares_meta most moment (mode_of (codes "S") words) unique words (meta_item moment words block) o e)
 
 touches_all : (deadline : Option ℕ) (keys : List (List ℕ)) (key : List ℕ) (items : Items) → is_leased (items key) ≡ true → is_leased (touched deadline keys items key) ≡ true
 touches_all deadline [] key items held = held
@@ -186,10 +186,11 @@ stays service moment (stats words) key stock held ends = held
 stays service moment version key stock held ends = held
 stays service moment verbosity key stock held ends = held
 stays service moment quit key stock held ends = held
-stays service moment (meta Get k words) key stock held ends = faulty key stock held k (flags_fault (codes "vkqOstcf") (codes "R") (codes "NT") words) _ (gets key stock held k moment words (stock.items k) refl)
-stays service moment (meta Delete k words) key stock held ends = faulty key stock held k (flags_fault (codes "kqOI") (codes "C") (codes "T") words) _ (deletes_on key stock held k moment words (stock.items k) ends)
-stays service moment (meta Arithmetic k words) key stock held ends = faulty key stock held k (flags_fault (codes "vkqOstcfM") (codes "CDJ") (codes "NT") words) _ (arithmetic_on key stock held k moment words (stock.items k) refl)
-stays service moment (meta_set k words block) key stock held ends = faulty key stock held k (option_or (flags_fault (codes "kqOstcfIM") (codes "CF") (codes "T") words) (mode_fault words)) _ (sets key stock held k service.most moment words block (stock.items k) ends)
+stays service moment (meta Get k words) key stock held ends = faulty key stock held k (flags_fault words) _ (gets key stock held k moment words (stock.items k) refl)
+stays service moment (meta Delete k words) key stock held ends = faulty key stock held k (flags_fault words) _ (deletes_on key stock held k moment words (stock.items k) ends)
+stays service moment (meta Arithmetic k words) key stock held ends = faulty key stock held k (count_fault words) _ (arithmetic_on key stock held k moment words (stock.items k) refl)
+stays service moment (meta_set k words block) key stock held ends = faulty key stock held k (set_fault words) _ (sets key stock held k service.most moment words block (stock.items k) ends)
+stays service moment (meta_oversize k words) key stock held ends = faulty key stock held k (set_fault words) _ (other key stock held k None ends)
 stays service moment meta_no_op key stock held ends = held
 stays service moment (malformed error) key stock held ends = held
 
@@ -219,13 +220,13 @@ told : (moment : ℕ) (key : List ℕ) (words : List (List ℕ)) (stock : Stock)
 told moment key words stock some = go (stock.items key) refl some
   where
     tells : Option Item → List ℕ → Type 0
-    tells o reply = (item : Item) × (held : Bool) × (stale : Bool) × (reply ≡ item_text moment key item words (lease_text held stale (wins moment words o)))
+    tells o reply = (item : Item) × (held : Bool) × (stale : Bool) × (reply ≡ item_text told_to_get moment key item words (lease_text held stale (wins moment words o)))
 
     made : (x : Option Exptime) → exptime_of (codes "N") words ≡ x → is_some x ≡ true → tells None (meta_get_none moment key words x stock).reply
     made None is k = absurd (true≢false (sym k))
     made (Some exptime) is k =
         let item = vivified moment (stock.uniques + 1) exptime in
-        (item, false, false, ap (λ b. item_text moment key item words (lease_text false false b)) (sym (ap is_some is)))
+        (item, false, false, ap (λ b. item_text told_to_get moment key item words (lease_text false false b)) (sym (ap is_some is)))
 
     by : (o : Option Item) → (is_some o || is_some (exptime_of (codes "N") words)) ≡ true → tells o (meta_of.meta_get moment key words o stock).reply
     by None k = made (exptime_of (codes "N") words) refl k

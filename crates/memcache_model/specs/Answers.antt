@@ -3,9 +3,9 @@ use Rattle.std.specs.Prelude.{ℕ, ◌^◌, Bool, ◌==◌, nat_lt, List, [], �
 use Rattle.std.specs.Fmt.{decimal}
 use Rattle.std.specs.Option.{option_map}
 use Rattle.memcache_model.specs.Bytes.{number_below}
-use Rattle.memcache_model.specs.Commands.{Command, Request, get, gat, store, oversize, delete, arithmetic, touch, flush_all, stats, version, verbosity, quit, malformed, meta, meta_set, meta_no_op}
+use Rattle.memcache_model.specs.Commands.{Command, Request, get, gat, store, oversize, delete, arithmetic, touch, flush_all, stats, version, verbosity, quit, malformed, meta, meta_set, meta_oversize, meta_no_op}
 use Rattle.memcache_model.specs.Items.{Item, Items, Stock, nothing, with_item, exptime_deadline, live_stock}
-use Rattle.memcache_model.specs.Meta.{meta_answer, meta_set_answer}
+use Rattle.memcache_model.specs.Meta.{meta_answer, meta_set_answer, set_fault, unless_faulty}
 use Rattle.memcache_model.specs.Outcomes.{Outcome, says_text, changes, stores_item, new_item, counted}
 use Rattle.memcache_model.specs.Replies.{error_text, values_text}
 use Rattle.memcache_model.specs.declared.command.Direction.{Direction}
@@ -137,6 +137,8 @@ answer service moment (meta kind key flags) stock =
     meta_answer moment kind key flags (stock.items key) stock
 answer service moment (meta_set key flags block) stock =
     meta_set_answer service.most moment key flags block (stock.items key) stock
+answer service moment (meta_oversize key flags) stock =
+    unless_faulty (set_fault flags) (passes_over Set key stock) stock
 answer service moment meta_no_op stock = says_text (codes "MN\r\n") stock
 answer service moment (malformed error) stock = says_text (error_text error) stock
 

@@ -1,7 +1,6 @@
 -- Words and numbers in bytes.
 use Rattle.std.specs.Prelude.{ℕ, Bool, true, false, ◌&&◌, ◌==◌, nat_le, nat_lt, List, [], ◌∷◌, length, Option, Some, None, if◌then◌else◌}
 use Rattle.std.specs.List.{filter, list_all, slice_split}
-use Rattle.std.specs.Str.{bytes_eq}
 use Rattle.std.specs.Str.Parse.{digits_value}
 
 -- there is at least one element
@@ -36,10 +35,19 @@ abbrev pub is_decimal_number : List ℕ → Bool
 is_decimal_number word = nat_le 1 (length word) && nat_le (length word) 20 && list_all is_decimal_digit word
 
 -- the number that 1 to 20 digits write, if it is below the limit
-abbrev pub number_below : ℕ → List ℕ → Option ℕ
-number_below limit word =
+abbrev pub digits_below : ℕ → List ℕ → Option ℕ
+digits_below limit word =
     if is_decimal_number word && nat_lt (digits_value 10 word) limit then Some (digits_value 10 word)
     else None
+
+-- the word without a plus before it
+abbrev pub without_plus : List ℕ → List ℕ
+without_plus [] = []
+without_plus (b ∷ bs) = if b == 43 then bs else b ∷ bs
+
+-- the number that digits write, behind a plus or alone, if it is below the limit
+abbrev pub number_below : ℕ → List ℕ → Option ℕ
+number_below limit word = digits_below limit (without_plus word)
 
 -- a key has 1 to 250 bytes
 abbrev pub is_item_key : List ℕ → Bool

@@ -20,6 +20,7 @@ pub data Command : Type 0 where
   version verbosity quit meta_no_op : Command
   meta : Meta → (key : List ℕ) → (flags : List (List ℕ)) → Command
   meta_set : (key : List ℕ) → (flags : List (List ℕ)) → (block : List ℕ) → Command
+  meta_oversize : (key : List ℕ) → (flags : List (List ℕ)) → Command
   malformed : ProtocolError → Command
 
 -- a command, and whether it is to have no reply

@@ -1,9 +1,9 @@
 -- Which bytes are a request, and what it asks for.
-use Rattle.std.specs.Prelude.{ℕ, zero, suc, ◌+◌, ◌^◌, Bool, true, false, not, ◌&&◌, ◌==◌, nat_lt, List, [], ◌∷◌, length, take, drop, Option, Some, None, Result, Ok, Err, if◌then◌else◌, codes}
-use Rattle.std.specs.List.{list_all, position}
+use Rattle.std.specs.Prelude.{ℕ, zero, suc, ◌+◌, ◌-◌, ◌^◌, ◌%◌, Bool, true, false, not, ◌&&◌, ◌||◌, ◌==◌, nat_eq, nat_lt, List, [], ◌∷◌, length, take, drop, Option, Some, None, Result, Ok, Err, if◌then◌else◌, codes}
+use Rattle.std.specs.List.{list_all, position, starts_with}
 use Rattle.std.specs.Str.{bytes_eq}
-use Rattle.memcache_model.specs.Bytes.{is_filled, is_feed, is_item_key, tokens, without_one_return, number_below}
-use Rattle.memcache_model.specs.Commands.{Command, Request, get, gat, store, oversize, delete, arithmetic, touch, flush_all, stats, version, verbosity, quit, malformed, meta, meta_set, meta_no_op}
+use Rattle.memcache_model.specs.Bytes.{is_filled, is_feed, is_item_key, tokens, without_one_return, digits_below, number_below}
+use Rattle.memcache_model.specs.Commands.{Command, Request, get, gat, store, oversize, delete, arithmetic, touch, flush_all, stats, version, verbosity, quit, malformed, meta, meta_set, meta_oversize, meta_no_op}
 use Rattle.memcache_model.specs.declared.command.Direction.{Direction}
 use Rattle.memcache_model.specs.declared.command.Direction.TheVariants.{Up, Down}
 use Rattle.memcache_model.specs.declared.command.Exptime.{Exptime}
@@ -20,27 +20,30 @@ use Rattle.memcache_model.specs.declared.fault.ProtocolError.TheVariants as faul
 
 -- ---- numbers and words
 
--- a number of seconds as an expiry
-abbrev pub seconds : ℕ → Exptime
-seconds zero = Never
-seconds (suc n) = Seconds (suc n)
+-- a number of seconds of 32 bits, of which the first is its sign
+abbrev pub signed : ℕ → Exptime
+signed zero = Never
+signed (suc n) = if nat_lt (suc n) (2 ^ 31) then Seconds (suc n) else AtOnce
 
--- a negative number of seconds
+-- a number of seconds as an expiry: of a larger number the last 32 bits count
+abbrev pub seconds : ℕ → Exptime
+seconds n = signed (n % 2 ^ 32)
+
+-- a number of seconds behind a minus
 abbrev pub negative : ℕ → Exptime
-negative zero = Never
-negative (suc n) = AtOnce
+negative n = seconds (2 ^ 32 - n % 2 ^ 32)
 
 -- the expiry, if there is a number
 abbrev pub exptime_by : (ℕ → Exptime) → Option ℕ → Option Exptime
 exptime_by kind None = None
 exptime_by kind (Some n) = Some (kind n)
 
--- an expiry is a number below 2 ^ 32, or a minus and such a number
+-- an expiry is a number of 64 bits with a sign
 abbrev pub exptime_in : List ℕ → Option Exptime
 exptime_in [] = None
 exptime_in (b ∷ digits) =
-    if b == 45 then exptime_by negative (number_below (2 ^ 32) digits)
-    else exptime_by seconds (number_below (2 ^ 32) (b ∷ digits))
+    if b == 45 then exptime_by negative (digits_below (2 ^ 63 + 1) digits)
+    else exptime_by seconds (number_below (2 ^ 63) (b ∷ digits))
 
 -- whether the reply is left out, by the words behind all others: none, or one, which may be `noreply`
 abbrev pub quiet_in : List (List ℕ) → Option Bool
@@ -84,6 +87,10 @@ abbrev pub read_gat : Bool → List (List ℕ) → RequestLine
 read_gat uniques [] = faulty fault.Unknown
 read_gat uniques (exptime ∷ keys) = gat_by uniques keys (exptime_in exptime)
 
+-- the size of a data block: with the two bytes behind the block it is below 2 ^ 31
+abbrev pub size_in : List ℕ → Option ℕ
+size_in word = number_below 2147483646 word
+
 -- what stands before a data block
 abbrev pub block_head : Option Storage → List ℕ → Option ℕ → Option Exptime → Option ℕ → Option Bool
     → RequestLine
@@ -96,7 +103,7 @@ block_head storage key flags exptime size (Some quiet) = faulty fault.Format
 abbrev pub read_store : Storage → List (List ℕ) → RequestLine
 read_store storage (key ∷ flags ∷ exptime ∷ size ∷ more) =
     block_head (Some storage) key (number_below (2 ^ 32) flags) (exptime_in exptime)
-    (number_below (2 ^ 31) size) (quiet_in more)
+    (size_in size) (quiet_in more)
 read_store storage words = faulty fault.Unknown
 
 -- the unique of a `cas`
@@ -108,7 +115,7 @@ cas_by (Some unique) = Some (Cas unique)
 abbrev pub read_cas : List (List ℕ) → RequestLine
 read_cas (key ∷ flags ∷ exptime ∷ size ∷ unique ∷ more) =
     block_head (cas_by (number_below (2 ^ 64) unique)) key (number_below (2 ^ 32) flags)
-    (exptime_in exptime) (number_below (2 ^ 31) size) (quiet_in more)
+    (exptime_in exptime) (size_in size) (quiet_in more)
 read_cas words = faulty fault.Unknown
 
 -- a command on one key, if the key is one
@@ -202,7 +209,7 @@ meta_head_of key flags (Some size) =
 
 -- its words
 abbrev pub read_meta_set : List (List ℕ) → RequestLine
-read_meta_set (key ∷ size ∷ flags) = meta_head_of key flags (number_below (2 ^ 31) size)
+read_meta_set (key ∷ size ∷ flags) = meta_head_of key flags (size_in size)
 read_meta_set words = faulty fault.Unknown
 
 -- the words that stand behind a command's word
@@ -266,15 +273,25 @@ verb_named word =
     else (if bytes_eq word (codes "touch") then Some Touch
     else rare_verb_in word))))))))
 
+-- the last word, if there is one
+abbrev pub last_word : List ℕ → List (List ℕ) → List ℕ
+last_word word [] = word
+last_word word (next ∷ words) = last_word next words
+
+-- what is wrong with a line that begins with no command's word: it is one of HTTP, which a page in a browser may have sent, or it is unknown
+abbrev pub stranger : List ℕ → List (List ℕ) → ProtocolError
+stranger word words =
+    if starts_with nat_eq (last_word word words) (codes "HTTP/") then fault.Foreign else fault.Unknown
+
 -- a command's word with the words behind it
-abbrev pub read_command : Option Verb → List (List ℕ) → RequestLine
-read_command None words = faulty fault.Unknown
-read_command (Some verb) words = read_arguments verb words
+abbrev pub read_command : Option Verb → List ℕ → List (List ℕ) → RequestLine
+read_command None word words = faulty (stranger word words)
+read_command (Some verb) word words = read_arguments verb words
 
 -- the words of a line
 abbrev pub read_tokens : List (List ℕ) → RequestLine
 read_tokens [] = faulty fault.Unknown
-read_tokens (word ∷ words) = read_command (verb_named word) words
+read_tokens (word ∷ words) = read_command (verb_named word) word words
 
 -- what a line says
 abbrev pub request_line : List ℕ → RequestLine
@@ -322,20 +339,35 @@ arrived_line most (head storage key flags exptime size quiet) used rest =
     with_block (store storage key flags exptime) (oversize storage key) quiet (used + size + 2)
     (block_in most size rest)
 arrived_line most (meta_head key flags size) used rest =
-    with_block (meta_set key flags) (oversize Set key) false (used + size + 2)
+    with_block (meta_set key flags) (meta_oversize key flags) false (used + size + 2)
     (block_in most size rest)
 
--- so many bytes without the end of a line
-abbrev pub unended : ℕ → Arrived
-unended count =
-    if nat_lt 65536 count then arrives (malformed fault.TooLong) false 65537 else part
+-- how many bytes a line may have: those that name many keys have more
+abbrev pub line_limit : List ℕ → ℕ
+line_limit bytes =
+    if starts_with nat_eq bytes (codes "get ") || starts_with nat_eq bytes (codes "gets ")
+    || starts_with nat_eq bytes (codes "gat ") || starts_with nat_eq bytes (codes "gats ")
+    then 2097152 else 65536
 
--- the line that ends at a place, if one ends within 65537 bytes
-abbrev pub line_at : ℕ → List ℕ → Option ℕ → Arrived
-line_at most bytes None = unended (length bytes)
-line_at most bytes (Some end) =
+-- so many bytes without the end of a line, which may have at most `longest`
+abbrev pub unended : ℕ → ℕ → Arrived
+unended longest count =
+    if nat_lt longest count then arrives (malformed fault.TooLong) false (longest + 1) else part
+
+-- the line that ends at a place, if one ends within so many bytes
+abbrev pub line_at : ℕ → ℕ → List ℕ → Option ℕ → Arrived
+line_at most longest bytes None = unended longest (length bytes)
+line_at most longest bytes (Some end) =
     arrived_line most (request_line (without_one_return (take end bytes))) (end + 1) (drop (end + 1) bytes)
 
--- what stands at the front of a stream whose data blocks have at most `most` bytes
+-- a line of at most so many bytes, with what stands behind it
+abbrev pub line_within : ℕ → ℕ → List ℕ → Arrived
+line_within most longest bytes =
+    line_at most longest bytes (position is_feed (take (longest + 1) bytes))
+
+-- what stands at the front of a stream whose data blocks have at most `most` bytes. A byte of 128 begins a request of memcached's binary
+-- protocol
 abbrev pub arrived : ℕ → List ℕ → Arrived
-arrived most bytes = line_at most bytes (position is_feed (take 65537 bytes))
+arrived most bytes =
+    if starts_with nat_eq bytes (128 ∷ []) then arrives (malformed fault.Foreign) false 1
+    else line_within most (line_limit bytes) bytes

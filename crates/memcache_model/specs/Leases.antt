@@ -2,9 +2,9 @@
 use Rattle.std.specs.Prelude.{◌≡◌, ℕ, Bool, true, false, not, ◌&&◌, ◌||◌, List, Option, Some, None, is_some, codes}
 use Rattle.memcache_model.specs.Answers.{Service, answer}
 use Rattle.std.specs.Str.{bytes_eq}
-use Rattle.memcache_model.specs.Commands.{Command, store, oversize, delete, flush_all, meta, meta_set}
+use Rattle.memcache_model.specs.Commands.{Command, store, oversize, delete, flush_all, meta, meta_set, meta_oversize}
 use Rattle.memcache_model.specs.Items.{Item, Stock}
-use Rattle.memcache_model.specs.Meta.{exptime_of, is_late, item_text, lease_text, meta_get, retimed_by}
+use Rattle.memcache_model.specs.Meta.{exptime_of, is_late, item_text, lease_text, meta_get, retimed_by, told_to_get}
 use Rattle.memcache_model.specs.declared.command.Exptime.TheVariants.{Seconds}
 use Rattle.memcache_model.specs.declared.command.Meta.TheVariants.{Delete}
 use Rattle.memcache_model.specs.declared.command.Storage.TheVariants.{Set, Replace, Cas}
@@ -28,7 +28,7 @@ pub record TellsLease (moment : ℕ) (key : List ℕ) (words : List (List ℕ)) 
   pub held : Bool
   pub stale : Bool
   pub tells : reply
-      ≡ item_text moment key item words (lease_text held stale (wins moment words (stock.items key)))
+      ≡ item_text told_to_get moment key item words (lease_text held stale (wins moment words (stock.items key)))
 
 -- the command may end the lease of the key: it sets its value, deletes it or makes it stale
 abbrev pub may_end : List ℕ → Command → Bool
@@ -41,6 +41,7 @@ may_end key (flush_all (Seconds n)) = false
 may_end key (flush_all exptime) = true
 may_end key (meta Delete k words) = bytes_eq key k
 may_end key (meta_set k words block) = bytes_eq key k
+may_end key (meta_oversize k words) = bytes_eq key k
 may_end key command = false
 
 pub record OneWins : Type 0 where

@@ -1,5 +1,5 @@
 -- The meta commands: which lines are one, and what each replies and leaves.
-use Rattle.std.specs.Prelude.{ℕ, ◌+◌, ◌-◌, ◌/◌, ◌^◌, Bool, true, false, not, ◌&&◌, ◌||◌, ◌==◌, nat_lt, List, [], ◌∷◌, ◌++◌, length, drop, map, Option, Some, None, if◌then◌else◌, is_some, unwrap_or, codes}
+use Rattle.std.specs.Prelude.{ℕ, ◌+◌, ◌-◌, ◌/◌, ◌^◌, Bool, true, false, not, ◌&&◌, ◌||◌, ◌==◌, nat_le, nat_lt, List, [], ◌∷◌, ◌++◌, length, drop, map, Option, Some, None, if◌then◌else◌, is_some, unwrap_or, codes}
 use Rattle.std.specs.Fmt.{decimal}
 use Rattle.std.specs.List.{concat, list_any}
 use Rattle.std.specs.Option.{option_map, option_map_or, option_or}
@@ -15,7 +15,7 @@ use Rattle.memcache_model.specs.declared.command.Exptime.TheVariants.{Never}
 use Rattle.memcache_model.specs.declared.command.Meta.{Meta}
 use Rattle.memcache_model.specs.declared.command.Meta.TheVariants.{Get, Delete, Arithmetic}
 use Rattle.memcache_model.specs.declared.fault.ProtocolError.{ProtocolError}
-use Rattle.memcache_model.specs.declared.fault.ProtocolError.TheVariants.{Flag, Token, Mode}
+use Rattle.memcache_model.specs.declared.fault.ProtocolError.TheVariants.{Flag, Token, Opaque, ModeLength, SetMode, CountMode}
 
 -- ---- flags: a letter, and what stands behind it in its word
 
@@ -53,22 +53,42 @@ abbrev pub exptime_of : List ℕ → List (List ℕ) → Option Exptime
 exptime_of letter words =
     unwrap_or (option_map exptime_in (behind_letter (letter_of letter) words)) None
 
--- what is wrong with a word, if anything is: its letter is none of these, or a number or an expiry behind it is malformed
-abbrev pub word_fault : (letters numbers times : List ℕ) → List ℕ → Option ProtocolError
-word_fault letters numbers times word =
-    if is_one_of letters (letter_of word) then None
-    else (if is_one_of numbers (letter_of word) then
-    (if is_some (number_below (limit_of (letter_of word)) (drop 1 word)) then None
-    else Some Token)
-    else (if is_one_of times (letter_of word) then
-    (if is_some (exptime_in (drop 1 word)) then None else Some Token)
-    else Some Flag))
+-- this is wrong, unless all is right
+abbrev pub fault_unless : Bool → ProtocolError → Option ProtocolError
+fault_unless is_right error = if is_right then None else Some error
+
+-- what is wrong with a word, if anything is: no meta command has its letter, or what stands behind the letter is malformed. What a command
+-- does not use is passed over
+abbrev pub word_fault : List ℕ → Option ProtocolError
+word_fault word =
+    if is_one_of (codes "vkqstcfILP") (letter_of word) then None
+    else (if is_one_of (codes "CDFJ") (letter_of word) then
+    fault_unless (is_some (number_below (limit_of (letter_of word)) (drop 1 word))) Token
+    else (if is_one_of (codes "NRT") (letter_of word) then
+    fault_unless (is_some (exptime_in (drop 1 word))) Token
+    else (if is_one_of (codes "O") (letter_of word) then fault_unless (nat_le (length word) 32) Opaque
+    else (if is_one_of (codes "M") (letter_of word) then fault_unless (length word == 2) ModeLength
+    else Some Flag))))
 
 -- the first fault of the flags
-abbrev pub flags_fault : (letters numbers times : List ℕ) → List (List ℕ) → Option ProtocolError
-flags_fault letters numbers times [] = None
-flags_fault letters numbers times (word ∷ words) =
-    option_or (word_fault letters numbers times word) (flags_fault letters numbers times words)
+abbrev pub flags_fault : List (List ℕ) → Option ProtocolError
+flags_fault [] = None
+flags_fault (word ∷ words) = option_or (word_fault word) (flags_fault words)
+
+-- the mode that `M` names, by its letter, or else this one
+abbrev pub mode_of : (usual : List ℕ) → List (List ℕ) → ℕ
+mode_of usual words =
+    option_map_or letter_of (behind_letter (letter_of (codes "M")) words) (letter_of usual)
+
+-- what is wrong with the flags of a `ms`, if anything is: its modes are to add, append, prepend, replace or set
+abbrev pub set_fault : List (List ℕ) → Option ProtocolError
+set_fault words = option_or (flags_fault words)
+    (fault_unless (is_one_of (codes "EAPRS") (mode_of (codes "S") words)) SetMode)
+
+-- what is wrong with the flags of a `ma`, if anything is: its modes are up and down
+abbrev pub count_fault : List (List ℕ) → Option ProtocolError
+count_fault words = option_or (flags_fault words)
+    (fault_unless (is_one_of (codes "I+D-") (mode_of (codes "I") words)) CountMode)
 
 -- an outcome, unless something is wrong with the flags
 abbrev pub unless_faulty : Option ProtocolError → Outcome → Stock → Outcome
@@ -82,9 +102,19 @@ abbrev pub left_text : ℕ → Option ℕ → List ℕ
 left_text moment None = codes "-1"
 left_text moment (Some deadline) = decimal ((deadline - moment) / 1000)
 
--- what a word of the request has told of an item
-abbrev pub told_of_item : ℕ → (key : List ℕ) → Item → List ℕ → List ℕ
-told_of_item moment key item word =
+-- the letters that have something told by each command
+abbrev pub told_to_get : List ℕ
+told_to_get = codes "kOstcf"
+
+abbrev pub told_to_set : List ℕ
+told_to_set = codes "kOc"
+
+abbrev pub told_to_count : List ℕ
+told_to_count = codes "kOtc"
+
+-- what a word has told of an item, by its letter
+abbrev pub told_by_letter : ℕ → (key : List ℕ) → Item → List ℕ → List ℕ
+told_by_letter moment key item word =
     if is_one_of (codes "k") (letter_of word) then codes " k" ++ key
     else (if is_one_of (codes "O") (letter_of word) then codes " " ++ word
     else (if is_one_of (codes "s") (letter_of word) then
@@ -94,6 +124,11 @@ told_of_item moment key item word =
     else (if is_one_of (codes "c") (letter_of word) then codes " c" ++ decimal item.unique
     else (if is_one_of (codes "f") (letter_of word) then codes " f" ++ decimal item.flags
     else [])))))
+
+-- the same, if its letter is one of these
+abbrev pub told_of_item : (letters : List ℕ) → ℕ → (key : List ℕ) → Item → List ℕ → List ℕ
+told_of_item letters moment key item word =
+    if is_one_of letters (letter_of word) then told_by_letter moment key item word else []
 
 -- what a word has told where there is no item
 abbrev pub told_alone : (key : List ℕ) → List ℕ → List ℕ
@@ -105,10 +140,10 @@ told_alone key word =
 abbrev pub code_alone : List ℕ → List ℕ → List (List ℕ) → List ℕ
 code_alone code key words = code ++ concat (map (told_alone key) words) ++ codes "\r\n"
 
--- a code with what is told of an item
-abbrev pub code_with : ℕ → List ℕ → List ℕ → Item → List (List ℕ) → List ℕ
-code_with moment code key item words =
-    code ++ concat (map (told_of_item moment key item) words) ++ codes "\r\n"
+-- a stored item as a `ms` tells it
+abbrev pub stored_text : (letters : List ℕ) → ℕ → List ℕ → Item → List (List ℕ) → List ℕ
+stored_text letters moment key item words =
+    codes "HD" ++ concat (map (told_of_item letters moment key item) words) ++ codes "\r\n"
 
 -- who holds the lease, as a `mg` tells it
 abbrev pub lease_text : (held stale wins : Bool) → List ℕ
@@ -116,9 +151,9 @@ lease_text held stale wins = (if held then codes " Z" else []) ++ (if stale then
     ++ (if wins then codes " W" else [])
 
 -- an item as a `mg` or `ma` tells it: with its bytes if `v` asks for them
-abbrev pub item_text : ℕ → List ℕ → Item → List (List ℕ) → (lease : List ℕ) → List ℕ
-item_text moment key item words lease =
-    let told = concat (map (told_of_item moment key item) words) ++ lease ++ codes "\r\n" in
+abbrev pub item_text : (letters : List ℕ) → ℕ → List ℕ → Item → List (List ℕ) → (lease : List ℕ) → List ℕ
+item_text letters moment key item words lease =
+    let told = concat (map (told_of_item letters moment key item) words) ++ lease ++ codes "\r\n" in
     if has_flag (codes "v") words then codes "VA " ++ decimal (length item.bytes) ++ told
     ++ item.bytes ++ codes "\r\n" else codes "HD" ++ told
 
@@ -134,18 +169,23 @@ retimed_by moment letter words item =
     option_map_or (λ exptime. record item { deadline = exptime_deadline moment exptime })
     (exptime_of letter words) item
 
--- the item is to be renewed: fewer seconds are left than `R` says
+-- a deadline comes before another
+abbrev pub ends_before : (other : Option ℕ) → Option ℕ → Bool
+ends_before None deadline = false
+ends_before (Some other) None = false
+ends_before (Some other) (Some deadline) = nat_lt deadline other
+
+-- the item is to be renewed: it expires before the moment that `R` says
 abbrev pub is_late : ℕ → List (List ℕ) → Item → Bool
-is_late moment words item = option_map_or (λ deadline.
-    option_map_or (λ seconds. nat_lt ((deadline - moment) / 1000) seconds)
-    (number_of_letter (codes "R") words) false) item.deadline false
+is_late moment words item = ends_before
+    (option_map_or (exptime_deadline moment) (exptime_of (codes "R") words) None) item.deadline
 
 -- a live item is told. Nobody holds its lease, and it is stale or late: then this client wins it
 abbrev pub meta_get_live : ℕ → List ℕ → List (List ℕ) → Item → Stock → Outcome
 meta_get_live moment key words found stock =
     let item = retimed_by moment (codes "T") words found in
     let wins = not item.leased && (item.stale || is_late moment words item) in
-    let text = item_text moment key item words (lease_text item.leased item.stale wins) in
+    let text = item_text told_to_get moment key item words (lease_text item.leased item.stale wins) in
     changes text key (Some (record item { leased = item.leased || wins })) stock
 
 -- an empty item whose lease this client wins
@@ -159,7 +199,8 @@ meta_get_none moment key words None stock =
     says_text (unless_quiet words (code_alone (codes "EN") key words)) stock
 meta_get_none moment key words (Some exptime) stock =
     let item = vivified moment (stock.uniques + 1) exptime in
-    stores_item (item_text moment key item words (lease_text false false true)) key item stock
+    stores_item (item_text told_to_get moment key item words (lease_text false false true)) key item
+    stock
 
 abbrev pub meta_get : ℕ → List ℕ → List (List ℕ) → Option Item → Stock → Outcome
 meta_get moment key words None stock =
@@ -172,7 +213,7 @@ meta_get moment key words (Some item) stock = meta_get_live moment key words ite
 abbrev pub meta_stored : ℕ → List ℕ → List (List ℕ) → Item → Stock → Outcome
 meta_stored moment key words item stock =
     let kept = record item { unique = stock.uniques + 1 } in
-    stores_item (unless_quiet words (code_with moment (codes "HD") key kept words)) key item stock
+    stores_item (unless_quiet words (stored_text told_to_set moment key kept words)) key item stock
 
 -- nothing is stored, and a code says why
 abbrev pub meta_refuses : List ℕ → List ℕ → List (List ℕ) → Stock → Outcome
@@ -182,11 +223,6 @@ meta_refuses code key words stock = says_text (code_alone code key words) stock
 abbrev pub meta_item : ℕ → List (List ℕ) → (block : List ℕ) → Item
 meta_item moment words block = new_item block (unwrap_or (number_of_letter (codes "F") words) 0)
     (exptime_deadline moment (unwrap_or (exptime_of (codes "T") words) Never))
-
--- the mode that `M` names, by its letter: to add, append, prepend, replace or set
-abbrev pub mode_of : List (List ℕ) → ℕ
-mode_of words =
-    option_map_or letter_of (behind_letter (letter_of (codes "M")) words) (letter_of (codes "S"))
 
 -- a block is stored by its mode, over what the key has
 abbrev pub meta_put : ℕ → ℕ → (mode : ℕ) → List ℕ → List (List ℕ) → Item → Option Item → Stock
@@ -206,15 +242,26 @@ meta_put most moment mode key words item (Some old) stock =
     joined bytes = if nat_lt most (length bytes) then meta_refuses (codes "NS") key words stock
         else meta_stored moment key words (record old { bytes = bytes }) stock
 
--- `C` names a unique: the item's own; with `I` also an earlier one, for an item that is stale from the start, with the deadline and the
--- lease of the one before
-abbrev pub meta_compare : ℕ → ℕ → ℕ → List ℕ → List (List ℕ) → Item → Option Item → Stock → Outcome
-meta_compare most moment unique key words item None stock =
-    meta_refuses (codes "NF") key words stock
-meta_compare most moment unique key words item (Some old) stock =
-    if old.unique == unique then
-    meta_put most moment (mode_of words) key words item (Some old) stock
-    else (if has_flag (codes "I") words && nat_lt unique old.unique then
+-- `C` names a unique, and a mode makes something of it over an item: to add does not look at it, and what is appended or prepended to may
+-- also have any, by a 0
+abbrev pub goes_on : (mode unique : ℕ) → Item → Bool
+goes_on mode unique old = old.unique == unique || is_one_of (codes "E") mode
+    || (unique == 0 && is_one_of (codes "AP") mode)
+
+-- with `I` an earlier one is enough to set or replace
+abbrev pub is_renewed : (mode unique : ℕ) → List (List ℕ) → Item → Bool
+is_renewed mode unique words old = is_one_of (codes "SR") mode && has_flag (codes "I") words
+    && nat_lt 0 unique && nat_lt unique old.unique
+
+-- then the item is stale from the start, with the deadline and the lease of the one before
+abbrev pub meta_compare : ℕ → ℕ → (mode unique : ℕ) → List ℕ → List (List ℕ) → Item → Option Item → Stock
+    → Outcome
+meta_compare most moment mode unique key words item None stock =
+    if is_one_of (codes "SR") mode then meta_refuses (codes "NF") key words stock
+    else meta_put most moment mode key words item None stock
+meta_compare most moment mode unique key words item (Some old) stock =
+    if goes_on mode unique old then meta_put most moment mode key words item (Some old) stock
+    else (if is_renewed mode unique words old then
     meta_stored moment key words (record item
     { deadline = old.deadline; stale = true; leased = old.leased }) stock
     else meta_refuses (codes "EX") key words stock)
@@ -225,9 +272,11 @@ meta_set most moment key words block old stock = go (number_of_letter (codes "C"
   where
     go : Option ℕ → Outcome
     go None =
-        meta_put most moment (mode_of words) key words (meta_item moment words block) old stock
+        meta_put most moment (mode_of (codes "S") words) key words (meta_item moment words block)
+        old stock
     go (Some unique) =
-        meta_compare most moment unique key words (meta_item moment words block) old stock
+        meta_compare most moment (mode_of (codes "S") words) unique key words
+        (meta_item moment words block) old stock
 
 -- ---- `md`: deleting, and making stale
 
@@ -253,15 +302,18 @@ meta_delete moment key words (Some item) stock =
 
 -- down, if `M` says so
 abbrev pub direction_of : List (List ℕ) → Direction
-direction_of words =
-    let mode = option_map_or letter_of (behind_letter (letter_of (codes "M")) words) 0 in
-    if is_one_of (codes "D-") mode then Down else Up
+direction_of words = if is_one_of (codes "D-") (mode_of (codes "I") words) then Down else Up
 
--- a number is stored, and told
-abbrev pub meta_counted : ℕ → List ℕ → List (List ℕ) → Item → Stock → Outcome
-meta_counted moment key words item stock =
+-- a number is stored, and told, unless this is so
+abbrev pub meta_counted : ℕ → (is_quiet : Bool) → List ℕ → List (List ℕ) → Item → Stock → Outcome
+meta_counted moment is_quiet key words item stock =
     let kept = record item { unique = stock.uniques + 1 } in
-    stores_item (unless_quiet words (item_text moment key kept words [])) key item stock
+    stores_item (if is_quiet then [] else item_text told_to_count moment key kept words []) key item
+    stock
+
+-- `C` names 0, the unique of no item: then any item is counted
+abbrev pub names_none : List (List ℕ) → Bool
+names_none words = option_map_or (λ unique. unique == 0) (number_of_letter (codes "C") words) false
 
 -- a live item is counted by `D`, or by one
 abbrev pub meta_counts : ℕ → List ℕ → List (List ℕ) → Item → Option ℕ → Stock → Outcome
@@ -270,20 +322,21 @@ meta_counts moment key words item None stock =
 meta_counts moment key words item (Some number) stock =
     let count = counted (direction_of words) number (unwrap_or (number_of_letter (codes "D") words) 1) in
     let timed = retimed_by moment (codes "T") words item in
-    meta_counted moment key words (record timed { bytes = decimal count }) stock
+    meta_counted moment (has_flag (codes "q") words) key words (record timed { bytes = decimal count })
+    stock
 
--- there is no live item: `N` makes one, of `J` or of 0
+-- there is no live item: `N` makes one, of `J` or of 0, which is told even if `q` leaves other replies out
 abbrev pub meta_count_none : ℕ → List ℕ → List (List ℕ) → Option Exptime → Stock → Outcome
 meta_count_none moment key words None stock = meta_refuses (codes "NF") key words stock
 meta_count_none moment key words (Some exptime) stock =
     let bytes = decimal (unwrap_or (number_of_letter (codes "J") words) 0) in
-    meta_counted moment key words (new_item bytes 0 (exptime_deadline moment exptime)) stock
+    meta_counted moment false key words (new_item bytes 0 (exptime_deadline moment exptime)) stock
 
 abbrev pub meta_arithmetic : ℕ → List ℕ → List (List ℕ) → Option Item → Stock → Outcome
 meta_arithmetic moment key words None stock =
     meta_count_none moment key words (exptime_of (codes "N") words) stock
 meta_arithmetic moment key words (Some item) stock =
-    if is_other words item then meta_refuses (codes "EX") key words stock
+    if is_other words item && not (names_none words) then meta_refuses (codes "EX") key words stock
     else meta_counts moment key words item (number_below (2 ^ 64) item.bytes) stock
 
 -- ---- a request
@@ -291,25 +344,15 @@ meta_arithmetic moment key words (Some item) stock =
 -- a command on a key, with the flags that it has
 abbrev pub meta_answer : ℕ → Meta → List ℕ → List (List ℕ) → Option Item → Stock → Outcome
 meta_answer moment Get key words item stock =
-    unless_faulty (flags_fault (codes "vkqOstcf") (codes "R") (codes "NT") words)
-    (meta_get moment key words item stock) stock
+    unless_faulty (flags_fault words) (meta_get moment key words item stock) stock
 meta_answer moment Delete key words item stock =
-    unless_faulty (flags_fault (codes "kqOI") (codes "C") (codes "T") words)
-    (meta_delete moment key words item stock) stock
+    unless_faulty (flags_fault words) (meta_delete moment key words item stock) stock
 meta_answer moment Arithmetic key words item stock =
-    unless_faulty (flags_fault (codes "vkqOstcfM") (codes "CDJ") (codes "NT") words)
-    (meta_arithmetic moment key words item stock) stock
-
--- what is wrong with the mode of a `ms`, if anything is
-abbrev pub mode_fault : List (List ℕ) → Option ProtocolError
-mode_fault words =
-    if is_one_of (codes "EAPRS") (mode_of words) then None else Some Mode
+    unless_faulty (count_fault words) (meta_arithmetic moment key words item stock) stock
 
 -- a `ms` with its block
 abbrev pub meta_set_answer : ℕ → ℕ → List ℕ → List (List ℕ) → (block : List ℕ) → Option Item
     → Stock → Outcome
 meta_set_answer most moment key words block item stock =
-    unless_faulty
-    (option_or (flags_fault (codes "kqOstcfIM") (codes "CF") (codes "T") words)
-    (mode_fault words))
+    unless_faulty (set_fault words)
     (meta_set most moment key words block item stock) stock

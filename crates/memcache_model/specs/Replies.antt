@@ -3,7 +3,7 @@ use Rattle.std.specs.Prelude.{ℕ, Bool, List, [], ◌++◌, length, Option, Som
 use Rattle.std.specs.Fmt.{decimal}
 use Rattle.memcache_model.specs.Items.{Item}
 use Rattle.memcache_model.specs.declared.fault.ProtocolError.{ProtocolError}
-use Rattle.memcache_model.specs.declared.fault.ProtocolError.TheVariants.{Unknown, Format, Delete, Chunk, Exptime, Delta, Flag, Token, Mode, TooLong}
+use Rattle.memcache_model.specs.declared.fault.ProtocolError.TheVariants.{Unknown, Format, Delete, Chunk, Exptime, Delta, Flag, Token, Opaque, ModeLength, SetMode, CountMode, TooLong, Foreign}
 
 -- the text of an error
 abbrev pub error_text : ProtocolError → List ℕ
@@ -16,8 +16,12 @@ error_text Exptime = codes "CLIENT_ERROR invalid exptime argument\r\n"
 error_text Delta = codes "CLIENT_ERROR invalid numeric delta argument\r\n"
 error_text Flag = codes "CLIENT_ERROR invalid flag\r\n"
 error_text Token = codes "CLIENT_ERROR bad token in command line format\r\n"
-error_text Mode = codes "CLIENT_ERROR invalid mode for ms M token\r\n"
+error_text Opaque = codes "CLIENT_ERROR opaque token too long\r\n"
+error_text ModeLength = codes "CLIENT_ERROR incorrect length for M token\r\n"
+error_text SetMode = codes "CLIENT_ERROR invalid mode for ms M token\r\n"
+error_text CountMode = codes "CLIENT_ERROR invalid mode for ma M token\r\n"
 error_text TooLong = codes "CLIENT_ERROR line too long\r\n"
+error_text Foreign = []
 
 -- the unique behind a size, where it is told
 abbrev pub unique_text : Bool → ℕ → List ℕ

@@ -5,7 +5,7 @@
 pub enum Exptime {
     /// Never: the expiry was given as 0.
     Never,
-    /// At once: the expiry was negative.
+    /// At once: the expiry was negative, as a number of 32 bits with a sign.
     AtOnce,
     /// A number of seconds from 1 on: at most 2,592,000, which are 30 days, count from now, and more is a moment of Unix time.
     Seconds(u32),

@@ -19,8 +19,16 @@ pub enum ProtocolError {
     Flag,
     /// What stands behind the letter of a flag is malformed.
     Token,
+    /// An opaque has more than 32 bytes, with its letter.
+    Opaque,
+    /// What stands behind an `M` is not one letter.
+    ModeLength,
     /// A `ms` does not have the mode.
-    Mode,
+    SetMode,
+    /// A `ma` does not have the mode.
+    CountMode,
     /// The line is too long: the connection is closed behind the reply.
     TooLong,
+    /// The client speaks HTTP, or memcached's binary protocol: the connection is closed, without a reply.
+    Foreign,
 }

@@ -39,6 +39,7 @@ served view moment request all old mid new final before after written reply kept
   text = text;
   written = wrote ∙ ap (λ begun. begun ++ (if request.quiet then [] else text)) answered.begun;
   does = ⊎_elim (λ d. inl (done d)) (λ r. inr (refused r)) answered.does;
+  ends = answered.ends;
 }
   where
     text : List ℕ

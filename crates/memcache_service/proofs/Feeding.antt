@@ -1,5 +1,5 @@
 -- What a piece that is fed comes to.
-use Rattle.std.proofs.Common.{◌≡◌, ◌∙◌, ℕ, arith, Bool, true, false, List, [], ◌∷◌, ◌++◌, length, Result, Ok, Err, OnOk, OnErr, refl, sym, ap, subst}
+use Rattle.std.proofs.Common.{◌≡◌, ◌∙◌, ℕ, arith, Bool, false, List, [], ◌∷◌, ◌++◌, length, Result, Ok, Err, OnOk, OnErr, refl, sym, ap, subst}
 use Rattle.memcache_service.specs.Serving.{AreServed, HasLacked, HasRun, no_more}
 use Rattle.memcache_service.specs.Shelves.{Shelved}
 use Rattle.memcache_service.specs.declared.connection.Connection.{Connection}

@@ -1,13 +1,14 @@
 -- What a call leaves that did what it was to do, or was refused.
-use Rattle.std.proofs.Common.{◌≡◌, ℕ, ⊎_elim, inl, inr, ◌∙◌, refl, sym, subst, ap, Bool, true, false, List, Some, Result, Ok, Err, IfOk, OnErr}
+use Rattle.std.proofs.Common.{◌≡◌, ℕ, ⊎_elim, inl, inr, ◌∙◌, refl, sym, subst, ap, true, true≢false, List, Some, Result, Ok, Err, IfOk, OnErr}
 use Rattle.std.proofs.lemmas.Bool.{cases_Bool}
 use Rattle.std.proofs.lemmas.Slice.Eq.{bytes_eq-Decides}
-use Rattle.std.specs.Prelude.{if◌then◌else◌}
 use Rattle.std.specs.Str.{bytes_eq}
+use Rattle.memcache_model.specs.Commands.{Command}
+use Rattle.memcache_model.specs.Commands as model
 use Rattle.memcache_model.specs.Items.{Item, with_item}
 use Rattle.memcache_model.specs.Outcomes.{Outcome}
 use Rattle.memcache_service.specs.Shelves.{MayComeAt, Shelved, live_on}
-use Rattle.memcache_service.specs.Stocks.{Did, LeavesStock, LeavesAll, Spares, stock_at}
+use Rattle.memcache_service.specs.Stocks.{Did, EndsStatistics, LeavesStock, LeavesAll, Spares, is_short, stock_at}
 use Rattle.memcache_service.specs.declared.stock.Stock.{Stock}
 
 -- a call may follow at the moment of one that did what it was to do, or was refused
@@ -38,6 +39,26 @@ same_item view moment key item old new is kept = record {
         (λ e. rw e (ap (live_on (view old.shelf) moment) ((bytes_eq-Decides k key).0 e) ∙ is))
         (λ e. rw e refl)
         (cases_Bool (bytes_eq k key))
+
+-- a short command tells no statistics
+pub short_ends : (command : Command) (text : List ℕ) → is_short command ≡ true → EndsStatistics command text
+short_ends (model.get uniques keys) text e = absurd (true≢false (sym e))
+short_ends (model.gat uniques exptime keys) text e = absurd (true≢false (sym e))
+short_ends (model.store storage key flags exptime block) text e = tt
+short_ends (model.oversize storage key) text e = tt
+short_ends (model.delete key) text e = tt
+short_ends (model.arithmetic direction key delta) text e = tt
+short_ends (model.touch key exptime) text e = tt
+short_ends (model.flush_all exptime) text e = tt
+short_ends (model.stats words) text e = absurd (true≢false (sym e))
+short_ends model.version text e = tt
+short_ends model.verbosity text e = tt
+short_ends model.quit text e = tt
+short_ends model.meta_no_op text e = tt
+short_ends (model.meta kind key flags) text e = absurd (true≢false (sym e))
+short_ends (model.meta_set key flags block) text e = absurd (true≢false (sym e))
+short_ends (model.meta_oversize key flags) text e = tt
+short_ends (model.malformed error) text e = tt
 
 -- what it stands for, by its parts
 pub stands : {T : Type 0} (view : T → Shelved) (moment : ℕ) (a b : Stock T) → view a.shelf ≡ view b.shelf → a.uniques ≡ b.uniques → a.flush ≡ b.flush → stock_at view moment a ≡ stock_at view moment b

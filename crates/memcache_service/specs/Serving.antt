@@ -4,7 +4,7 @@ use Rattle.std.specs.Prelude.{◌≡◌, ℕ, ◌-◌, ◌<◌, Bool, true, fals
 use Rattle.memcache_model.specs.Commands.{Command, Request, malformed, quit}
 use Rattle.memcache_model.specs.Grammar.{arrived, part, request}
 use Rattle.memcache_model.specs.Items.{live_stock}
-use Rattle.memcache_model.specs.declared.fault.ProtocolError.TheVariants.{TooLong}
+use Rattle.memcache_model.specs.declared.fault.ProtocolError.TheVariants.{Foreign, TooLong}
 use Rattle.memcache_service.specs.Shelves.{Shelved}
 use Rattle.memcache_service.specs.Stocks.{WritesReply, Spares, kept_until}
 use Rattle.memcache_service.specs.declared.connection.Connection.{Connection}
@@ -15,6 +15,7 @@ use Rattle.memcache_service.specs.declared.stock.Stock.{Stock}
 abbrev pub ends_behind : Command → Bool
 ends_behind quit = true
 ends_behind (malformed TooLong) = true
+ends_behind (malformed Foreign) = true
 ends_behind command = false
 
 module _ {T : Type 0} (view : T → Shelved) (moment : ℕ) where

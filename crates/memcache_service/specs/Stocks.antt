@@ -1,5 +1,6 @@
 -- What a stock stands for, and what a command does to it.
-use Rattle.std.specs.Prelude.{◌≡◌, ℕ, ◌⊎◌, Bool, true, false, List, [], ◌++◌, length, take, if◌then◌else◌, Option, Some, None, codes}
+use Rattle.std.specs.Prelude.{◌≡◌, ℕ, ◌⊎◌, ◌||◌, Bool, true, false, List, [], ◌∷◌, ◌++◌, length, take, if◌then◌else◌, Option, Some, None, codes}
+use Rattle.std.specs.Str.{bytes_eq}
 use Rattle.memcache_model.specs.Commands.{Command, Request, get, gat, stats, meta, meta_set}
 use Rattle.memcache_model.specs.Items as model
 use Rattle.memcache_model.specs.Answers.{Service, answer, touched}
@@ -7,7 +8,7 @@ use Rattle.memcache_model.specs.Items.{Item, exptime_deadline}
 use Rattle.memcache_model.specs.Outcomes.{Outcome, new_item, says_text, stores_item}
 use Rattle.memcache_service.specs.Lines.{reply_text, said_from}
 use Rattle.memcache_service.specs.declared.replies.Reply.{Reply}
-use Rattle.memcache_service.specs.declared.replies.Reply.TheVariants.{NoMemory, NoRoom}
+use Rattle.memcache_service.specs.declared.replies.Reply.TheVariants.{NoMemory, NoRoom, NoStatistics, Reset}
 use Rattle.memcache_service.specs.Shelves.{MayComeAt, Shelved, live_on}
 use Rattle.memcache_service.specs.declared.stock.Stock.{Stock}
 use Rattle.memcache_service.specs.declared.stock.storing.Block.{Block}
@@ -32,6 +33,32 @@ IsRefusal text = (text ≡ reply_text NoMemory) ⊎ (text ≡ reply_text NoRoom)
 -- the item of a block
 abbrev pub block_item : Block → Item
 block_item block = new_item block.bytes.now block.flags block.deadline
+
+-- a word that statistics are told of
+abbrev pub is_topic : List ℕ → Bool
+is_topic word = bytes_eq word (codes "") || bytes_eq word (codes "settings")
+    || bytes_eq word (codes "items") || bytes_eq word (codes "slabs")
+
+-- how statistics end
+abbrev pub topic_end : (word : List ℕ) → List ℕ
+topic_end word = if is_topic word then codes "END\r\n" else codes "ERROR\r\n"
+
+-- the first word, or an empty one
+abbrev pub topic_of : List (List ℕ) → List ℕ
+topic_of [] = []
+topic_of (word ∷ words) = word
+
+-- how the reply of a `stats` ends, by its words
+abbrev pub stats_end : List (List ℕ) → List ℕ
+stats_end words =
+    let word = topic_of words in
+    if bytes_eq word (codes "reset") then reply_text Reset else topic_end word
+
+-- the reply of a `stats` ends so, unless memory is lacking
+abbrev pub EndsStatistics : Command → List ℕ → Type 0
+EndsStatistics (stats words) text =
+    (text ≡ reply_text NoStatistics) ⊎ ((lines : List ℕ) × (text ≡ lines ++ stats_end words))
+EndsStatistics command text = Unit {0}
 
 -- an item with more bytes is stored, if it may have them
 abbrev pub appends_to : List ℕ → Option Item → model.Stock → Outcome
@@ -116,6 +143,7 @@ module _ {T : Type 0} (view : T → Shelved) where
     pub begun : take (length before) after ≡ before
     pub does : DoesIfRoom moment command (stock_at moment old) old new
         (said_from (length before) after reply)
+    pub ends : EndsStatistics command (said_from (length before) after reply)
 
   -- a request wrote its reply behind what stood there, unless it is quiet
   pub record WritesReply (moment : ℕ) (all : model.Stock) (request : Request) (old new : Stock T)
@@ -123,3 +151,4 @@ module _ {T : Type 0} (view : T → Shelved) where
     pub text : List ℕ
     pub written : after ≡ before ++ (if request.quiet then [] else text)
     pub does : DoesIfRoom moment request.command all old new text
+    pub ends : EndsStatistics request.command text

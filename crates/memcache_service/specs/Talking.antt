@@ -1,8 +1,12 @@
--- What is done with one connection of a service, beside feeding it.
+-- What is done with one connection of a service, beside feeding it, and when.
 use Rattle.slab.specs.Slab.{Slab, Updates, get}
-use Rattle.std.specs.Prelude.{◌≡◌, ℕ, List, [], Some, None, false}
+use Rattle.std.specs.Prelude.{◌≡◌, ℕ, ◌^◌, ◌&&◌, nat_lt, if◌then◌else◌, List, [], Some, None, false}
 use Rattle.memcache_service.specs.declared.connection.Connection.{Connection}
 use Rattle.memcache_service.specs.declared.stock.Stock.{Stock}
+
+-- the moment of a call: the later of that of the last call and the one that it is handed, unless that one is too late
+abbrev pub later_of : (last moment : ℕ) → ℕ
+later_of last moment = if nat_lt last moment && nat_lt moment (2 ^ 43) then moment else last
 
 -- nothing was fed to it, and it was told nothing
 pub record IsUnused (connection : Connection) : Type 0 where

@@ -1,8 +1,8 @@
 -- What a reply tells of an item.
-use Rattle.std.specs.Prelude.{ℕ, ◌-◌, ◌/◌, Bool, false, not, ◌&&◌, ◌||◌, nat_lt, List, ◌++◌, length, Option, Some, None, if◌then◌else◌, codes}
+use Rattle.std.specs.Prelude.{ℕ, Bool, false, not, ◌&&◌, ◌||◌, nat_lt, List, ◌++◌, length, Option, Some, None, if◌then◌else◌, codes}
 use Rattle.std.specs.Option.{option_map_or}
-use Rattle.memcache_model.specs.Items.{Item}
-use Rattle.memcache_model.specs.Meta.{is_late, is_one_of, item_text, lease_text, number_of_letter, retimed_by}
+use Rattle.memcache_model.specs.Items.{Item, exptime_deadline}
+use Rattle.memcache_model.specs.Meta.{exptime_of, ends_before, is_late, is_one_of, item_text, lease_text, retimed_by, told_to_get}
 use Rattle.memcache_service.specs.declared.stock.telling.Told.{Told}
 
 -- the item that it tells of, without its lease
@@ -16,18 +16,17 @@ told_item told = record {
   leased = false;
 }
 
--- fewer seconds are left until a deadline than `R` says
+-- a deadline comes before the moment that `R` says
 abbrev pub late_by : ℕ → List (List ℕ) → Option ℕ → Bool
-late_by moment words deadline = option_map_or (λ d.
-    option_map_or (λ seconds. nat_lt ((d - moment) / 1000) seconds)
-    (number_of_letter (codes "R") words) false) deadline false
+late_by moment words deadline = ends_before
+    (option_map_or (exptime_deadline moment) (exptime_of (codes "R") words) None) deadline
 
 -- what a `mg` tells of a live item
 abbrev pub told_found : ℕ → (key : List ℕ) → List (List ℕ) → Item → List ℕ
 told_found moment key words found =
     let item = retimed_by moment (codes "T") words found in
     let wins = not item.leased && (item.stale || is_late moment words item) in
-    item_text moment key item words (lease_text item.leased item.stale wins)
+    item_text told_to_get moment key item words (lease_text item.leased item.stale wins)
 
 -- and what it leaves of it
 abbrev pub found_item : ℕ → List (List ℕ) → Item → Item

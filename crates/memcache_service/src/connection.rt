@@ -44,7 +44,8 @@ impl Connection {
         }
     }
 
-    /// Returns whether no further request runs: the client has quit, a line was too long, or there was not enough memory.
+    /// Returns whether no further request runs: the client has quit, a line was too long, the client speaks another protocol,
+    /// or there was not enough memory.
     pub fn is_closed(&self) -> bool
         ensures { result ≡ self.now.is_closed }
     {
@@ -269,7 +270,9 @@ fn ends(command: &Command<'_>) -> bool
     ensures { result ≡ ends_behind (asks command.now) }
 {
     match *command {
-        Command::Quit | Command::Malformed(ProtocolError::TooLong) => true,
+        Command::Quit
+        | Command::Malformed(ProtocolError::TooLong)
+        | Command::Malformed(ProtocolError::Foreign) => true,
         _ => false,
     }
 }

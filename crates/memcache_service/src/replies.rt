@@ -127,8 +127,12 @@ pub fn error_text(error: ProtocolError) -> &'static [u8]
         ProtocolError::Delta => b"CLIENT_ERROR invalid numeric delta argument\r\n",
         ProtocolError::Flag => b"CLIENT_ERROR invalid flag\r\n",
         ProtocolError::Token => b"CLIENT_ERROR bad token in command line format\r\n",
-        ProtocolError::Mode => b"CLIENT_ERROR invalid mode for ms M token\r\n",
+        ProtocolError::Opaque => b"CLIENT_ERROR opaque token too long\r\n",
+        ProtocolError::ModeLength => b"CLIENT_ERROR incorrect length for M token\r\n",
+        ProtocolError::SetMode => b"CLIENT_ERROR invalid mode for ms M token\r\n",
+        ProtocolError::CountMode => b"CLIENT_ERROR invalid mode for ma M token\r\n",
         ProtocolError::TooLong => b"CLIENT_ERROR line too long\r\n",
+        ProtocolError::Foreign => b"",
     }
 }
 

@@ -2,7 +2,7 @@
 ghost use Rattle.slab.specs.Slab.{Updates, get};
 ghost use Rattle.std.specs.Prelude.{◌≡◌, ◌≢◌, ◌↔◌, ◌≤◌, ◌<◌, ◌^◌, ℕ, [], None, Ok, IfOk, IsTrue, MatchOption, OnErr, false, length};
 ghost use Rattle.memcache_service.specs.Serving.{FailsToFeed, HasFed, IsDoneFor};
-ghost use Rattle.memcache_service.specs.Talking.{HasOpened, HasTaken};
+ghost use Rattle.memcache_service.specs.Talking.{HasOpened, HasTaken, later_of};
 ghost use Rattle.memcache_service.specs.Shelves.{IsWithinCapacity, MayComeAt};
 
 use crate::connection::Connection;
@@ -87,6 +87,7 @@ impl<T: Shelf> Service<T> {
             → (result ≡ Ok false) × (self.new.connections ≡ self.old.connections)
             × (self.new.stock ≡ self.old.stock) }
         ensures later { self.old.moment ≤ self.new.moment }
+        ensures moment { self.new.moment ≡ later_of self.old.moment moment }
         ensures capacity { (T.view self.new.stock.shelf).capacity
             ≡ (T.view self.old.stock.shelf).capacity }
     {
@@ -103,7 +104,10 @@ impl<T: Shelf> Service<T> {
                     Err(AllocError) => Err(AllocError),
                 }
             }
-            None => Ok(false),
+            None => {
+                self.moment = now;
+                Ok(false)
+            }
         }
     }
 
@@ -157,6 +161,7 @@ impl<T: Shelf> Service<T> {
 /// The later of two moments, or the first if the second is too late.
 fn later(last: u64, moment: u64) -> u64
     requires { last < 2 ^ 43 }
+    ensures moment { result ≡ later_of last moment }
     ensures later { last ≤ result }
     ensures early { result < 2 ^ 43 }
 {

@@ -1,5 +1,5 @@
 //! Items by key, in a cache.
-ghost use Rattle.std.specs.Prelude.{◌≡◌, ℕ, List, OnOk, OnErr, Some, None, is_some, option_map};
+ghost use Rattle.std.specs.Prelude.{◌≡◌, ℕ, ◌≤◌, List, OnOk, OnErr, Some, None, is_some, option_map};
 ghost use Rattle.memcache_model.specs.Items.{Item, nothing, with_item};
 ghost use Rattle.memcache_service.specs.Shelves.{Becomes, IsWithinCapacity, MayComeAt, OnlyLeave, Shelved, live_on};
 
@@ -37,11 +37,13 @@ pub trait Shelf: Drop {
         ensures used { Becomes moment ((view self.old).items moment) (view self.new) }
         ensures capacity { (view self.new).capacity ≡ (view self.old).capacity };
 
-    /// Stores an item under a key. Returns an error if there is not enough memory; then nothing has changed.
+    /// Stores an item under a key. Returns an error if there is not enough memory, or if the item weighs more than all items may; then
+    /// nothing has changed.
     fn put(&mut self, key: &Key, item: StoredItem, moment: u64) -> Result<(), AllocError>
         requires { MayComeAt (view self.old) moment }
         ensures puts { OnOk result (Becomes moment
             (with_item key.now (Some item) ((view self.old).items moment)) (view self.new)) }
+        ensures fits { OnOk result (weigh key.now item ≤ (view self.old).capacity) }
         ensures capacity { (view self.new).capacity ≡ (view self.old).capacity }
         ensures unchanged { OnErr result (self.new ≡ self.old) };
 

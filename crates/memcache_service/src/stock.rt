@@ -148,7 +148,7 @@ impl<T: Shelf> Stock<T> {
     }
 
     /// Does what a command asks for. It writes the reply, or returns it if it is one of a line.
-    #[tactic(auto, using(crate::proofs::Keeping::may_follow, crate::proofs::Keeping::most_kept))]
+    #[tactic(auto, using(crate::proofs::Keeping::may_follow, crate::proofs::Keeping::most_kept, crate::proofs::Keeping::short_ends))]
     fn answer(&mut self, command: &Command<'_>, moment: u64, output: &mut Vec<u8>) -> Reply
         requires { MayComeAt (T.view self.old.shelf) moment }
         ensures answered { AnswersCommand T.view moment (asks command.now) self.old self.new
@@ -208,6 +208,7 @@ impl<T: Shelf> Stock<T> {
                 block,
             } => { self.store(storage, key, flags, exptime, block, moment) }
             Command::Oversize { storage, key } => self.pass_over(storage, key, moment),
+            Command::MetaOversize { key, flags } => self.meta_pass_over(key, flags, moment),
             Command::Delete { key } => self.delete(key, moment),
             Command::Arithmetic {
                 direction,

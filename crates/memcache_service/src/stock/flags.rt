@@ -1,10 +1,13 @@
 //! The flags of a meta command: letters, and what stands behind them in their words.
-ghost use Rattle.std.specs.Prelude.{◌≡◌, ◌∷◌, [], codes, drop, is_some, unwrap_or, Some, None, if◌then◌else◌, option_map};
+ghost use Rattle.std.specs.Prelude.{◌≡◌, ◌∷◌, [], codes, drop, is_some, nat_le, unwrap_or, ◌==◌, Some, if◌then◌else◌, option_map};
 ghost use Rattle.memcache_model.specs.Bytes.{number_below, tokens};
-ghost use Rattle.memcache_model.specs.Meta.{behind_letter, direction_of, exptime_of, flags_fault, is_one_of, letter_of, limit_of, mode_fault, mode_of, number_of_letter, word_fault};
+ghost use Rattle.memcache_model.specs.Meta.{behind_letter, count_fault, direction_of, exptime_of, fault_unless, flags_fault, is_one_of, letter_of, limit_of, mode_of, number_of_letter, set_fault, word_fault};
 
 use memcache_lines::{exptime, next_token, number, short_number};
 use memcache_model::{Direction, Exptime, ProtocolError};
+
+/// An opaque has at most this many bytes, with its letter.
+const MAX_OPAQUE: usize = 32;
 
 /// Returns the letter of a word, or 0 if the word is empty.
 pub fn letter_of(word: &[u8]) -> u8
@@ -92,87 +95,99 @@ pub fn exptime_of(letter: u8, words: &[u8]) -> Option<Exptime>
     }
 }
 
-/// The letters that a command's flags may have: those with anything behind them, with a number, and with an expiry.
-#[derive(Clone, Copy)]
-pub struct Letters {
-    /// The letters that may have anything behind them.
-    pub others: &'static [u8],
-    /// The letters that have a number behind them.
-    pub numbers: &'static [u8],
-    /// The letters that have an expiry behind them.
-    pub times: &'static [u8],
+/// Returns what is wrong with the flags of a meta command, or `None` if nothing is. What a command does not use is passed over.
+pub fn flags_fault(words: &[u8]) -> Option<ProtocolError>
+    ensures { result ≡ flags_fault (tokens words.now) }
+{
+    let mut rest = words;
+    while let Some((word, more)) = next_token(rest) {
+        if let Some(error) = word_fault(word) {
+            return Some(error);
+        }
+        rest = more;
+    }
+    None
 }
 
-impl Letters {
-    /// Returns what is wrong with the flags, or `None` if nothing is.
-    pub fn fault(&self, words: &[u8]) -> Option<ProtocolError>
-        ensures { result ≡ flags_fault self.now.others.now self.now.numbers.now self.now.times.now
-            (tokens words.now) }
-    {
-        let mut rest = words;
-        while let Some((word, more)) = next_token(rest) {
-            if let Some(error) = self.word_fault(word) {
-                return Some(error);
-            }
-            rest = more;
-        }
+/// What is wrong with a word, if anything is: no meta command has its letter, or what stands behind the letter is malformed.
+fn word_fault(word: &[u8]) -> Option<ProtocolError>
+    ensures { result ≡ word_fault word.now }
+{
+    let letter = letter_of(word);
+    if is_one_of(b"vkqstcfILP", letter) {
         None
-    }
-
-    /// What is wrong with a word, if anything is: its letter is none of these, or a number or an expiry behind it is malformed.
-    fn word_fault(&self, word: &[u8]) -> Option<ProtocolError>
-        ensures { result ≡ word_fault self.now.others.now self.now.numbers.now self.now.times.now
-            word.now }
-    {
-        let letter = letter_of(word);
-        if is_one_of(self.others, letter) {
-            None
-        } else if is_one_of(self.numbers, letter) {
-            fault_unless(number_behind(letter, behind(word)).is_some())
-        } else if is_one_of(self.times, letter) {
-            fault_unless(exptime(behind(word)).is_some())
-        } else {
-            Some(ProtocolError::Flag)
-        }
+    } else if is_one_of(b"CDFJ", letter) {
+        let number = number_behind(letter, behind(word));
+        fault_unless(number.is_some(), ProtocolError::Token)
+    } else if is_one_of(b"NRT", letter) {
+        let exptime = exptime(behind(word));
+        fault_unless(exptime.is_some(), ProtocolError::Token)
+    } else {
+        long_word_fault(letter, word.len())
     }
 }
 
-/// Whether a letter is one of these.
-fn is_one_of(letters: &[u8], letter: u8) -> bool
+/// The same of a word whose letter says how long the word may be.
+fn long_word_fault(letter: u8, len: usize) -> Option<ProtocolError>
+    ensures { result ≡ (if is_one_of (codes "O") letter
+        then fault_unless (nat_le len 32) ProtocolError.Opaque
+        else (if is_one_of (codes "M") letter
+        then fault_unless (len == 2) ProtocolError.ModeLength else Some ProtocolError.Flag)) }
+{
+    match letter {
+        b'O' => fault_unless(len <= MAX_OPAQUE, ProtocolError::Opaque),
+        b'M' => fault_unless(len == 2, ProtocolError::ModeLength),
+        _ => Some(ProtocolError::Flag),
+    }
+}
+
+/// Returns whether a letter is one of these.
+pub fn is_one_of(letters: &[u8], letter: u8) -> bool
     ensures { result ≡ is_one_of letters.now letter }
 {
     letters.iter().any(|l| *l == letter)
 }
 
-/// A malformed word, unless it is right.
-fn fault_unless(is_right: bool) -> Option<ProtocolError>
-    ensures { result ≡ (if is_right then None else Some ProtocolError.Token) }
+/// This fault, unless all is right.
+fn fault_unless(is_right: bool, error: ProtocolError) -> Option<ProtocolError>
+    ensures { result ≡ fault_unless is_right error }
 {
-    if is_right {
-        None
-    } else {
-        Some(ProtocolError::Token)
-    }
+    if is_right { None } else { Some(error) }
 }
 
-/// Returns the mode that `M` names, by its letter, or that of a `set` if there is no `M`.
-pub fn mode_of(words: &[u8]) -> u8
-    ensures { result ≡ mode_of (tokens words.now) }
+/// Returns the mode that `M` names, by its letter, or else the usual one.
+pub fn mode_of(usual: u8, words: &[u8]) -> u8
+    ensures { result ≡ mode_of (usual ∷ []) (tokens words.now) }
 {
     match behind_letter(b'M', words) {
         Some(mode) => letter_of(mode),
-        None => b'S',
+        None => usual,
     }
 }
 
-/// Returns what is wrong with the mode of a `ms`, or `None` if nothing is.
-pub fn mode_fault(words: &[u8]) -> Option<ProtocolError>
-    ensures { result ≡ mode_fault (tokens words.now) }
+/// Returns what is wrong with the flags of a `ms`, or `None` if nothing is.
+pub fn set_fault(words: &[u8]) -> Option<ProtocolError>
+    ensures { result ≡ set_fault (tokens words.now) }
 {
-    if is_one_of(b"EAPRS", mode_of(words)) {
-        None
-    } else {
-        Some(ProtocolError::Mode)
+    match flags_fault(words) {
+        Some(error) => Some(error),
+        None => {
+            let has_mode = is_one_of(b"EAPRS", mode_of(b'S', words));
+            fault_unless(has_mode, ProtocolError::SetMode)
+        }
+    }
+}
+
+/// Returns what is wrong with the flags of a `ma`, or `None` if nothing is.
+pub fn count_fault(words: &[u8]) -> Option<ProtocolError>
+    ensures { result ≡ count_fault (tokens words.now) }
+{
+    match flags_fault(words) {
+        Some(error) => Some(error),
+        None => {
+            let has_mode = is_one_of(b"I+D-", mode_of(b'I', words));
+            fault_unless(has_mode, ProtocolError::CountMode)
+        }
     }
 }
 
@@ -180,17 +195,7 @@ pub fn mode_fault(words: &[u8]) -> Option<ProtocolError>
 pub fn direction_of(words: &[u8]) -> Direction
     ensures { result ≡ direction_of (tokens words.now) }
 {
-    match behind_letter(b'M', words) {
-        Some(mode) => direction_by(letter_of(mode)),
-        None => Direction::Up,
-    }
-}
-
-/// The same by the letter of its mode.
-fn direction_by(letter: u8) -> Direction
-    ensures { result ≡ (if is_one_of (codes "D-") letter then Direction.Down else Direction.Up) }
-{
-    if is_one_of(b"D-", letter) {
+    if is_one_of(b"D-", mode_of(b'I', words)) {
         Direction::Down
     } else {
         Direction::Up

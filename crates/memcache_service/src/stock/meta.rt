@@ -1,54 +1,31 @@
 //! The meta commands.
-ghost use Rattle.std.specs.Prelude.{◌≡◌, ◌+◌, ◌≤◌, ◌<◌, ◌^◌, ◌++◌, ◌&&◌, ◌||◌, [], not, true, false, codes, length, take, None, Some, IfOk, OnOk, OnErr, MatchOption, option_map, vec_capacity};
+ghost use Rattle.std.specs.Prelude.{◌≡◌, ◌+◌, ◌≤◌, ◌<◌, ◌^◌, ◌++◌, ◌&&◌, ◌||◌, ℕ, [], not, true, false, codes, length, take, None, Some, IfOk, OnOk, OnErr, MatchOption, option_map, vec_capacity};
 ghost use Rattle.std.specs.Option.{option_or};
+ghost use Rattle.memcache_model.specs.Answers.{passes_over};
 ghost use Rattle.memcache_model.specs.Bytes.{tokens};
 ghost use Rattle.memcache_model.specs.Items.{Item};
-ghost use Rattle.memcache_model.specs.Meta.{code_alone, code_with, flags_fault, item_text, unless_quiet, is_other, meta_answer, meta_arithmetic, meta_compare, meta_counted, meta_get, meta_get_none, meta_item, meta_put, meta_set_answer, meta_stored, mode_fault, mode_of, retimed_by};
+ghost use Rattle.memcache_model.specs.Meta.{code_alone, goes_on, ends_before, is_other, is_renewed, item_text, meta_answer, meta_arithmetic, meta_compare, meta_counted, meta_get, meta_get_none, meta_item, meta_put, meta_set_answer, meta_stored, mode_of, names_none, retimed_by, set_fault, stored_text, told_to_count, told_to_set, unless_faulty, unless_quiet};
 ghost use Rattle.memcache_model.specs.Outcomes.{changes};
-ghost use Rattle.memcache_service.specs.Lines.{said_from};
+ghost use Rattle.memcache_service.specs.Lines.{reply_text, said_from};
 ghost use Rattle.memcache_service.specs.Shelves.{MayComeAt, live_on};
 ghost use Rattle.memcache_service.specs.Stocks.{Did, LeavesAll, Spares, stock_at};
 ghost use Rattle.memcache_service.specs.Told.{found_item, late_by, moded, told_found};
 
 use super::Stock;
 use super::flags::{
-    Letters, direction_of, exptime_of, flags_of, has_flag, mode_fault, mode_of, number_of,
+    count_fault, direction_of, exptime_of, flags_fault, flags_of, has_flag, is_one_of, mode_of,
+    number_of, set_fault,
 };
 use super::keys::counted;
 use super::storing::{before_within, behind_within};
-use super::telling::{Lease, Told, say_alone};
+use super::telling::{Lease, TOLD_TO_COUNT, TOLD_TO_GET, TOLD_TO_SET, Told, say_alone};
 use crate::counters::Tally;
 use crate::item::{StoredItem, deadline_of};
 use crate::replies::Reply;
 use crate::shelf::Shelf;
 use memcache_lines::number;
-use memcache_model::{Exptime, Meta, ProtocolError};
+use memcache_model::{Exptime, Meta, Storage};
 use std::alloc::{AllocError, Global};
-
-/// The flags of each command.
-const GET: Letters = Letters {
-    others: b"vkqOstcf",
-    numbers: b"R",
-    times: b"NT",
-};
-
-const SET: Letters = Letters {
-    others: b"kqOstcfIM",
-    numbers: b"CF",
-    times: b"T",
-};
-
-const DELETE: Letters = Letters {
-    others: b"kqOI",
-    numbers: b"C",
-    times: b"T",
-};
-
-const ARITHMETIC: Letters = Letters {
-    others: b"vkqOstcfM",
-    numbers: b"CDJ",
-    times: b"NT",
-};
 
 /// Nobody holds a lease, nor wins one.
 const NO_LEASE: Lease = Lease {
@@ -117,6 +94,27 @@ impl<T: Shelf> Stock<T> {
         self.meta_put(asked, block, output)
     }
 
+    /// Passes over the block of a `ms` that was too large, and returns the reply. If its flags are right, the key's item is removed. Returns
+    /// an error if there is not enough memory; then the request has done nothing.
+    pub fn meta_pass_over(
+        &mut self,
+        key: &[u8],
+        flags: &[u8],
+        moment: u64,
+    ) -> Result<Reply, AllocError>
+        requires { MayComeAt (T.view self.old.shelf) moment }
+        ensures ok { IfOk result (λ reply. Did T.view moment
+            (unless_faulty (set_fault (tokens flags.now)) (passes_over Storage.Set key.now
+            (stock_at T.view moment self.old)) (stock_at T.view moment self.old))
+            self.old self.new (reply_text reply)) }
+        ensures err { OnErr result (Spares self.old self.new) }
+    {
+        match set_fault(flags) {
+            Some(error) => Ok(Reply::Fault(error)),
+            None => self.pass_over(Storage::Set, key, moment),
+        }
+    }
+
     /// `mg`.
     fn meta_get(&mut self, asked: Asked<'_>, output: &mut Vec<u8>) -> Result<Reply, AllocError>
         requires { MayComeAt (T.view self.old.shelf) asked.moment }
@@ -130,7 +128,7 @@ impl<T: Shelf> Stock<T> {
         ensures begun { take (length output.old.items) output.new.items ≡ output.old.items }
         ensures capacity { vec_capacity output.old ≤ vec_capacity output.new }
     {
-        if let Some(error) = GET.fault(asked.flags) {
+        if let Some(error) = flags_fault(asked.flags) {
             return Ok(Reply::Fault(error));
         }
         self.key.fill(asked.key)?;
@@ -210,7 +208,8 @@ impl<T: Shelf> Stock<T> {
             stale: false,
             wins: true,
         };
-        let told = Told::new(asked.key, &item, self.next_unique(), asked.moment);
+        let unique = self.next_unique();
+        let told = Told::new(TOLD_TO_GET, asked.key, &item, unique, asked.moment);
         told.say_item(output, asked.flags, &lease)?;
         self.put(item, asked.moment)?;
         Ok(Reply::Written)
@@ -236,7 +235,7 @@ impl<T: Shelf> Stock<T> {
         ensures begun { take (length output.old.items) output.new.items ≡ output.old.items }
         ensures capacity { vec_capacity output.old ≤ vec_capacity output.new }
     {
-        if let Some(error) = DELETE.fault(asked.flags) {
+        if let Some(error) = flags_fault(asked.flags) {
             return Ok(Reply::Fault(error));
         }
         self.key.fill(asked.key)?;
@@ -245,6 +244,7 @@ impl<T: Shelf> Stock<T> {
             return refuse(b"NF", asked, output);
         };
         if is_other(asked.flags, item) {
+            self.counters.up(Tally::DeleteMisses);
             return refuse(b"EX", asked, output);
         }
         if !has_flag(b'q', asked.flags) {
@@ -277,14 +277,14 @@ impl<T: Shelf> Stock<T> {
         ensures begun { take (length output.old.items) output.new.items ≡ output.old.items }
         ensures capacity { vec_capacity output.old ≤ vec_capacity output.new }
     {
-        if let Some(error) = ARITHMETIC.fault(asked.flags) {
+        if let Some(error) = count_fault(asked.flags) {
             return Ok(Reply::Fault(error));
         }
         self.key.fill(asked.key)?;
         let Some(item) = self.shelf.peek(&self.key, asked.moment) else {
             return self.meta_first(asked, output);
         };
-        if is_other(asked.flags, item) {
+        if is_other(asked.flags, item) && !names_none(asked.flags) {
             return refuse(b"EX", asked, output);
         }
         let Some(old) = number(item.bytes.as_slice()) else {
@@ -295,7 +295,8 @@ impl<T: Shelf> Stock<T> {
         let deadline = retimed(asked, item);
         let mut changed = item.with_number(self.alloc, count)?;
         changed.deadline = deadline;
-        self.put_number(asked, changed, output)
+        let is_quiet = has_flag(b'q', asked.flags);
+        self.put_number(asked, is_quiet, changed, output)
     }
 
     /// `ma` of a key without a live item.
@@ -317,27 +318,30 @@ impl<T: Shelf> Stock<T> {
         let deadline = deadline_of(asked.moment, exptime);
         let item = StoredItem::new(Vec::new(self.alloc), 0, deadline);
         let item = item.with_number(self.alloc, first)?;
-        self.put_number(asked, item, output)
+        self.put_number(asked, false, item, output)
     }
 
-    /// Stores a number, and tells it.
+    /// Stores a number, and tells it, unless it is to be quiet.
     fn put_number(
         &mut self,
         asked: Asked<'_>,
+        is_quiet: bool,
         item: StoredItem,
         output: &mut Vec<u8>,
     ) -> Result<Reply, AllocError>
         requires in_time { MayComeAt (T.view self.old.shelf) asked.moment }
         requires named { self.old.key ≡ asked.key.now }
         ensures ok { IfOk result (λ reply. Did T.view asked.entry.moment
-            (meta_counted asked.entry.moment self.old.key
+            (meta_counted asked.entry.moment is_quiet self.old.key
             (tokens asked.entry.flags.now) item (stock_at T.view asked.entry.moment self.old))
             self.old self.new (said_from (length output.old.items) output.new.items reply)) }
         ensures err { OnErr result (Spares self.old self.new) }
         ensures begun { take (length output.old.items) output.new.items ≡ output.old.items }
         ensures capacity { vec_capacity output.old ≤ vec_capacity output.new }
     {
-        say_counted(asked, &item, self.next_unique(), output)?;
+        if !is_quiet {
+            say_counted(asked, &item, self.next_unique(), output)?;
+        }
         self.put(item, asked.moment)?;
         Ok(Reply::Written)
     }
@@ -367,7 +371,10 @@ impl<T: Shelf> Stock<T> {
         self.key.fill(asked.key)?;
         match number_of(b'C', asked.flags) {
             Some(unique) => self.meta_compare(asked, unique, block, output),
-            None => self.meta_put_by_mode(asked, block, output),
+            None => {
+                let mode = mode_of(b'S', asked.flags);
+                self.meta_put_by_mode(asked, mode, block, output)
+            }
         }
     }
 
@@ -382,7 +389,8 @@ impl<T: Shelf> Stock<T> {
         requires in_time { MayComeAt (T.view self.old.shelf) asked.moment }
         requires named { self.old.key ≡ asked.key.now }
         ensures ok { IfOk result (λ reply. Did T.view asked.entry.moment
-            (meta_compare self.old.most asked.entry.moment unique self.old.key
+            (meta_compare self.old.most asked.entry.moment
+            (mode_of (codes "S") (tokens asked.entry.flags.now)) unique self.old.key
             (tokens asked.entry.flags.now)
             (meta_item asked.entry.moment
             (tokens asked.entry.flags.now) block.now)
@@ -393,13 +401,16 @@ impl<T: Shelf> Stock<T> {
         ensures begun { take (length output.old.items) output.new.items ≡ output.old.items }
         ensures capacity { vec_capacity output.old ≤ vec_capacity output.new }
     {
+        let mode = mode_of(b'S', asked.flags);
         let Some(held) = self.shelf.peek(&self.key, asked.moment) else {
-            return refuse(b"NF", asked, output);
+            return self.meta_compare_none(asked, mode, block, output);
         };
-        if held.unique == unique {
-            return self.meta_put_by_mode(asked, block, output);
+        if goes_on(mode, unique, held) {
+            self.counters.up(Tally::CasHits);
+            return self.meta_put_by_mode(asked, mode, block, output);
         }
-        if !has_flag(b'I', asked.flags) || held.unique < unique {
+        if !is_renewed(mode, unique, asked.flags, held) {
+            self.counters.up(Tally::CasBadval);
             return refuse(b"EX", asked, output);
         }
         let mut item = block_item(self.alloc, asked, block)?;
@@ -409,18 +420,46 @@ impl<T: Shelf> Stock<T> {
         self.put_told(asked, item, output)
     }
 
+    /// `ms` with a unique, of a key without a live item.
+    fn meta_compare_none(
+        &mut self,
+        asked: Asked<'_>,
+        mode: u8,
+        block: &[u8],
+        output: &mut Vec<u8>,
+    ) -> Result<Reply, AllocError>
+        requires in_time { MayComeAt (T.view self.old.shelf) asked.moment }
+        requires named { self.old.key ≡ asked.key.now }
+        requires none { live_on (T.view self.old.shelf) asked.moment self.old.key ≡ None }
+        ensures ok { (unique : ℕ) → IfOk result (λ reply. Did T.view asked.entry.moment
+            (meta_compare self.old.most asked.entry.moment mode unique self.old.key
+            (tokens asked.entry.flags.now)
+            (meta_item asked.entry.moment (tokens asked.entry.flags.now) block.now)
+            None (stock_at T.view asked.entry.moment self.old))
+            self.old self.new (said_from (length output.old.items) output.new.items reply)) }
+        ensures err { OnErr result (Spares self.old self.new) }
+        ensures begun { take (length output.old.items) output.new.items ≡ output.old.items }
+        ensures capacity { vec_capacity output.old ≤ vec_capacity output.new }
+    {
+        if is_one_of(b"SR", mode) {
+            self.counters.up(Tally::CasMisses);
+            return refuse(b"NF", asked, output);
+        }
+        self.meta_put_by_mode(asked, mode, block, output)
+    }
+
     /// Stores a block by its mode.
     fn meta_put_by_mode(
         &mut self,
         asked: Asked<'_>,
+        mode: u8,
         block: &[u8],
         output: &mut Vec<u8>,
     ) -> Result<Reply, AllocError>
         requires in_time { MayComeAt (T.view self.old.shelf) asked.moment }
         requires named { self.old.key ≡ asked.key.now }
         ensures ok { IfOk result (λ reply. Did T.view asked.entry.moment
-            (meta_put self.old.most asked.entry.moment (mode_of
-            (tokens asked.entry.flags.now)) self.old.key
+            (meta_put self.old.most asked.entry.moment mode self.old.key
             (tokens asked.entry.flags.now)
             (meta_item asked.entry.moment
             (tokens asked.entry.flags.now) block.now)
@@ -431,7 +470,6 @@ impl<T: Shelf> Stock<T> {
         ensures begun { take (length output.old.items) output.new.items ≡ output.old.items }
         ensures capacity { vec_capacity output.old ≤ vec_capacity output.new }
     {
-        let mode = mode_of(asked.flags);
         let old = self.shelf.peek(&self.key, asked.moment);
         match moded_item(self.alloc, self.most, mode, asked, block, old)? {
             Some(item) => self.put_told(asked, item, output),
@@ -463,7 +501,7 @@ impl<T: Shelf> Stock<T> {
 }
 
 /// Tells a live item, and returns what it becomes, if it changes.
-#[tactic(auto, using(crate::proofs::Finding::told_found_of, crate::proofs::Finding::found_item_of))]
+#[tactic(auto, using(crate::proofs::Finding::found_item_of))]
 fn say_found(
     asked: Asked<'_>,
     item: &StoredItem,
@@ -485,7 +523,7 @@ fn say_found(
         stale: item.stale,
         wins,
     };
-    let mut told = Told::new(asked.key, item, item.unique, asked.moment);
+    let mut told = Told::new(TOLD_TO_GET, asked.key, item, item.unique, asked.moment);
     told.deadline = deadline;
     told.say_item(output, asked.flags, &lease)?;
     if !wins && deadline == item.deadline {
@@ -496,7 +534,7 @@ fn say_found(
     Ok(Some(changed))
 }
 
-/// Tells a number that gets this unique, unless the request is quiet.
+/// Tells a number that gets this unique.
 fn say_counted(
     asked: Asked<'_>,
     item: &StoredItem,
@@ -504,15 +542,12 @@ fn say_counted(
     output: &mut Vec<u8>,
 ) -> Result<(), AllocError>
     ensures ok { OnOk result (output.new.items ≡ output.old.items
-        ++ unless_quiet (tokens asked.entry.flags.now) (item_text asked.entry.moment
-        asked.entry.key.now (record item.now { unique = unique }) (tokens asked.entry.flags.now) [])) }
+        ++ item_text told_to_count asked.entry.moment asked.entry.key.now
+        (record item.now { unique = unique }) (tokens asked.entry.flags.now) []) }
     ensures begun { take (length output.old.items) output.new.items ≡ output.old.items }
     ensures capacity { vec_capacity output.old ≤ vec_capacity output.new }
 {
-    if has_flag(b'q', asked.flags) {
-        return Ok(());
-    }
-    let told = Told::new(asked.key, item, unique, asked.moment);
+    let told = Told::new(TOLD_TO_COUNT, asked.key, item, unique, asked.moment);
     told.say_item(output, asked.flags, &NO_LEASE)
 }
 
@@ -524,7 +559,7 @@ fn say_stored(
     output: &mut Vec<u8>,
 ) -> Result<(), AllocError>
     ensures ok { OnOk result (output.new.items ≡ output.old.items
-        ++ unless_quiet (tokens asked.entry.flags.now) (code_with asked.entry.moment (codes "HD")
+        ++ unless_quiet (tokens asked.entry.flags.now) (stored_text told_to_set asked.entry.moment
         asked.entry.key.now (record item.now { unique = unique }) (tokens asked.entry.flags.now))) }
     ensures begun { take (length output.old.items) output.new.items ≡ output.old.items }
     ensures capacity { vec_capacity output.old ≤ vec_capacity output.new }
@@ -532,7 +567,7 @@ fn say_stored(
     if has_flag(b'q', asked.flags) {
         return Ok(());
     }
-    let told = Told::new(asked.key, item, unique, asked.moment);
+    let told = Told::new(TOLD_TO_SET, asked.key, item, unique, asked.moment);
     told.say_stored(output, asked.flags)
 }
 
@@ -548,18 +583,6 @@ fn refuse(code: &[u8], asked: Asked<'_>, output: &mut Vec<u8>) -> Result<Reply, 
     Ok(Reply::Written)
 }
 
-/// What is wrong with the flags of a `ms`, if anything is.
-fn set_fault(flags: &[u8]) -> Option<ProtocolError>
-    ensures { result ≡ option_or
-        (flags_fault (codes "kqOstcfIM") (codes "CF") (codes "T") (tokens flags.now))
-        (mode_fault (tokens flags.now)) }
-{
-    match SET.fault(flags) {
-        Some(error) => Some(error),
-        None => mode_fault(flags),
-    }
-}
-
 /// Whether `C` names another unique than the item's.
 fn is_other(flags: &[u8], item: &StoredItem) -> bool
     ensures { result ≡ is_other (tokens flags.now) item.now }
@@ -568,6 +591,30 @@ fn is_other(flags: &[u8], item: &StoredItem) -> bool
         Some(unique) => unique != item.unique,
         None => false,
     }
+}
+
+/// Whether `C` names 0, the unique of no item.
+fn names_none(flags: &[u8]) -> bool
+    ensures { result ≡ names_none (tokens flags.now) }
+{
+    match number_of(b'C', flags) {
+        Some(unique) => unique == 0,
+        None => false,
+    }
+}
+
+/// Whether a mode makes something of a unique over an item.
+fn goes_on(mode: u8, unique: u64, item: &StoredItem) -> bool
+    ensures { result ≡ goes_on mode unique item.now }
+{
+    item.unique == unique || is_one_of(b"E", mode) || (unique == 0 && is_one_of(b"AP", mode))
+}
+
+/// Whether an earlier unique is enough for a mode over an item.
+fn is_renewed(mode: u8, unique: u64, flags: &[u8], item: &StoredItem) -> bool
+    ensures { result ≡ is_renewed mode unique (tokens flags.now) item.now }
+{
+    is_one_of(b"SR", mode) && has_flag(b'I', flags) && 0 < unique && unique < item.unique
 }
 
 /// The deadline that `T` gives an item, or its own.
@@ -584,19 +631,31 @@ fn retimed(asked: Asked<'_>, item: &StoredItem) -> Option<u64>
 
 /// Whether a client wins the lease of an item that has this deadline.
 fn wins(asked: Asked<'_>, item: &StoredItem, deadline: Option<u64>) -> bool
+    requires { asked.moment < 2 ^ 43 }
     ensures { result ≡ (not item.now.leased && (item.now.stale
         || late_by asked.entry.moment (tokens asked.entry.flags.now) deadline)) }
 {
     !item.leased && (item.stale || is_late(asked, deadline))
 }
 
-/// Whether fewer seconds are left than `R` says.
+/// Whether a deadline comes before the moment that `R` says.
 fn is_late(asked: Asked<'_>, deadline: Option<u64>) -> bool
+    requires { asked.moment < 2 ^ 43 }
     ensures { result ≡ late_by asked.entry.moment (tokens asked.entry.flags.now) deadline }
 {
-    match deadline {
-        Some(deadline) => match number_of(b'R', asked.flags) {
-            Some(seconds) => deadline.saturating_sub(asked.moment) / 1000 < seconds,
+    match exptime_of(b'R', asked.flags) {
+        Some(exptime) => ends_before(deadline_of(asked.moment, exptime), deadline),
+        None => false,
+    }
+}
+
+/// Whether a deadline comes before another.
+fn ends_before(other: Option<u64>, deadline: Option<u64>) -> bool
+    ensures { result ≡ ends_before other deadline }
+{
+    match other {
+        Some(other) => match deadline {
+            Some(deadline) => deadline < other,
             None => false,
         },
         None => false,

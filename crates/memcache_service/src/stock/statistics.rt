@@ -1,6 +1,8 @@
 //! `stats`.
-ghost use Rattle.std.specs.Prelude.{◌≡◌, ◌≤◌, length, take, vec_capacity};
-ghost use Rattle.memcache_service.specs.Stocks.{Spares};
+ghost use Rattle.std.specs.Prelude.{◌≡◌, ◌≤◌, ◌++◌, ℕ, List, IfOk, OnOk, length, take, vec_capacity};
+ghost use Rattle.memcache_model.specs.Bytes.{tokens};
+ghost use Rattle.memcache_service.specs.Lines.{said_from};
+ghost use Rattle.memcache_service.specs.Stocks.{Spares, topic_of, stats_end, topic_end};
 
 use super::Stock;
 use crate::counters::Counters;
@@ -18,6 +20,8 @@ impl<T: Shelf> Stock<T> {
         output: &mut Vec<u8>,
     ) -> Result<Reply, AllocError>
         ensures spares { Spares self.old self.new }
+        ensures ends { IfOk result (λ reply. (lines : List ℕ) × (said_from (length output.old.items)
+            output.new.items reply ≡ lines ++ stats_end (tokens words.now))) }
         ensures begun { take (length output.old.items) output.new.items ≡ output.old.items }
         ensures capacity { vec_capacity output.old ≤ vec_capacity output.new }
     {
@@ -39,7 +43,9 @@ impl<T: Shelf> Stock<T> {
         moment: u64,
         output: &mut Vec<u8>,
     ) -> Result<(), AllocError>
-        ensures { vec_capacity output.old ≤ vec_capacity output.new }
+        ensures ends { OnOk result
+            ((lines : List ℕ) × (output.new.items ≡ lines ++ topic_end word.now)) }
+        ensures capacity { vec_capacity output.old ≤ vec_capacity output.new }
     {
         if word == b"".as_slice() {
             self.say_general(moment, output)?;
@@ -87,7 +93,9 @@ impl<T: Shelf> Stock<T> {
 }
 
 /// The first word, or an empty one.
-fn first_word(words: &[u8]) -> &[u8] {
+fn first_word(words: &[u8]) -> &[u8]
+    ensures { result.now ≡ topic_of (tokens words.now) }
+{
     match next_token(words) {
         Some((word, _)) => word,
         None => b"".as_slice(),

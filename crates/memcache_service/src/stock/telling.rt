@@ -2,10 +2,10 @@
 ghost use Rattle.std.specs.Prelude.{◌≡◌, ◌≤◌, ◌++◌, [], false, OnOk, codes, decimal, length, map, take, vec_capacity, if◌then◌else◌};
 ghost use Rattle.std.specs.List.{concat};
 ghost use Rattle.memcache_model.specs.Bytes.{tokens};
-ghost use Rattle.memcache_model.specs.Meta.{code_alone, code_with, item_text, lease_text, left_text, told_alone, told_of_item};
+ghost use Rattle.memcache_model.specs.Meta.{code_alone, item_text, lease_text, left_text, stored_text, told_alone, told_by_letter, told_of_item};
 ghost use Rattle.memcache_service.specs.Told.{told_item};
 
-use super::flags::{has_flag, letter_of};
+use super::flags::{has_flag, is_one_of, letter_of};
 use crate::item::StoredItem;
 use crate::replies::{say, say_number};
 use memcache_lines::next_token;
@@ -22,9 +22,20 @@ pub struct Lease {
     pub wins: bool,
 }
 
+/// The letters that have a `mg` tell something.
+pub const TOLD_TO_GET: &[u8] = b"kOstcf";
+
+/// The letters that have a `ms` tell something.
+pub const TOLD_TO_SET: &[u8] = b"kOc";
+
+/// The letters that have a `ma` tell something.
+pub const TOLD_TO_COUNT: &[u8] = b"kOtc";
+
 /// What a reply tells of an item.
 #[derive(Clone, Copy)]
 pub struct Told<'a> {
+    /// The letters that have something told.
+    pub letters: &'static [u8],
     /// The key.
     pub key: &'a [u8],
     /// The item's bytes.
@@ -40,14 +51,22 @@ pub struct Told<'a> {
 }
 
 impl<'a> Told<'a> {
-    /// Returns what is told of an item that has this unique.
-    pub fn new(key: &'a [u8], item: &'a StoredItem, unique: u64, moment: u64) -> Told<'a>
+    /// Returns what these letters tell of an item that has this unique.
+    pub fn new(
+        letters: &'static [u8],
+        key: &'a [u8],
+        item: &'a StoredItem,
+        unique: u64,
+        moment: u64,
+    ) -> Told<'a>
         ensures item { told_item result
             ≡ record item.now { unique = unique; stale = false; leased = false } }
+        ensures letters { result.letters.now ≡ letters.now }
         ensures key { result.key.now ≡ key.now }
         ensures moment { result.moment ≡ moment }
     {
         Told {
+            letters,
             key,
             bytes: item.bytes.as_slice(),
             unique,
@@ -65,8 +84,8 @@ impl<'a> Told<'a> {
         lease: &Lease,
     ) -> Result<(), AllocError>
         ensures ok { OnOk result (output.new.items ≡ output.old.items
-            ++ item_text self.now.moment self.now.key.now (told_item self.now) (tokens flags.now)
-            (lease_text lease.now.held lease.now.stale lease.now.wins)) }
+            ++ item_text self.now.letters.now self.now.moment self.now.key.now (told_item self.now)
+            (tokens flags.now) (lease_text lease.now.held lease.now.stale lease.now.wins)) }
         ensures begun { take (length output.old.items) output.new.items ≡ output.old.items }
         ensures capacity { vec_capacity output.old ≤ vec_capacity output.new }
     {
@@ -110,7 +129,7 @@ impl<'a> Told<'a> {
     /// Appends the reply that the item is stored. Returns an error if there is not enough memory.
     pub fn say_stored(&self, output: &mut Vec<u8>, flags: &[u8]) -> Result<(), AllocError>
         ensures ok { OnOk result (output.new.items ≡ output.old.items
-            ++ code_with self.now.moment (codes "HD") self.now.key.now (told_item self.now)
+            ++ stored_text self.now.letters.now self.now.moment self.now.key.now (told_item self.now)
             (tokens flags.now)) }
         ensures begun { take (length output.old.items) output.new.items ≡ output.old.items }
         ensures capacity { vec_capacity output.old ≤ vec_capacity output.new }
@@ -123,8 +142,8 @@ impl<'a> Told<'a> {
     /// Writes what the words of a request have told.
     fn say_words(&self, output: &mut Vec<u8>, flags: &[u8]) -> Result<(), AllocError>
         ensures ok { OnOk result (output.new.items ≡ output.old.items
-            ++ concat (map (told_of_item self.now.moment self.now.key.now (told_item self.now))
-            (tokens flags.now))) }
+            ++ concat (map (told_of_item self.now.letters.now self.now.moment self.now.key.now
+            (told_item self.now)) (tokens flags.now))) }
         ensures begun { take (length output.old.items) output.new.items ≡ output.old.items }
         ensures capacity { vec_capacity output.old ≤ vec_capacity output.new }
     {
@@ -139,7 +158,22 @@ impl<'a> Told<'a> {
     /// Writes what a word has told.
     fn say_word(&self, output: &mut Vec<u8>, word: &[u8]) -> Result<(), AllocError>
         ensures ok { OnOk result (output.new.items ≡ output.old.items
-            ++ told_of_item self.now.moment self.now.key.now (told_item self.now) word.now) }
+            ++ told_of_item self.now.letters.now self.now.moment self.now.key.now
+            (told_item self.now) word.now) }
+        ensures begun { take (length output.old.items) output.new.items ≡ output.old.items }
+        ensures capacity { vec_capacity output.old ≤ vec_capacity output.new }
+    {
+        if is_one_of(self.letters, letter_of(word)) {
+            self.say_by_letter(output, word)
+        } else {
+            Ok(())
+        }
+    }
+
+    /// Writes what a word tells by its letter.
+    fn say_by_letter(&self, output: &mut Vec<u8>, word: &[u8]) -> Result<(), AllocError>
+        ensures ok { OnOk result (output.new.items ≡ output.old.items
+            ++ told_by_letter self.now.moment self.now.key.now (told_item self.now) word.now) }
         ensures begun { take (length output.old.items) output.new.items ≡ output.old.items }
         ensures capacity { vec_capacity output.old ≤ vec_capacity output.new }
     {

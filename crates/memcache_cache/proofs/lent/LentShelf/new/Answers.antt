@@ -12,6 +12,12 @@ returns-clause-empty g c =
 pub returns-clause-capacity : goal.returns-clause-capacity
 returns-clause-capacity g c = ap (λ o. unwrap_or o 0) c.in_ok-cache.ensures.wants
 
+pub returns-clause-policy : goal.returns-clause-policy
+returns-clause-policy g c = ap (λ common. common.settings.policy) c.in_ok-cache.ensures.common
+
+pub returns-clause-hasher : goal.returns-clause-hasher
+returns-clause-hasher g c = ap (λ common. common.hasher) c.in_ok-cache.ensures.common
+
 pub invariant_of-result : goal.invariant_of-result
 invariant_of-result g c =
     let ways = item_ways g.S.BuildHasher g.S.Hasher.Hasher in

@@ -1,11 +1,21 @@
 use Rattle.std.proofs.Common.{List, ℕ, refl, subst, sym}
 use Rattle.memcache_service.specs.Talks.{Takes}
 use Rattle.memcache_link.proofs.Exchanging.{fed, lent, taken}
+use Rattle.memcache_link.proofs.Turning.{feed-beside, take-beside, turn-exchanged}
 use Rattle.memcache_link.specs.Served.{has_ended}
 use Rattle.memcache_link.proofs.link.MemcacheLink.exchange.Goals as goal
 
-pub returns : goal.returns
-returns g c =
+pub returns-clause-turn : goal.returns-clause-turn
+returns-clause-turn g c =
+    let conn = c.args.self.now.conn in
+    turn-exchanged conn c.args.moment c.args.service.now c.take_output.new.self c.feed-fed.new.self c.take_output-2.new.self
+    (take-beside conn _ c.args.service.now c.take_output.new.self c.take_output.ensures.takes c.take_output.ensures.absent)
+    (feed-beside conn c.args.piece.now c.take_output.new.self c.feed-fed.new.self c.feed-fed.result c.feed-fed.ensures.feeds c.feed-fed.ensures.lacks c.feed-fed.ensures.absent)
+    (take-beside conn _ c.feed-fed.new.self c.take_output-2.new.self c.take_output-2.ensures.takes c.take_output-2.ensures.absent)
+    c.take_output.ensures.same c.feed-fed.ensures.later c.feed-fed.ensures.moment c.take_output-2.ensures.same
+
+pub returns-clause-answers : goal.returns-clause-answers
+returns-clause-answers g c =
     let conn = c.args.self.now.conn in
     let ended = has_ended c.phase_after-self.result in
     record {

@@ -32,10 +32,10 @@ returns-clause-goes g c =
     let s = c.args.self.now in
     let m = c.take_in-noted.new.self in
     let mid : m.conn ≡ s.conn = ap (λ z. z.conn) c.take_in-noted.ensures.same in
-    let conn = c.exchange.ensures.conn ∙ mid in (
+    let conn = c.exchange.ensures.answers.conn ∙ mid in (
       λ contents start a x.
           served-fed g.T.Shelf start a s c.exchange.new.self conn m c.as_slice.result.now c.args.service.now c.exchange.new.service _ _ mid c.requires.going.0 (not-ended s.phase c.requires.going.1)
-          (subst (λ z. Consumes (g.I.Read.remaining c.args.reader.now.inner) (g.I.Read.remaining c.fill-filled.new.self.inner) z) (sym c.as_slice.ensures) (obtains-consumes _ _ _ c.fill-filled.result c.fill-filled.ensures.bytes)) refl c.exchange.ensures x,
+          (subst (λ z. Consumes (g.I.Read.remaining c.args.reader.now.inner) (g.I.Read.remaining c.fill-filled.new.self.inner) z) (sym c.as_slice.ensures) (obtains-consumes _ _ _ c.fill-filled.result c.fill-filled.ensures.bytes)) refl c.exchange.ensures.answers x,
       conn,
     )
 
@@ -46,4 +46,4 @@ pub returns-then-is_empty-clause-hears : goal.returns-then-is_empty-clause-hears
 returns-then-is_empty-clause-hears g c = hears-read _ _ _ _ _ c.fill-filled.result c.fill-filled.new.inbox c.take_in-noted.ensures.hears c.fill-filled.ensures.waits c.fill-filled.ensures.bytes
 
 pub returns-clause-hears : goal.returns-clause-hears
-returns-clause-hears g c = hears-then _ _ _ _ _ _ c.exchange.ensures.report (hears-read _ _ _ _ _ c.fill-filled.result c.fill-filled.new.inbox c.take_in-noted.ensures.hears c.fill-filled.ensures.waits c.fill-filled.ensures.bytes)
+returns-clause-hears g c = hears-then _ _ _ _ _ _ c.exchange.ensures.answers.report (hears-read _ _ _ _ _ c.fill-filled.result c.fill-filled.new.inbox c.take_in-noted.ensures.hears c.fill-filled.ensures.waits c.fill-filled.ensures.bytes)

@@ -1,4 +1,4 @@
-use Rattle.std.proofs.Common.{rules, arith, ◌≡◌, Some, None, codes}
+use Rattle.std.proofs.Common.{rules, arith, ◌≡◌, Some, None}
 use Rattle.std.proofs.lemmas.Grind.{common_steps}
 use Rattle.memcache_model.specs.Bytes.{tokens}
 use Rattle.memcache_model.specs.Meta.{flags_fault}
@@ -14,7 +14,7 @@ returns-clause-ok g c =
     let words = tokens c.args.asked.flags.now in
     let item = c.in-Some-peek.item.now in
     let found = found_item moment words item in
-    let none : flags_fault (codes "vkqOstcf") (codes "R") (codes "NT") words ≡ None = search rules in
+    let none : flags_fault words ≡ None = search rules in
     let is : Some item ≡ live_on (view c.args.self.now.shelf) moment c.fill.new.self = search rules in
     let left = c.in_ok-renew.ensures.ok found (renewed c.in_ok-changed.changed found item (live_on (view c.args.self.now.shelf) moment c.fill.new.self) is c.in_ok-changed.ensures.becomes) in
     let named = rw c.in_ok-fill.ensures at left in

@@ -1,8 +1,8 @@
 use Rattle.std.proofs.Common.{◌≤◌, ◌+◌, ◌-◌, ◌*◌, ◌^◌, length, get_or, sym, ap, subst, ◌∙◌, arith, Some}
 use Rattle.std.specs.Str.Parse.{digits_value}
 use Rattle.std.proofs.lemmas.List.{take_all}
-use Rattle.memcache_lines.proofs.Digits.{AreDigits, digit-at, digits_value_more, number_below-large, number_below-fits}
-use Rattle.memcache_lines.proofs.numbers.number.Goals as goal
+use Rattle.memcache_lines.proofs.Digits.{AreDigits, digit-at, digits_value_more, digits_below-large, digits_below-fits}
+use Rattle.memcache_lines.proofs.numbers.digits.Goals as goal
 
 pub returns-in-None : goal.returns-in-None
 returns-in-None c =
@@ -11,7 +11,7 @@ returns-in-None c =
     let digits : AreDigits word = sym c.are_digits.ensures ∙ c.if-not-are_digits.false in
     let value = c.loop-digit.invariant.value in
     let large : 2 ^ 64 ≤ c.loop-digit.value * 10 + (get_or word at 0 - 48) = omega (arith, c.in-None.ensures) in
-    sym (number_below-large word at (omega arith) digits (subst (λ v. 2 ^ 64 ≤ v * 10 + (get_or word at 0 - 48)) value large))
+    sym (digits_below-large word at (omega arith) digits (subst (λ v. 2 ^ 64 ≤ v * 10 + (get_or word at 0 - 48)) value large))
 
 pub loop-digit-preserved : goal.loop-digit-preserved
 loop-digit-preserved c =
@@ -32,4 +32,4 @@ returns c =
     let digits : AreDigits word = sym c.are_digits.ensures ∙ c.if-not-are_digits.false in
     let value = c.loop-digit.invariant.value ∙ ap (digits_value 10) all in
     let some : 1 ≤ length word = grind (arith, c.is_empty.ensures, c.if-is_empty.false) in
-    ap Some value ∙ sym (number_below-fits word some (omega arith) digits (omega (arith, value, c.loop-digit.invariant.small)))
+    ap Some value ∙ sym (digits_below-fits word some (omega arith) digits (omega (arith, value, c.loop-digit.invariant.small)))
