@@ -4,7 +4,8 @@
 
 COMMAND starts the service, as in memcache_clients.py. Requests are those to which both have to reply the same. So numbers are
 counted up only from what has as many digits, since memcached keeps the length of a number that gets shorter, and are below 2^63, since
-above that memcached looks for a minus sign in the memory behind the item; and what is appended to is not leased. Uniques are compared
+above that memcached looks for a minus sign in the memory behind the item; a `ma` has no `T`, since memcached may give it to an item that
+it replaces; and what is appended to is not leased. Uniques are compared
 too: both give them one by one, but memcached also to a `flush_all`, which is left out. What else differs is a table in
 crates/memcache_model/README.md. It needs `memcached` on the path, uses loopback only, and ends by itself, with status 1 at the first
 difference.
@@ -25,6 +26,19 @@ SERVICE_PORT = 21312
 KEYS = [b"a", b"b", b"c", b"key", b"k" * 250, b"\xff\x01", b"x-1"]
 # Keys that nobody leases or makes stale: memcached forgets both when it appends.
 JOINED = [b"j", b"joined"]
+# Expiries in each form: of more than 32 bits the last 32 count, of which the first is a sign.
+EXPIRIES = [b"0", b"0", b"0", b"1000", b"-1", b"+1500", b"2592000", b"2147483647", b"2147483648", b"4294967295", b"4294967296", b"-4294966296", b"9223372036854775807"]
+# Those that have passed: what is left of them memcached tells modulo 2^32.
+PASSED = [b"-1", b"2147483648", b"4294967295", b"9223372036854775807"]
+# Flags that the command at hand has no use for.
+UNUSED = {b"mg": [b"F3", b"D3", b"J4", b"C5", b"MX", b"I", b"P1", b"L"], b"ms": [b"s", b"t", b"f", b"v", b"N1000", b"R7", b"D3", b"J4"], b"md": [b"s", b"v", b"N1000", b"R7", b"F3", b"MX"], b"ma": [b"s", b"f", b"R7", b"F3", b"I"]}
+
+
+def spiced(draw, verb, flags):
+    """The flags with some that the command has no use for, or now and then with one that no command has."""
+    if draw.random() < 0.03:
+        return flags + [draw.choice([b"Z", b"!"])] if verb == b"mg" else flags
+    return flags + draw.sample(UNUSED[verb], draw.choice([0, 0, 0, 1, 2]))
 
 
 class Client:
@@ -73,7 +87,7 @@ def timed_first(flags):
 def request(draw):
     key = draw.choice(KEYS)
     quiet = draw.choice([b"", b"", b"", b" noreply"])
-    exptime = draw.choice([b"0", b"0", b"1000", b"-1", b"2592000"])
+    exptime = draw.choice(EXPIRIES)
     flags = str(draw.choice([0, 1, 65535, 2**32 - 1])).encode()
     verb = draw.randrange(20)
     if verb < 4:
@@ -101,21 +115,23 @@ def request(draw):
     if verb == 13:
         return draw.choice([b"version\r\n", b"verbosity 1\r\n", b"foo\r\n", b"\r\n", b"get\r\n", b"set a 0 0\r\n", b"incr a x\r\n", b"touch a x\r\n"])
     if verb < 17:
-        flags = draw.sample([b"v", b"k", b"q", b"s", b"t", b"c", b"f", b"O12", b"N1000", b"R2000", b"T1500"], draw.randrange(6))
-        return b" ".join([b"mg", key] + timed_first(flags)) + b"\r\n"
+        flags = draw.sample([b"v", b"k", b"q", b"s", b"t", b"c", b"f", b"O12", b"N1000", draw.choice([b"R2000", b"R-1", b"R0"]), b"T" + exptime], draw.randrange(6))
+        if b"T" + exptime in flags and exptime in PASSED:
+            flags = [flag for flag in flags if flag != b"t"]
+        return b" ".join([b"mg", key] + spiced(draw, b"mg", timed_first(flags))) + b"\r\n"
     if verb == 17:
         body = block(draw)
-        flags = draw.sample([b"k", b"q", b"O12", b"T1500", b"F7", b"C%d" % draw.randrange(1, 300), b"I", draw.choice([b"MS", b"ME", b"MA", b"MP", b"MR"])], draw.randrange(5))
-        if any(flag.startswith(b"C") for flag in flags):
-            flags = [flag for flag in flags if not flag.startswith(b"M")]
+        mode = draw.choice([b"MS", b"MS", b"ME", b"MA", b"MP", b"MR", b"Ms", b"MSS", b"M"])
+        flags = draw.sample([b"k", b"q", b"O12", b"T" + exptime, b"F7", b"C%d" % draw.choice([0, 1, draw.randrange(1, 300)]), b"I", mode], draw.randrange(6))
         if b"MA" in flags or b"MP" in flags:
-            key, flags = draw.choice(JOINED), [flag for flag in flags if flag[:1] not in (b"C", b"I")]
-        return b" ".join([b"ms", key, b"%d" % len(body)] + flags) + b"\r\n" + body + b"\r\n"
+            key = draw.choice(JOINED)
+        return b" ".join([b"ms", key, b"%d" % len(body)] + spiced(draw, b"ms", flags)) + b"\r\n" + body + b"\r\n"
     if verb == 18:
-        flags = draw.sample([b"k", b"q", b"O12", b"T1500", b"C%d" % draw.randrange(1, 300), b"I"], draw.randrange(4))
-        return b" ".join([b"md", key] + flags) + b"\r\n"
-    flags = draw.sample([b"v", b"k", b"q", b"t", b"c", b"O12", b"N1000", b"J100", b"T1500"], draw.randrange(6))
-    return b" ".join([b"ma", b"u"] + timed_first(flags)) + b"\r\n"
+        flags = draw.sample([b"k", b"q", b"O12", b"T" + exptime, b"C%d" % draw.randrange(300), b"I"], draw.randrange(4))
+        return b" ".join([b"md", key] + spiced(draw, b"md", flags)) + b"\r\n"
+    mode = draw.choice([b"MI", b"M+", b"MD", b"M-", b"MX", b"Md"])
+    flags = draw.sample([b"v", b"k", b"q", b"t", b"c", b"O12", b"N1000", b"J100", b"D7", b"C%d" % draw.choice([0, 5]), mode], draw.randrange(6))
+    return b" ".join([b"ma", b"u"] + spiced(draw, b"ma", timed_first(flags))) + b"\r\n"
 
 
 def main():
