@@ -1,7 +1,10 @@
 -- The lines of a piece that was looked through up to a place.
-use Rattle.std.proofs.Common.{◌≡◌, ◌≢◌, ◌⊎◌, ◌<◌, ◌≤◌, ◌+◌, ◌-◌, ℕ, List, take, drop, length, false, slice_index, arith, ap, sym, ◌∙◌, inl, inr, subst₂}
-use Rattle.std.proofs.lemmas.Bool.{cases_lt, false≢true}
-use Rattle.std.proofs.lemmas.List.{get_or-take, length-take-le, take-append-le, take-append-drop, drop-take}
+use Rattle.std.proofs.Common.{◌≡◌, ◌≢◌, ◌⊎◌, ◌<◌, ◌≤◌, ◌+◌, ◌-◌, ℕ, List, ◌==◌, zero, suc, count_by, eq-eqb, eqb-true, length-drop, take, drop, length, false, slice_index, arith, ap, sym, ◌∙◌, inl, inr, subst₂}
+use Rattle.std.proofs.Math.Seq.{take-length}
+use Rattle.std.proofs.lemmas.Bool.{cases_lt, false_from_ne_true, false≢true}
+use Rattle.std.proofs.lemmas.List.{get_or-drop, get_or-take, length-take-le, take-append-le, take-append-drop, drop-take}
+use Rattle.std.proofs.lemmas.List.Sums.{count_by_more_no, count_by_more_yes}
+use Rattle.memchr.specs.Find.{NoneBefore, Nowhere, Passes, is_byte}
 use Rattle.cache_serve.specs.Cutting.{IsLineOfPiece, IsQuickToItsEnd, may_take_long}
 
 -- the last line began at `start`, none ends from there up to `place`, and those that end before are quick
@@ -94,14 +97,79 @@ module _ (xs : List ℕ) (start place : ℕ) (scanned : IsScanned xs start place
       text : drop start (take place xs) ≡ take (place - start) (drop start xs)
       text = ap (λ n. drop start (take n xs)) (sym whole) ∙ drop-take start (place - start) xs
 
-  -- no line ends at the place
-  pub behind-byte : slice_index xs place ≢ 10 → IsScanned xs start (place + 1)
-  behind-byte other = record {
-    begun = omega (arith, scanned.begun);
-    behind = scanned.behind;
-    none = λ k above under e. elim (cases_lt k place) [
-      | inl lt ↦ scanned.none k above lt e
-      | inr ge ↦ other (ap (slice_index xs) (omega (arith, under, ge)) ∙ e)
-    ];
-    quick = scanned.quick;
-  }
+-- how many lines end among the first bytes
+abbrev pub lines_in : List ℕ → ℕ → ℕ
+lines_in xs n = count_by (λ byte. byte == 10) (take n xs)
+
+-- what is behind a place
+module _ (xs : List ℕ) (start : ℕ) (within : start ≤ length xs) where
+  abbrev rest : List ℕ
+  rest = take (length xs - start) (drop start xs)
+
+  abbrev EndsNone : ℕ → Type 0
+  EndsNone n = Nowhere (Passes (is_byte 10) rest) 0 n
+
+  rest-is : rest ≡ drop start xs
+  rest-is = ap (λ n. take n (drop start xs)) (sym (length-drop start xs)) ∙ take-length (drop start xs)
+
+  rest-at : (k : ℕ) → slice_index rest k ≡ slice_index xs (start + k)
+  rest-at k = ap (λ l. slice_index l k) rest-is ∙ get_or-drop start xs k 0
+
+  pub rest-length : length rest ≡ length xs - start
+  rest-length = ap (λ (l : List ℕ). length l) rest-is ∙ length-drop start xs
+
+  -- none of its first lines ends
+  none-ends : (n : ℕ) → EndsNone n → (k : ℕ) → start ≤ k → k < start + n → slice_index xs k ≢ 10
+  none-ends n none k above under e =
+      none (k - start) (omega arith) (omega (arith, above, under))
+      (eq-eqb (slice_index rest (k - start)) 10 (rest-at (k - start) ∙ ap (slice_index xs) (omega (arith, above)) ∙ e))
+
+  none-counted : (n : ℕ) → start + n ≤ length xs → EndsNone n → lines_in xs (start + n) ≡ lines_in xs start
+  none-counted zero low none = ap (lines_in xs) (omega arith)
+  none-counted (suc n) low none =
+      let other : slice_index xs (start + n) ≢ 10 = none-ends (suc n) none (start + n) (omega arith) (omega arith) in
+      ap (lines_in xs) (omega arith)
+      ∙ count_by_more_no (λ byte. byte == 10) xs (start + n) 0 (omega (arith, low)) (false_from_ne_true (slice_index xs (start + n) == 10) (λ e. other (eqb-true (slice_index xs (start + n)) 10 e)))
+      ∙ none-counted n (omega (arith, low)) (λ k from to. none k from (omega (arith, to)))
+
+  module _ (scanned : IsScanned xs start start) where
+    scanned-on : (n : ℕ) → EndsNone n → IsScanned xs start (start + n)
+    scanned-on n none = record { begun = omega arith; behind = scanned.behind; none = none-ends n none; quick = scanned.quick }
+
+    -- no line ends in it: up to the end of all, only the last may take long, and there are no more
+    pub quick-to-end : EndsNone (length rest) → IsQuickToItsEnd (take (length xs) xs)
+    quick-to-end none i j line long =
+        let own = line-of-front xs (length xs) i j (omega arith) line in
+        let lengths = rest-length in
+        elim (cases_lt j start) [
+          | inl lt ↦ absurd (false≢true (sym (scanned.quick i j own lt) ∙ ap (λ l. may_take_long (drop i (take j l))) (sym (take-length xs)) ∙ long))
+          | inr ge ↦ absurd (none-ends (length rest) none j ge (omega (arith, own.within.1, lengths, within)) own.ends)
+        ]
+
+    -- the first line end in it
+    module _ (at : ℕ) (first : NoneBefore (Passes (is_byte 10) rest) 0 (length rest) at) (ends : Passes (is_byte 10) rest at) where
+      pub end-within : start + at < length xs
+      end-within = let high = first.high in let lengths = rest-length in omega (arith, high, lengths, within)
+
+      end-here : slice_index xs (start + at) ≡ 10
+      end-here = sym (rest-at at) ∙ eqb-true (slice_index rest at) 10 ends
+
+      pub scanned-first : IsScanned xs start (start + at)
+      scanned-first = scanned-on at first.before
+
+      -- the line that it ends is the only one that is more
+      pub one-counted : lines_in xs (start + at + 1) ≡ lines_in xs start + 1
+      one-counted =
+          count_by_more_yes (λ byte. byte == 10) xs (start + at) 0 end-within (eq-eqb (slice_index xs (start + at)) 10 end-here)
+          ∙ ap (λ n. n + 1) (none-counted at (let e = end-within in omega (arith, e)) first.before)
+
+      pub quick-to-first : IsQuickToItsEnd (take (start + at + 1) xs)
+      quick-to-first = quick-to-line-end xs start (start + at) scanned-first end-within
+
+      pub scanned-behind : may_take_long (take (start + at - start) (drop start xs)) ≡ false → IsScanned xs (start + at + 1) (start + at + 1)
+      scanned-behind quick = behind-line-end xs start (start + at) scanned-first end-here quick
+
+  pub none-more : EndsNone (length rest) → lines_in xs (length xs) ≡ lines_in xs start
+  none-more none =
+      let lengths = rest-length in
+      ap (lines_in xs) (omega (arith, within)) ∙ none-counted (length xs - start) (omega (arith, within)) (λ k from to. none k from (omega (arith, to, lengths)))

@@ -2,6 +2,8 @@
 ghost use Rattle.std.specs.Prelude.{◌≡◌, ◌≤◌, ◌<◌, ◌-◌, ◌==◌, count_by, length, slice_index, take};
 ghost use Rattle.cache_serve.specs.Cutting.{may_take_long, IsQuickToItsEnd};
 
+use memchr::memchr;
+
 /// The maximum number of lines that are passed on at once.
 const MOST_LINES: usize = 64;
 
@@ -20,10 +22,13 @@ pub fn lines_after(replied: usize) -> usize
 fn may_take_long(line: &[u8]) -> bool
     ensures { result ≡ may_take_long line.now }
 {
-    line.starts_with(b"KEYS")
-        || line.starts_with(b"SYNC")
-        || line.starts_with(b"CLEAR")
-        || line.starts_with(b"DROPIF")
+    match line.first() {
+        Some(b'K') => line.starts_with(b"KEYS"),
+        Some(b'S') => line.starts_with(b"SYNC"),
+        Some(b'C') => line.starts_with(b"CLEAR"),
+        Some(b'D') => line.starts_with(b"DROPIF"),
+        _ => false,
+    }
 }
 
 /// Returns the length of a prefix of the bytes with at most this many lines. The prefix ends after the last of these line ends, or earlier
@@ -38,14 +43,16 @@ pub fn length_of_cut(bytes: &[u8], lines: usize) -> usize
 {
     let mut left = lines;
     let mut start = 0;
-    for place in 0..bytes.len() {
-        if bytes[place] == b'\n' {
-            left -= 1;
-            if left == 0 || may_take_long(&bytes[start..place]) {
-                return place + 1;
-            }
-            start = place + 1;
+    while start < bytes.len() {
+        let Some(at) = memchr(b'\n', &bytes[start..]) else {
+            return bytes.len();
+        };
+        let end = start + at;
+        left -= 1;
+        if left == 0 || may_take_long(&bytes[start..end]) {
+            return end + 1;
         }
+        start = end + 1;
     }
     bytes.len()
 }
