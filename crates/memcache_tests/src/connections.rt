@@ -8,7 +8,7 @@ use std::alloc::{AllocError, Global};
 /// A new connection sends this, is told that, and goes on or has ended.
 type Row = (&'static [u8], &'static [u8], bool);
 
-/// A connection ends behind `quit`, and behind nothing else of these.
+/// A connection ends behind `quit`, and at HTTP or a request of the binary protocol, and behind nothing else of these.
 const ENDS: &[Row] = &[
     (b"set a 5 0 1\r\nx\r\n", b"STORED\r\n", true),
     (b"quit\r\n", b"", false),
@@ -31,6 +31,23 @@ const ENDS: &[Row] = &[
         true,
     ),
     (b"get a\r\nget ", b"VALUE a 6 1\r\nz\r\nEND\r\n", true),
+    (
+        b"get HTTP/1.1\r\nfoo HTTP/1.1 x\r\nfoo xHTTP/\r\n",
+        b"END\r\nERROR\r\nERROR\r\n",
+        true,
+    ),
+    (
+        b"POST / HTTP/1.1\r\nHost: x\r\n\r\nset a 0 0 1\r\nx\r\n",
+        b"",
+        false,
+    ),
+    (b"HTTP/\r\n", b"", false),
+    (
+        b"\x80\x0b\0\0\0\0\0\0\0\0\0\0\0\0\0\0\0\0\0\0\0\0\0\0",
+        b"",
+        false,
+    ),
+    (b"get a\r\n", b"VALUE a 6 1\r\nz\r\nEND\r\n", true),
 ];
 
 /// Feeds a connection bytes in pieces of at most this many, while it goes on, and moves what it is told behind what is there.
@@ -121,6 +138,36 @@ fn ends_long_line(alloc: Global) -> Result<bool, AllocError> {
     send_long_line(alloc, &mut service)
 }
 
+/// A `get` of so many keys.
+fn get_of(alloc: Global, keys: usize) -> Result<Vec<u8>, AllocError> {
+    let mut line = Vec::new(alloc);
+    line.extend_from_slice(b"get")?;
+    for _ in 0..keys {
+        line.extend_from_slice(b" zz")?;
+    }
+    line.extend_from_slice(b"\r\n")?;
+    Ok(line)
+}
+
+/// Whether a `get` of 30,000 keys, a line of 90,004 bytes, is served, and one of more than 2,097,152 bytes ends its connection.
+fn send_long_get<T: Shelf>(alloc: Global, service: &mut Service<T>) -> Result<bool, AllocError> {
+    let conn = service.open()?;
+    let mut told = Vec::new(alloc);
+    service.feed(conn, get_of(alloc, 30_000)?.as_slice(), START)?;
+    service.take_output(conn, &mut told);
+    let is_served = told.as_slice() == b"END\r\n".as_slice();
+    let goes_on = service.feed(conn, get_of(alloc, 700_000)?.as_slice(), START)?;
+    service.take_output(conn, &mut told);
+    let is_told = told.as_slice() == b"CLIENT_ERROR line too long\r\n".as_slice();
+    Ok(is_served && !goes_on && is_told)
+}
+
+/// The same, by a new service.
+fn takes_long_get(alloc: Global) -> Result<bool, AllocError> {
+    let mut service = service(alloc, LARGE)?;
+    send_long_get(alloc, &mut service)
+}
+
 /// Stores an item of 600,000 bytes.
 fn store_long<T: Shelf>(service: &mut Service<T>, alloc: Global) -> Result<bool, AllocError> {
     let conn = service.open()?;
@@ -170,6 +217,14 @@ fn ended_by_a_long_line(rt: HostRuntime) {
     let alloc = rt.alloc();
     assert!(rt;
         matches!(ends_long_line(alloc), Ok(true)) || matches!(ends_long_line(alloc), Ok(true))
+    );
+}
+
+#[test]
+fn long_gets(rt: HostRuntime) {
+    let alloc = rt.alloc();
+    assert!(rt;
+        matches!(takes_long_get(alloc), Ok(true)) || matches!(takes_long_get(alloc), Ok(true))
     );
 }
 

@@ -71,7 +71,7 @@ const STORED: &[Row] = &[
     (10_000, b"get a\r\n", b"VALUE a 1 1\r\ny\r\nEND\r\n"),
 ];
 
-/// Numbers.
+/// Counting.
 const COUNTED: &[Row] = &[
     (0, b"set n 3 0 2\r\n10\r\n", b"STORED\r\n"),
     (0, b"incr n 5\r\n", b"15\r\n"),
@@ -301,6 +301,160 @@ const META_COUNTED: &[Row] = &[
     ),
 ];
 
+/// Numbers and expiries as they are written.
+const NUMBERS: &[Row] = &[
+    (
+        0,
+        b"set a 0 4294967295 1\r\nx\r\nget a\r\n",
+        b"STORED\r\nEND\r\n",
+    ),
+    (
+        0,
+        b"set a 0 2147483648 1\r\nx\r\nget a\r\n",
+        b"STORED\r\nEND\r\n",
+    ),
+    (
+        0,
+        b"set a 0 2147483647 1\r\nx\r\nmg a t\r\n",
+        b"STORED\r\nHD t447483647\r\n",
+    ),
+    (
+        0,
+        b"set a 0 4294967296 1\r\nx\r\nmg a t\r\n",
+        b"STORED\r\nHD t-1\r\n",
+    ),
+    (
+        0,
+        b"set a 0 -4294967291 1\r\nx\r\nmg a t\r\n",
+        b"STORED\r\nHD t5\r\n",
+    ),
+    (
+        0,
+        b"set a 0 9223372036854775808 1\r\nset a 0 -9223372036854775809 1\r\n",
+        b"CLIENT_ERROR bad command line format\r\nCLIENT_ERROR bad command line format\r\n",
+    ),
+    (
+        0,
+        b"set a 0 9223372036854775807 1\r\nx\r\nget a\r\n",
+        b"STORED\r\nEND\r\n",
+    ),
+    (
+        0,
+        b"set a 0 0 1\r\nx\r\ntouch a 4294967295\r\nget a\r\n",
+        b"STORED\r\nTOUCHED\r\nEND\r\n",
+    ),
+    (
+        0,
+        b"set a 0 0 1\r\nx\r\ngat 2147483648 a\r\nget a\r\n",
+        b"STORED\r\nVALUE a 0 1\r\nx\r\nEND\r\nEND\r\n",
+    ),
+    (
+        0,
+        b"ms a 1 T4294967295\r\nx\r\nmg a\r\nmg b v N4294967295\r\nmg b\r\n",
+        b"HD\r\nEN\r\nVA 0 W\r\n\r\nEN\r\n",
+    ),
+    (
+        0,
+        b"set a 0 0 1\r\nx\r\nflush_all 4294967295\r\nget a\r\n",
+        b"STORED\r\nOK\r\nEND\r\n",
+    ),
+    (
+        0,
+        b"set a +1 +5 +1\r\nx\r\nmg a f s t\r\n",
+        b"STORED\r\nHD f1 s1 t5\r\n",
+    ),
+    (
+        0,
+        b"set n 0 0 2\r\n+5\r\nincr n +1\r\nincr n ++1\r\nincr n +\r\n",
+        b"STORED\r\n6\r\nCLIENT_ERROR invalid numeric delta argument\r\nCLIENT_ERROR invalid numeric delta argument\r\n",
+    ),
+    (
+        0,
+        b"set a 0 0 2147483647\r\nset a 0 0 2147483646\r\nms a 2147483646\r\nversion\r\n",
+        b"CLIENT_ERROR bad command line format\r\nCLIENT_ERROR bad command line format\r\nCLIENT_ERROR bad command line format\r\nVERSION 1.6.18\r\n",
+    ),
+];
+
+/// Flags of meta commands, and what is told by them.
+const FLAGS: &[Row] = &[
+    (
+        0,
+        b"set a 0 0 1\r\nx\r\nmd a s N30 R3 F3 J3 D3 v k O1 P L\r\n",
+        b"STORED\r\nHD ka O1\r\n",
+    ),
+    (0, b"ms a 1 v N3 R3 D1 J1 s t f k\r\nx\r\n", b"HD ka\r\n"),
+    (0, b"mg a F3 D1 J1 C5 MX I s\r\n", b"HD s1\r\n"),
+    (
+        0,
+        b"set n 5 30 1\r\n1\r\nmg n R-1\r\nmg n R0\r\nmg n R31\r\nmg n R31\r\n",
+        b"STORED\r\nHD\r\nHD\r\nHD W\r\nHD Z\r\n",
+    ),
+    (
+        0,
+        b"set n 5 0 1\r\n1\r\nma n v f t k s O1\r\n",
+        b"STORED\r\nVA 1 t-1 kn O1\r\n2\r\n",
+    ),
+    (
+        0,
+        b"mg n O1234567890123456789012345678901\r\nmg n O12345678901234567890123456789012\r\n",
+        b"HD O1234567890123456789012345678901\r\nCLIENT_ERROR opaque token too long\r\n",
+    ),
+    (
+        0,
+        b"mg n MSS\r\nms n 1 MSet\r\nz\r\nms n 1 M\r\nz\r\nms n 1 Ms\r\nz\r\n",
+        b"CLIENT_ERROR incorrect length for M token\r\nCLIENT_ERROR incorrect length for M token\r\nCLIENT_ERROR incorrect length for M token\r\nCLIENT_ERROR invalid mode for ms M token\r\n",
+    ),
+    (
+        0,
+        b"ma n MZ\r\nma n Md\r\nma n Mi\r\nma n M+ v\r\nma n M- v\r\n",
+        b"CLIENT_ERROR invalid mode for ma M token\r\nCLIENT_ERROR invalid mode for ma M token\r\nCLIENT_ERROR invalid mode for ma M token\r\nVA 1\r\n3\r\nVA 1\r\n2\r\n",
+    ),
+    (
+        0,
+        b"ma nn N30 q v\r\nma nn N30 q v\r\nmn\r\n",
+        b"VA 1\r\n0\r\nMN\r\n",
+    ),
+    (
+        0,
+        b"ma nn C0 v\r\nma nn C1 v\r\nmd nn C0\r\n",
+        b"VA 1\r\n2\r\nEX\r\nEX\r\n",
+    ),
+];
+
+/// Uniques that a `ms` names, and what each mode makes of them.
+const COMPARED: &[Row] = &[
+    (
+        0,
+        b"set a 5 0 3\r\nabc\r\nset a 5 0 3\r\nabc\r\n",
+        b"STORED\r\nSTORED\r\n",
+    ),
+    (
+        0,
+        b"ms a 3 C1 I MA\r\nxyz\r\nms a 3 C1 I MP\r\nxyz\r\nms a 3 C1 I ME\r\nxyz\r\nms a 3 C1 ME\r\nxyz\r\n",
+        b"EX\r\nEX\r\nNS\r\nNS\r\n",
+    ),
+    (
+        0,
+        b"ms a 3 C0 I\r\nxyz\r\nms a 3 C0\r\nxyz\r\nms a 3 C0 MR\r\nxyz\r\nmg a v f\r\n",
+        b"EX\r\nEX\r\nEX\r\nVA 3 f5\r\nabc\r\n",
+    ),
+    (
+        0,
+        b"ms a 1 C0 MA\r\nd\r\nms a 1 C0 MP\r\ne\r\nmg a v f\r\n",
+        b"HD\r\nHD\r\nVA 5 f5\r\neabcd\r\n",
+    ),
+    (
+        0,
+        b"ms a 1 C1 I MR\r\nz\r\nmg a v f\r\n",
+        b"HD\r\nVA 1 f0 X W\r\nz\r\n",
+    ),
+    (
+        0,
+        b"ms b 1 C1 MA\r\nx\r\nms b 1 C1 MP\r\nx\r\nms b 1 C1 MR\r\nx\r\nms b 1 C1 MS\r\nx\r\nms b 1 C1 ME\r\nx\r\nmg b v\r\n",
+        b"NS\r\nNS\r\nNF\r\nNF\r\nHD\r\nVA 1\r\nx\r\n",
+    ),
+];
+
 /// Data blocks of more bytes than the service takes: what a `set` was to replace goes.
 const SMALL: Setup = Setup {
     capacity: 1 << 26,
@@ -327,6 +481,39 @@ const TOO_LARGE: &[Row] = &[
         0,
         b"set a 0 0 11\r\n01234567890\r\nversion\r\n",
         b"SERVER_ERROR object too large for cache\r\nVERSION 1.6.18\r\n",
+    ),
+];
+
+/// A `ms` whose flags are wrong leaves the item.
+const FAULTY_AND_TOO_LARGE: &[Row] = &[
+    (
+        0,
+        b"set a 0 0 1\r\nx\r\nms a 11 zz\r\n01234567890\r\nget a\r\n",
+        b"STORED\r\nCLIENT_ERROR invalid flag\r\nVALUE a 0 1\r\nx\r\nEND\r\n",
+    ),
+    (
+        0,
+        b"ms a 11\r\n01234567890\r\nget a\r\n",
+        b"SERVER_ERROR object too large for cache\r\nEND\r\n",
+    ),
+];
+
+/// Room for one item of 9 bytes under a key of one byte.
+const NARROW: Setup = Setup {
+    capacity: 300,
+    item_size: 100,
+};
+
+const TOO_HEAVY: &[Row] = &[
+    (
+        0,
+        b"set a 0 0 10\r\n0123456789\r\nget a\r\n",
+        b"SERVER_ERROR out of memory storing object\r\nEND\r\n",
+    ),
+    (
+        0,
+        b"set a 0 0 9\r\n012345678\r\nget a\r\n",
+        b"STORED\r\nVALUE a 0 9\r\n012345678\r\nEND\r\n",
     ),
 ];
 
@@ -417,8 +604,33 @@ fn meta_counted(rt: HostRuntime) {
 }
 
 #[test]
+fn numbers(rt: HostRuntime) {
+    assert!(rt; all_right(rt.alloc(), LARGE, NUMBERS));
+}
+
+#[test]
+fn flags(rt: HostRuntime) {
+    assert!(rt; all_right(rt.alloc(), LARGE, FLAGS));
+}
+
+#[test]
+fn compared(rt: HostRuntime) {
+    assert!(rt; all_right(rt.alloc(), LARGE, COMPARED));
+}
+
+#[test]
 fn too_large(rt: HostRuntime) {
     assert!(rt; all_right(rt.alloc(), SMALL, TOO_LARGE));
+}
+
+#[test]
+fn faulty_and_too_large(rt: HostRuntime) {
+    assert!(rt; all_right(rt.alloc(), SMALL, FAULTY_AND_TOO_LARGE));
+}
+
+#[test]
+fn too_heavy(rt: HostRuntime) {
+    assert!(rt; all_right(rt.alloc(), NARROW, TOO_HEAVY));
 }
 
 #[test]
