@@ -10,10 +10,12 @@ use Rattle.rand_core.specs.Stream.{Stream}
 use Rattle.sync_desk.specs.Drawing.{IsCauseToCoverAsDrawn, IsDrawn}
 use Rattle.sync_desk.specs.Sharding.{CommitsAsDrawn}
 
--- what the lock of a shard guards, but for the environment and who waits for a turn: the state, and when values were last written
+-- what the lock of a shard guards, but for the generator and who waits for a turn: the state, when values were last written, and the
+-- moment that was handed in
 pub record Guarded (K V P S R : Type 0) : Type 0 where
   pub state : Front K V P S R
   pub writes : List ℕ
+  pub moment : ℕ
 
 -- what the items of a list are seen as
 abbrev pub each_of : {X Y : Type 0} → List X → (X → Y) → List Y
@@ -35,6 +37,10 @@ module _ {K V P S R : Type 0} where
     pub draws : DrawsForFirst drawn left id d.state
     pub steps : d.state.step + 1 < 2 ^ 64
 
+  -- a shard may refuse a predicate so
+  abbrev pub MayRefuse : Guarded K V P S R → CacheError → Type 0
+  MayRefuse d e = (drawn left : Stream) × IsCauseToCoverAsDrawn drawn left d.state e
+
   -- each shard may draw the identifier at its place
   abbrev pub MayCoverEach : List ℕ → List (Guarded K V P S R) → Type 0
   MayCoverEach ids ds =
@@ -48,8 +54,9 @@ module _ {K V P S R : Type 0} where
 
   -- a shard registers a predicate under an identifier, in the room that was made for it
   pub record Commits (predicate : P) (id : ℕ) (old new : Guarded K V P S R) : Type 0 where
-    pub state : CommitsAsDrawn id predicate old.state new.state
+    pub state : CommitsAsDrawn old.moment id predicate old.state new.state
     pub writes : new.writes ≡ old.writes
+    pub moment : new.moment ≡ old.moment
 
   -- the shards before a place register a predicate, each under the identifier at its place, and the others do nothing
   pub record CommitsFirst (predicate : P) (ids : List ℕ) (count : ℕ)
@@ -64,7 +71,7 @@ module _ {K V P S R : Type 0} where
   pub record CoversShard (predicate : P) (old new : Guarded K V P S R) : Type 0 where
     pub id : ℕ
     pub at : At
-    pub now : IsDrawn old.state at
+    pub now : IsDrawn old.moment old.state at
     pub may : MayCover id old
     pub covers : new ≡ record old {
       state = passed at.now at.step (with_first_part
@@ -79,5 +86,4 @@ module _ {K V P S R : Type 0} where
   abbrev pub IsCauseToCoverShards : List (Guarded K V P S R) → CacheError → Type 0
   IsCauseToCoverShards ds errors.OutOfMemory = Unit {0}
   IsCauseToCoverShards ds e =
-      (place : ℕ) × (d : Guarded K V P S R) × (slice_get ds place ≡ Some d)
-      × IsCauseToCoverAsDrawn d.state e
+      (place : ℕ) × (d : Guarded K V P S R) × (slice_get ds place ≡ Some d) × MayRefuse d e

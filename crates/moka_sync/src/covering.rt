@@ -2,8 +2,7 @@
 ghost use Rattle.std.specs.Prelude.{◌≡◌, ◌<◌, ◌≤◌, ℕ, [], Some, IfErr, IfOk, OnErr, OnOk, length, slice_get, slice_set, vec_capacity};
 ghost use Rattle.front_parts.specs.Wholes.Covering.{AreOnly};
 ghost use Rattle.front_parts.specs.Wholes.Firsts.{changed_first};
-ghost use Rattle.moka_sync.specs.Covering.{Commits, CommitsFirst, CoversShards, Guarded, IsCauseToCoverShards, IsPrepared, MayCover, MayCoverEach, prepared, released};
-ghost use Rattle.sync_desk.specs.Drawing.{IsCauseToCoverAsDrawn};
+ghost use Rattle.moka_sync.specs.Covering.{Commits, CommitsFirst, CoversShards, Guarded, IsCauseToCoverShards, IsPrepared, MayCover, MayCoverEach, MayRefuse, prepared, released};
 ghost use Rattle.front_state.specs.Sharding.{FirstHasRoom};
 
 use engine_reference::Rules;
@@ -17,7 +16,8 @@ use std::marker::Model;
 use std::sync::MutexGuard;
 use sync_desk::Desk;
 
-/// All shards of a cache, whose locks are held. Contracts see the state and the last writes of each, in the order of the shards.
+/// All shards of a cache, whose locks are held. Contracts see the state, the last writes and the moment of each, in the order of
+/// the shards.
 #[derive(Drop)]
 pub struct AllDesks<'a, K: Eq + Hash, V, S: BuildHasher, R: Rules<K, V>, G> {
     guards: Vec<MutexGuard<'a, Desk<K, V, S, R, G, Sharded>>>,
@@ -33,6 +33,7 @@ impl<'a, K: Eq + Hash, V, S: BuildHasher, R: Rules<K, V>, G> Model for AllDesks<
     ghost view = { λ c. each_of c.guards.items (λ g. record {
       state = (mutex_guard_value g).state;
       writes = (mutex_guard_value g).writes.steps;
+      moment = (mutex_guard_value g).moment;
     }) };
 }
 
@@ -66,7 +67,7 @@ impl<
             → slice_get self.old number ≡ Some d → MayCover id d) }
         ensures err { OnErr result (self.new ≡ self.old) }
         ensures cause { IfErr result (λ e. (d : Guarded K V R.Predicate S R)
-            → slice_get self.old number ≡ Some d → IsCauseToCoverAsDrawn d.state e) }
+            → slice_get self.old number ≡ Some d → MayRefuse d e) }
     {
         let desk = &mut *self.guards[number];
         desk.prepare_cover()

@@ -1,4 +1,6 @@
 //! The lock.
+ghost use Rattle.std.specs.Prelude.{◌≡◌};
+ghost use Rattle.std.specs.Sync.Mutex.{mutex_guard_value};
 
 use engine_reference::Rules;
 use front_state::{LentState, Single};
@@ -77,7 +79,9 @@ impl<
         &self,
         rt: &H,
         moment: Instant,
-    ) -> MutexGuard<'_, Desk<K, V, S, R, E::Generator, C>> {
+    ) -> MutexGuard<'_, Desk<K, V, S, R, E::Generator, C>>
+        ensures { (mutex_guard_value result).moment ≡ moment }
+    {
         let mut guard = self.lock_untimed(rt);
         let desk = &mut *guard;
         desk.at(moment);

@@ -48,24 +48,24 @@ module _ {K V P S R : Type 0} (ways : Ways K V P S R) (key : K) (hash : ℕ) (at
   compute-begins kinds.Optionally start computes starts = absurd (true≢false (sym computes))
   compute-begins kinds.Try start computes starts = absurd (true≢false (sym computes))
 
--- the same at the moment and step that were drawn, of a state that is as it was
-module _ {K V P S R : Type 0} (ways : Ways K V P S R) (key : K) (hash : ℕ) (at : At) (Ignores : V → Bool → Type 0) (old mid new : Front K V P S R) (same : mid ≡ old) (drawn : IsDrawn old at) (hashed : hash ≡ hash_in ways old key) where
-  begins-drawn : (kind : TurnKind) (start : TurnStart V) → BeginsBy ways kind key hash at Ignores mid new start → BeginsAsDrawn ways kind key Ignores old new start
-  begins-drawn kind start begins = (at, drawn, subst (λ n. BeginsBy ways kind key n at Ignores old new start) hashed (subst (λ f. BeginsBy ways kind key hash at Ignores f new start) same begins))
+-- the same at the moment and step that were drawn
+module _ {K V P S R : Type 0} (ways : Ways K V P S R) (moment : ℕ) (key : K) (hash : ℕ) (at : At) (Ignores : V → Bool → Type 0) (old new : Front K V P S R) (drawn : IsDrawn moment old at) (hashed : hash ≡ hash_in ways old key) where
+  begins-drawn : (kind : TurnKind) (start : TurnStart V) → BeginsBy ways kind key hash at Ignores old new start → BeginsAsDrawn ways moment kind key Ignores old new start
+  begins-drawn kind start begins = (at, drawn, subst (λ n. BeginsBy ways kind key n at Ignores old new start) hashed begins)
 
-  pub found-drawn : (kind : TurnKind) (ignored : Bool) (value : V) → same_kind kind kinds.Compute ≡ false → ((v : V) → visible_of ways (part_by_hash mid hash) at.now key ≡ Some v → Ignores v ignored)
-      → Some value ≡ past ignored (visible_of ways (part_by_hash mid hash) at.now key) → CallsPart hash at.now at.step (NotesLookUp ways.answers ways.eq key hash at.now ignored) mid new → BeginsAsDrawn ways kind key Ignores old new (state.Found value)
-  found-drawn kind ignored value makes asked is looks = begins-drawn kind (state.Found value) (found-begins ways key hash at Ignores ignored mid new kind value makes asked is looks)
+  pub found-drawn : (kind : TurnKind) (ignored : Bool) (value : V) → same_kind kind kinds.Compute ≡ false → ((v : V) → visible_of ways (part_by_hash old hash) at.now key ≡ Some v → Ignores v ignored)
+      → Some value ≡ past ignored (visible_of ways (part_by_hash old hash) at.now key) → CallsPart hash at.now at.step (NotesLookUp ways.answers ways.eq key hash at.now ignored) old new → BeginsAsDrawn ways moment kind key Ignores old new (state.Found value)
+  found-drawn kind ignored value makes asked is looks = begins-drawn kind (state.Found value) (found-begins ways key hash at Ignores ignored old new kind value makes asked is looks)
 
-  pub missed-drawn : {A E : Type 0} (kind : TurnKind) (ignored : Bool) (looked : Front K V P S R) (r : Result (Start A V) E) → looked ≡ mid → same_kind kind kinds.Compute ≡ false → ((v : V) → visible_of ways (part_by_hash mid hash) at.now key ≡ Some v → Ignores v ignored)
-      → None ≡ past ignored (visible_of ways (part_by_hash mid hash) at.now key) → IfOk r (λ start. StartsBy ways kind key hash at ignored looked new (state_start start)) → IfOk r (λ start. BeginsAsDrawn ways kind key Ignores old new (state_start start))
+  pub missed-drawn : {A E : Type 0} (kind : TurnKind) (ignored : Bool) (looked : Front K V P S R) (r : Result (Start A V) E) → looked ≡ old → same_kind kind kinds.Compute ≡ false → ((v : V) → visible_of ways (part_by_hash old hash) at.now key ≡ Some v → Ignores v ignored)
+      → None ≡ past ignored (visible_of ways (part_by_hash old hash) at.now key) → IfOk r (λ start. StartsBy ways kind key hash at ignored looked new (state_start start)) → IfOk r (λ start. BeginsAsDrawn ways moment kind key Ignores old new (state_start start))
   missed-drawn kind ignored looked (Ok start) stays makes asked is starts =
-      begins-drawn kind (state_start start) (missed-begins ways key hash at Ignores ignored mid new kind (state_start start) makes asked is (subst (λ f. StartsBy ways kind key hash at ignored f new (state_start start)) stays starts))
+      begins-drawn kind (state_start start) (missed-begins ways key hash at Ignores ignored old new kind (state_start start) makes asked is (subst (λ f. StartsBy ways kind key hash at ignored f new (state_start start)) stays starts))
   missed-drawn kind ignored looked (Err e) stays makes asked is starts = tt
 
   pub compute-drawn : {A E : Type 0} (kind : TurnKind) (ignored : Bool) (r : Result (Start A V) E) → same_kind kind kinds.Compute ≡ true
-      → IfOk r (λ start. StartsBy ways kind key hash at ignored mid new (state_start start)) → IfOk r (λ start. BeginsAsDrawn ways kind key Ignores old new (state_start start))
-  compute-drawn kind ignored (Ok start) computes starts = begins-drawn kind (state_start start) (compute-begins ways key hash at Ignores ignored mid new kind (state_start start) computes starts)
+      → IfOk r (λ start. StartsBy ways kind key hash at ignored old new (state_start start)) → IfOk r (λ start. BeginsAsDrawn ways moment kind key Ignores old new (state_start start))
+  compute-drawn kind ignored (Ok start) computes starts = begins-drawn kind (state_start start) (compute-begins ways key hash at Ignores ignored old new kind (state_start start) computes starts)
   compute-drawn kind ignored (Err e) computes starts = tt
 
 -- where no turn is under way, a call that finds nothing leads; where one is, it waits for it
@@ -116,12 +116,12 @@ module _ {V F : Type 0} (number hash : ℕ) (old mid new : SlotsByNumber V F) (b
       go false e = ends n ∙ ap (λ b. if b then changed kinds.Compute (ended_with GivenUp) (turn_by_number number mid) else turn_by_number n mid) e ∙ begins n ∙ ap (λ b. if b then Some (fresh_turn kinds.Compute hash) else turn_by_number n old) e
 
 -- a compute call that leads, and is then shown a value or refused
-module _ {K V P S R : Type 0} (ways : Ways K V P S R) (key : K) (number : ℕ) (old mid new : Front K V P S R) (starts : StartsAsDrawn ways key old mid (state.Lead number)) where
-  pub led : (r : Result (ComputeStart V) CacheError) → IfOk r (λ start. (seen : Option V) × (start ≡ computing.Lead number seen) × LooksUpAsDrawn ways key mid new seen) → IfOk r (ComputesAsDrawn ways key old new)
-  led (Ok start) shown = subst (λ s. ComputesAsDrawn ways key old new s) (sym shown.1) (mid, starts, shown.2)
+module _ {K V P S R : Type 0} (ways : Ways K V P S R) (moment kept : ℕ) (same : kept ≡ moment) (key : K) (number : ℕ) (old mid new : Front K V P S R) (starts : StartsAsDrawn ways moment key old mid (state.Lead number)) where
+  pub led : (r : Result (ComputeStart V) CacheError) → IfOk r (λ start. (seen : Option V) × (start ≡ computing.Lead number seen) × LooksUpAsDrawn ways kept key mid new seen) → IfOk r (ComputesAsDrawn ways moment key old new)
+  led (Ok start) shown = subst (λ s. ComputesAsDrawn ways moment key old new s) (sym shown.1) (mid, starts, subst (λ m. LooksUpAsDrawn ways m key mid new shown.0) same shown.2)
   led (Err e) shown = tt
 
-  pub unled : {F : Type 0} (hash : ℕ) (slots opens left : SlotsByNumber V F) (r : Result (ComputeStart V) CacheError) → IsPutAt number (Some (fresh_turn kinds.Compute hash)) slots opens → OnErr r (GivesUp number mid new)
-      → OnErr r (ChangesTurnAt kinds.Compute number (ended_with GivenUp) opens left) → OnErr r (EndsUnstarted ways key slots left old new)
+  pub unled : {F : Type 0} (hash : ℕ) (slots opens left : SlotsByNumber V F) (r : Result (ComputeStart V) CacheError) → IsPutAt number (Some (fresh_turn kinds.Compute hash)) slots opens → OnErr r (GivesUp kept number mid new)
+      → OnErr r (ChangesTurnAt kinds.Compute number (ended_with GivenUp) opens left) → OnErr r (EndsUnstarted ways moment key slots left old new)
   unled hash slots opens left (Ok start) begins gives told = tt
-  unled hash slots opens left (Err e) begins gives told = inr (number, mid, starts, gives, unopened number hash slots opens left begins told)
+  unled hash slots opens left (Err e) begins gives told = inr (number, mid, starts, subst (λ m. GivesUp m number mid new) same gives, unopened number hash slots opens left begins told)

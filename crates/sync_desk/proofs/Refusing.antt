@@ -10,22 +10,17 @@ use Rattle.front_reference.specs.declared.errors.CacheError.TheVariants as error
 use Rattle.sync_desk.specs.Drawing.{IsCauseToCoverAsDrawn}
 use Rattle.front_state.specs.Covering.{IsCauseToCover}
 
--- a predicate is refused by the state, as it stands where the call began
-pub refused_to_cover : {K V P S R T : Type 0} (old mid : Front K V P S R) (drawn left : Stream) (r : Result T CacheError) → mid ≡ old
-    → IfErr r (IsCauseToCover mid drawn left) → IfErr r (IsCauseToCoverAsDrawn old)
-refused_to_cover {K} {V} {P} {S} {R} {T} old mid drawn left r same cause = go r (subst (λ f. IfErr r (IsCauseToCover f drawn left)) same cause)
-  where
-    go : (r : Result T CacheError) → IfErr r (IsCauseToCover old drawn left) → IfErr r (IsCauseToCoverAsDrawn old)
-    go (Ok x) h = tt
-    go (Err errors.OutOfMemory) h = tt
-    go (Err errors.UsedUp) h = inr h.1
-    go (Err errors.InvalidationClosuresDisabled) h = h.1
-    go (Err errors.IdsInUse) h = (drawn, left, h)
-    go (Err errors.UnknownTurn) h = h
-    go (Err errors.Abandoned) h = h
+-- a predicate is refused by the state
+pub refused_to_cover : {K V P S R T : Type 0} (f : Front K V P S R) (drawn left : Stream) (r : Result T CacheError) → IfErr r (IsCauseToCover f drawn left) → IfErr r (IsCauseToCoverAsDrawn drawn left f)
+refused_to_cover f drawn left (Ok x) h = tt
+refused_to_cover f drawn left (Err errors.OutOfMemory) h = h
+refused_to_cover f drawn left (Err errors.UsedUp) h = (h.0, inr h.1)
+refused_to_cover f drawn left (Err errors.InvalidationClosuresDisabled) h = h
+refused_to_cover f drawn left (Err errors.IdsInUse) h = h
+refused_to_cover f drawn left (Err errors.UnknownTurn) h = h
+refused_to_cover f drawn left (Err errors.Abandoned) h = h
 
 -- why a turn does not end
-pub ending_used_up : {K V P S R T : Type 0} (ways : Ways K V P S R) (number : ℕ) (mid old : Front K V P S R) (e : CacheError)
-    → mid ≡ old → IsFinishCause ways number mid e → IsErrOf {T = T} (Err e) errors.UsedUp → IsFinishCause ways number old errors.UsedUp
-ending_used_up ways number mid old e same cause is =
-    subst (λ f. IsFinishCause ways number f errors.UsedUp) same (subst (λ r. IfErr r (IsFinishCause ways number mid)) is cause)
+pub ending_used_up : {K V P S R T : Type 0} (ways : Ways K V P S R) (number : ℕ) (f : Front K V P S R) (e : CacheError)
+    → IsFinishCause ways number f e → IsErrOf {T = T} (Err e) errors.UsedUp → IsFinishCause ways number f errors.UsedUp
+ending_used_up ways number f e cause is = subst (λ r. IfErr r (IsFinishCause ways number f)) is cause

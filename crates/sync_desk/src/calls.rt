@@ -28,10 +28,10 @@ impl<
     pub fn get(&mut self, key: &K) -> Result<Option<V>, CacheError>
         requires exact { (x y : V) → V.is_clone x y → y ≡ x }
         ensures found { IfOk result
-            (LooksUpAsDrawn ⟦<R as HasWays<K, V, S>>⟧.ways key.now self.old.state self.new.state) }
+            (LooksUpAsDrawn ⟦<R as HasWays<K, V, S>>⟧.ways self.old.moment key.now
+            self.old.state self.new.state) }
         ensures err { OnErr result (self.new.state ≡ self.old.state) }
-        ensures slots { self.new.slots ≡ self.old.slots }
-        ensures writes { self.new.writes ≡ self.old.writes }
+        ensures rest { self.new ≡ record self.old { state = self.new.state } }
         ensures cause { IfErr result IsShortage }
         ensures used_up { IsErrOf result errors.UsedUp
             → LacksSteps 1 self.old.state }
@@ -42,11 +42,9 @@ impl<
     /// Returns whether a key has a visible value. The call does not count as a use, and changes nothing.
     pub fn contains_key(&mut self, key: &K) -> bool
         ensures found { (found : Option V)
-            × SeesAsDrawn ⟦<R as HasWays<K, V, S>>⟧.ways key.now self.old.state found
-            × (result ≡ is_some found) }
-        ensures state { self.new.state ≡ self.old.state }
-        ensures slots { self.new.slots ≡ self.old.slots }
-        ensures writes { self.new.writes ≡ self.old.writes }
+            × SeesAsDrawn ⟦<R as HasWays<K, V, S>>⟧.ways self.old.moment key.now
+            self.old.state found × (result ≡ is_some found) }
+        ensures same { self.new ≡ self.old }
     {
         self.contains_key_by_name(&LentKey { key })
     }
@@ -54,10 +52,11 @@ impl<
     /// Inserts a value. A cache of capacity 0 stores none. Returns `OutOfMemory` if there is not enough memory, and `UsedUp` if 2^64 - 1
     /// calls have been made or the 64-bit numbers of writes are used up; then nothing has changed.
     pub fn insert(&mut self, key: K, value: V) -> Result<(), CacheError>
-        ensures inserts { OnOk result (InsertsAsDrawn ⟦<R as HasWays<K, V, S>>⟧.ways key value
-            self.old.state self.new.state) }
+        ensures inserts { OnOk result (InsertsAsDrawn ⟦<R as HasWays<K, V, S>>⟧.ways
+            self.old.moment key value self.old.state self.new.state) }
         ensures err { OnErr result (self.new.state ≡ self.old.state) }
-        ensures slots { self.new.slots ≡ self.old.slots }
+        ensures rest { self.new
+            ≡ record self.old { state = self.new.state; writes = self.new.writes } }
         ensures writes { self.new.writes.steps ≡ noted_if (if is_ok result
             then Some (hash_in ⟦<R as HasWays<K, V, S>>⟧.ways self.old.state key) else None)
             (self.old.state.step + 1) self.old.writes.steps }
@@ -91,10 +90,9 @@ impl<
         requires exact { (x y : V) → V.is_clone x y → y ≡ x }
         ensures value { IfOk result (λ value. value
             ≡ held_value_in ⟦<R as HasWays<K, V, S>>⟧.ways self.old.state key.now) }
-        ensures removes { OnOk result (RemovesAsDrawn ⟦<R as HasWays<K, V, S>>⟧.ways key.now
-            self.old.state self.new.state) }
-        ensures slots { self.new.slots ≡ self.old.slots }
-        ensures writes { self.new.writes ≡ self.old.writes }
+        ensures removes { OnOk result (RemovesAsDrawn ⟦<R as HasWays<K, V, S>>⟧.ways
+            self.old.moment key.now self.old.state self.new.state) }
+        ensures rest { self.new ≡ record self.old { state = self.new.state } }
         ensures err { OnErr result (self.new.state ≡ self.old.state) }
         ensures cause { IfErr result IsShortage }
         ensures used_up { IsErrOf result errors.UsedUp
@@ -108,11 +106,10 @@ impl<
     /// calls have been made or the 64-bit numbers of writes are used up; then nothing has changed.
     pub fn invalidate(&mut self, key: &K) -> Result<(), CacheError>
         requires exact { (x y : V) → V.is_clone x y → y ≡ x }
-        ensures removes { OnOk result (RemovesAsDrawn ⟦<R as HasWays<K, V, S>>⟧.ways key.now
-            self.old.state self.new.state) }
+        ensures removes { OnOk result (RemovesAsDrawn ⟦<R as HasWays<K, V, S>>⟧.ways
+            self.old.moment key.now self.old.state self.new.state) }
         ensures err { OnErr result (self.new.state ≡ self.old.state) }
-        ensures slots { self.new.slots ≡ self.old.slots }
-        ensures writes { self.new.writes ≡ self.old.writes }
+        ensures rest { self.new ≡ record self.old { state = self.new.state } }
         ensures cause { IfErr result IsShortage }
         ensures used_up { IsErrOf result errors.UsedUp
             → LacksSteps 1 self.old.state ⊎ IsCauseIn
@@ -123,10 +120,9 @@ impl<
 
     /// Invalidates every value that was written before. Returns `UsedUp` if 2^64 - 1 calls have been made; then nothing has changed.
     pub fn invalidate_all(&mut self) -> Result<(), CacheError>
-        ensures clears { OnOk result (ClearsAsDrawn self.old.state self.new.state) }
+        ensures clears { OnOk result (ClearsAsDrawn self.old.moment self.old.state self.new.state) }
         ensures err { OnErr result (self.new.state ≡ self.old.state) }
-        ensures slots { self.new.slots ≡ self.old.slots }
-        ensures writes { self.new.writes ≡ self.old.writes }
+        ensures rest { self.new ≡ record self.old { state = self.new.state } }
         ensures cause { IfErr result
             (λ e. (e ≡ errors.UsedUp) × LacksSteps 1 self.old.state) }
     {
@@ -139,10 +135,10 @@ impl<
 
     /// Runs maintenance to its end. Returns `UsedUp` if 2^64 - 1 calls have been made; then nothing has changed.
     pub fn run_pending_tasks(&mut self) -> Result<(), CacheError>
-        ensures runs { OnOk result (RunsAsDrawn R.answers self.old.state self.new.state) }
+        ensures runs { OnOk result (RunsAsDrawn R.answers self.old.moment self.old.state
+            self.new.state) }
         ensures err { OnErr result (self.new.state ≡ self.old.state) }
-        ensures slots { self.new.slots ≡ self.old.slots }
-        ensures writes { self.new.writes ≡ self.old.writes }
+        ensures rest { self.new ≡ record self.old { state = self.new.state } }
         ensures cause { IfErr result
             (λ e. (e ≡ errors.UsedUp) × LacksSteps 1 self.old.state) }
     {

@@ -1,5 +1,6 @@
 //! What the lock guards.
-ghost use Rattle.std.specs.Prelude.{◌≡◌, ◌<◌, None, IfSome};
+ghost use Rattle.std.specs.HashMap.{IsEmpty};
+ghost use Rattle.std.specs.Prelude.{◌≡◌, ◌<◌, None, IfSome, max, replicate};
 ghost use Rattle.front_reference.specs.Fronts.{ComesAfter};
 ghost use Rattle.front_reference.specs.Wholes.{total_number, total_weight};
 ghost use Rattle.front_state.specs.Calls.{hash_in};
@@ -17,8 +18,9 @@ use rand_core::Rng;
 use std::alloc::Global;
 use std::hash::{BuildHasher, Hash};
 
-/// A cache's state with its generator, and the turns that are led or waited for. Each call has its moment, the greater of the moment that
-/// was handed in last (`at`) and the state's, and its step, the one after the state's.
+/// A cache's state with its generator, and the turns that are led or waited for. Each call has its moment, the later of the moment that was
+/// handed in last (`at`) and the state's, and its step, the one after the state's. Only `at` changes the moment that was handed in, and only
+/// a call with a predicate draws from the generator.
 #[derive(Drop)]
 pub struct Desk<K: Eq + Hash, V, S: BuildHasher, R: Rules<K, V>, G, C = Single> {
     pub(crate) alloc: Global,
@@ -39,7 +41,11 @@ impl<
 > Desk<K, V, S, R, G, C> {
     /// Creates what a lock guards, of a state with no turn under way and the generator that gives its random words. Its moment is 0.
     pub fn new(alloc: Global, state: LentState<K, V, S, R, C>, generator: G) -> Self
-        ensures { result.state ≡ state }
+        ensures state { result.state ≡ state }
+        ensures slots { IsEmpty result.slots.slots }
+        ensures writes { result.writes.steps ≡ replicate 64 0 }
+        ensures moment { result.moment ≡ 0 }
+        ensures generator { result.generator ≡ generator }
     {
         Desk {
             alloc,
@@ -53,25 +59,28 @@ impl<
 
     /// Hands in the moment of the calls that come next. A moment before the state's last counts as the last.
     pub fn at(&mut self, moment: Instant)
-        ensures state { self.new.state ≡ self.old.state }
-        ensures slots { self.new.slots ≡ self.old.slots }
-        ensures writes { self.new.writes ≡ self.old.writes }
+        ensures { self.new ≡ record self.old { moment = moment } }
     {
         self.moment = moment;
     }
 
-    /// The moment and step of the next call; `None` if the 64-bit steps are used up.
-    pub(crate) fn draw(&mut self) -> Option<At>
-        ensures follows { IfSome result (λ at. ComesAfter at.now at.step self.old.state) }
-        ensures rises { IfSome result (λ at. self.old.state.step < at.step) }
-        ensures drawn { IfSome result (IsDrawn self.old.state) }
-        ensures used_up { result ≡ None → LacksSteps 1 self.old.state }
-        ensures state { self.new.state ≡ self.old.state }
-        ensures slots { self.new.slots ≡ self.old.slots }
-        ensures writes { self.new.writes ≡ self.old.writes }
+    /// The moment of the next call.
+    pub(crate) fn next_moment(&self) -> Instant
+        ensures { result ≡ max self.now.moment self.now.state.moment }
     {
         let last = self.state.last_call();
-        let now = self.moment.max(last.now);
+        self.moment.max(last.now)
+    }
+
+    /// The moment and step of the next call; `None` if the 64-bit steps are used up.
+    pub(crate) fn draw(&self) -> Option<At>
+        ensures follows { IfSome result (λ at. ComesAfter at.now at.step self.now.state) }
+        ensures rises { IfSome result (λ at. self.now.state.step < at.step) }
+        ensures drawn { IfSome result (IsDrawn self.now.moment self.now.state) }
+        ensures used_up { result ≡ None → LacksSteps 1 self.now.state }
+    {
+        let last = self.state.last_call();
+        let now = self.next_moment();
         let step = last.step.checked_add(1)?;
         Some(At { now, step })
     }

@@ -27,10 +27,9 @@ impl<
     pub fn get_by_name<Q: HashedName<K>>(&mut self, name: &Q) -> Result<Option<V>, CacheError>
         requires exact { (x y : V) → V.is_clone x y → y ≡ x }
         ensures found { IfOk result (LooksUpAsDrawn ⟦<R as HasWays<K, V, S>>⟧.ways
-            (Q.named_key name.now) self.old.state self.new.state) }
+            self.old.moment (Q.named_key name.now) self.old.state self.new.state) }
         ensures err { OnErr result (self.new.state ≡ self.old.state) }
-        ensures slots { self.new.slots ≡ self.old.slots }
-        ensures writes { self.new.writes ≡ self.old.writes }
+        ensures rest { self.new ≡ record self.old { state = self.new.state } }
         ensures cause { IfErr result IsShortage }
         ensures used_up { IsErrOf result errors.UsedUp
             → LacksSteps 1 self.old.state }
@@ -47,15 +46,11 @@ impl<
     /// Does what `contains_key` does, by what names the key.
     pub fn contains_key_by_name<Q: HashedName<K>>(&mut self, name: &Q) -> bool
         ensures found { (found : Option V)
-            × SeesAsDrawn ⟦<R as HasWays<K, V, S>>⟧.ways (Q.named_key name.now)
-            self.old.state found
-            × (result ≡ is_some found) }
-        ensures state { self.new.state ≡ self.old.state }
-        ensures slots { self.new.slots ≡ self.old.slots }
-        ensures writes { self.new.writes ≡ self.old.writes }
+            × SeesAsDrawn ⟦<R as HasWays<K, V, S>>⟧.ways self.old.moment
+            (Q.named_key name.now) self.old.state found × (result ≡ is_some found) }
+        ensures same { self.new ≡ self.old }
     {
-        let now = self.moment.max(self.state.last_call().now);
-        self.state.contains_key_by_name(name, now)
+        self.state.contains_key_by_name(name, self.next_moment())
     }
 
     /// Does what `remove` does, by what names the key, and returns its errors.
@@ -64,9 +59,8 @@ impl<
         ensures value { IfOk result (λ value. value ≡ held_value_in
             ⟦<R as HasWays<K, V, S>>⟧.ways self.old.state (Q.named_key name.now)) }
         ensures removes { OnOk result (RemovesAsDrawn ⟦<R as HasWays<K, V, S>>⟧.ways
-            (Q.named_key name.now) self.old.state self.new.state) }
-        ensures slots { self.new.slots ≡ self.old.slots }
-        ensures writes { self.new.writes ≡ self.old.writes }
+            self.old.moment (Q.named_key name.now) self.old.state self.new.state) }
+        ensures rest { self.new ≡ record self.old { state = self.new.state } }
         ensures err { OnErr result (self.new.state ≡ self.old.state) }
         ensures cause { IfErr result IsShortage }
         ensures used_up { IsErrOf result errors.UsedUp
@@ -83,10 +77,9 @@ impl<
     pub fn invalidate_by_name<Q: HashedName<K>>(&mut self, name: &Q) -> Result<(), CacheError>
         requires exact { (x y : V) → V.is_clone x y → y ≡ x }
         ensures removes { OnOk result (RemovesAsDrawn ⟦<R as HasWays<K, V, S>>⟧.ways
-            (Q.named_key name.now) self.old.state self.new.state) }
+            self.old.moment (Q.named_key name.now) self.old.state self.new.state) }
         ensures err { OnErr result (self.new.state ≡ self.old.state) }
-        ensures slots { self.new.slots ≡ self.old.slots }
-        ensures writes { self.new.writes ≡ self.old.writes }
+        ensures rest { self.new ≡ record self.old { state = self.new.state } }
         ensures cause { IfErr result IsShortage }
         ensures used_up { IsErrOf result errors.UsedUp
             → LacksSteps 1 self.old.state ⊎ IsCauseIn ⟦<R as HasWays<K, V, S>>⟧.ways

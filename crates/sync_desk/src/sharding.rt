@@ -26,14 +26,16 @@ impl<
     /// predicates, `OutOfMemory`, `UsedUp` if the 64-bit numbers are used up, and `IdsInUse` if each of a thousand identifiers that were
     /// drawn is registered; then the cache is as before.
     pub fn prepare_cover(&mut self) -> Result<u128, CacheError>
-        ensures prepares { IfOk result (λ id. PreparesAsDrawn id self.old.state self.new.state) }
+        ensures prepares { IfOk result (λ id. PreparesAsDrawn (G.stream self.old.generator)
+            (G.stream self.new.generator) id self.old.state self.new.state) }
         ensures takes { OnOk result (self.old.state.common.settings.takes_predicates ≡ true) }
         ensures first { self.old.state.common.settings.takes_predicates ≡ false
             → IsErrOf result errors.InvalidationClosuresDisabled }
         ensures err { OnErr result (self.new.state ≡ self.old.state) }
-        ensures slots { self.new.slots ≡ self.old.slots }
-        ensures writes { self.new.writes ≡ self.old.writes }
-        ensures cause { IfErr result (IsCauseToCoverAsDrawn self.old.state) }
+        ensures rest { self.new
+            ≡ record self.old { state = self.new.state; generator = self.new.generator } }
+        ensures cause { IfErr result (IsCauseToCoverAsDrawn (G.stream self.old.generator)
+            (G.stream self.new.generator) self.old.state) }
     {
         match self.draw_to_cover() {
             Ok(at) => {
@@ -53,9 +55,9 @@ impl<
     pub fn commit_cover(&mut self, id: u128, predicate: Shared<R::Predicate>)
         requires room { FirstHasRoom self.old.state }
         requires steps { self.old.state.step + 1 < 2 ^ 64 }
-        ensures commits { CommitsAsDrawn id predicate self.old.state self.new.state }
-        ensures slots { self.new.slots ≡ self.old.slots }
-        ensures writes { self.new.writes ≡ self.old.writes }
+        ensures commits { CommitsAsDrawn self.old.moment id predicate self.old.state
+            self.new.state }
+        ensures rest { self.new ≡ record self.old { state = self.new.state } }
     {
         match self.draw() {
             Some(at) => self.state.commit_cover(id, predicate, at),
@@ -67,8 +69,7 @@ impl<
     pub fn release_cover(&mut self)
         requires { FirstHasRoom self.old.state }
         ensures state { self.new.state ≡ with_first_part without_room self.old.state }
-        ensures slots { self.new.slots ≡ self.old.slots }
-        ensures writes { self.new.writes ≡ self.old.writes }
+        ensures rest { self.new ≡ record self.old { state = self.new.state } }
     {
         self.state.release_cover();
     }

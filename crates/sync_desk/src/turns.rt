@@ -13,7 +13,7 @@ ghost use Rattle.front_state.specs.Calls.{IsCauseIn, hash_in};
 ghost use Rattle.sync_desk.specs.Coalescing.{IsMadeOrFound};
 ghost use Rattle.sync_desk.specs.Drawing.{BeginsAsDrawn, CoalescesAsDrawn, ComputesAsDrawn, EndsUnstarted, FinishesAsDrawn, GivesUp, HasStarted, LacksNumbers, LacksSteps, LooksUpAsDrawn, TakesOutAsDrawn, compute_start, state_start, told_at_end};
 ghost use Rattle.sync_desk.specs.Slots.Endings.{IsExact, fits, suits};
-ghost use Rattle.sync_desk.specs.Slots.Refusals.{IsEndRefusal, IsShortOf, IsShortage};
+ghost use Rattle.sync_desk.specs.Slots.Refusals.{IsEndRefusal, IsEndShortOf, IsShortOf, IsShortage};
 ghost use Rattle.sync_desk.specs.Slots.Waiting.{ChangesTurnAt, SlotsStay, changed, ended_with, turn_hash, if_of, seen_with, turn_by_number, told_of};
 ghost use Rattle.sync_desk.specs.Writing.{noted_if};
 ghost use Rattle.sync_desk.specs.declared.slots.slot.Ending.TheVariants.{Done, GivenUp};
@@ -70,15 +70,16 @@ impl<
         requires exact { (x y : V) → V.is_clone x y → y ≡ x }
         requires callable { P.IsAlwaysCallable replace_if }
         ensures begins { IfOk result
-            (λ start. BeginsAsDrawn ⟦<R as HasWays<K, V, S>>⟧.ways kind (A.named_key asked)
-            (FnOnceReturnsAt P.FnOnce replace_if) self.old.state self.new.state
-            (state_start start)) }
+            (λ start. BeginsAsDrawn ⟦<R as HasWays<K, V, S>>⟧.ways self.old.moment kind
+            (A.named_key asked) (FnOnceReturnsAt P.FnOnce replace_if)
+            self.old.state self.new.state (state_start start)) }
         ensures turns { IfOk result (λ start. HasStarted kind
             (hash_in ⟦<R as HasWays<K, V, S>>⟧.ways self.old.state (A.named_key asked))
             self.old.slots.slots self.new.slots.slots (state_start start)) }
         ensures err { OnErr result ((self.new.state ≡ self.old.state)
             × SlotsStay self.old.slots.slots self.new.slots.slots) }
-        ensures writes { self.new.writes ≡ self.old.writes }
+        ensures rest { self.new
+            ≡ record self.old { state = self.new.state; slots = self.new.slots } }
         ensures cause { IsShortOf (LacksNumbers self.old.state self.old.slots.slots) result }
     {
         let Some(at) = self.draw() else {
@@ -118,7 +119,8 @@ impl<
             self.old.slots.slots self.new.slots.slots (state_start start)) }
         ensures err { OnErr result ((self.new.state ≡ self.old.state)
             × SlotsStay self.old.slots.slots self.new.slots.slots) }
-        ensures writes { self.new.writes ≡ self.old.writes }
+        ensures rest { self.new
+            ≡ record self.old { state = self.new.state; slots = self.new.slots } }
         ensures cause { IsShortOf (LacksNumbers self.old.state self.old.slots.slots) result }
     {
         match self.state.turn_number(kind, &asked, hash) {
@@ -147,7 +149,8 @@ impl<
             self.old.slots.slots self.new.slots.slots (state_start start)) }
         ensures err { OnErr result ((self.new.state ≡ self.old.state)
             × SlotsStay self.old.slots.slots self.new.slots.slots) }
-        ensures writes { self.new.writes ≡ self.old.writes }
+        ensures rest { self.new
+            ≡ record self.old { state = self.new.state; slots = self.new.slots } }
         ensures cause { IsShortOf (LacksNumbers self.old.state self.old.slots.slots) result }
     {
         let Ok(()) = self.slots.reserve() else {
@@ -184,7 +187,8 @@ impl<
             self.old.slots.slots self.new.slots.slots (state_start start)) }
         ensures err { OnErr result ((self.new.state ≡ self.old.state)
             × SlotsStay self.old.slots.slots self.new.slots.slots) }
-        ensures writes { self.new.writes ≡ self.old.writes }
+        ensures rest { self.new
+            ≡ record self.old { state = self.new.state; slots = self.new.slots } }
         ensures cause { IsShortOf (LacksNumbers self.old.state self.old.slots.slots) result }
     {
         if !self.slots.can_join(number) {
@@ -206,11 +210,12 @@ impl<
     /// refused, the new turn is given up.
     pub fn begin_compute(&mut self, key: &Shared<K>) -> Result<ComputeStart<V>, CacheError>
         requires exact { (x y : V) → V.is_clone x y → y ≡ x }
-        ensures begins { IfOk result (ComputesAsDrawn ⟦<R as HasWays<K, V, S>>⟧.ways key.now
-            self.old.state self.new.state) }
-        ensures err { OnErr result (EndsUnstarted ⟦<R as HasWays<K, V, S>>⟧.ways key.now
-            self.old.slots.slots self.new.slots.slots self.old.state self.new.state) }
-        ensures writes { self.new.writes ≡ self.old.writes }
+        ensures begins { IfOk result (ComputesAsDrawn ⟦<R as HasWays<K, V, S>>⟧.ways
+            self.old.moment key.now self.old.state self.new.state) }
+        ensures err { OnErr result (EndsUnstarted ⟦<R as HasWays<K, V, S>>⟧.ways self.old.moment
+            key.now self.old.slots.slots self.new.slots.slots self.old.state self.new.state) }
+        ensures rest { self.new
+            ≡ record self.old { state = self.new.state; slots = self.new.slots } }
         ensures cause { IfErr result IsShortage }
         ensures turns { IfOk result (λ start. HasStarted kinds.Compute
             (hash_in ⟦<R as HasWays<K, V, S>>⟧.ways self.old.state key.now)
@@ -233,13 +238,15 @@ impl<
         requires exact { (x y : V) → V.is_clone x y → y ≡ x }
         ensures leads { IfOk result (λ start. (seen : Option V)
             × (start ≡ ComputeStart.Lead number seen)
-            × LooksUpAsDrawn ⟦<R as HasWays<K, V, S>>⟧.ways key.now
+            × LooksUpAsDrawn ⟦<R as HasWays<K, V, S>>⟧.ways self.old.moment key.now
             self.old.state self.new.state seen) }
         ensures slots { OnOk result (self.new.slots ≡ self.old.slots) }
-        ensures gives_up { OnErr result (GivesUp number self.old.state self.new.state) }
+        ensures gives_up { OnErr result (GivesUp self.old.moment number self.old.state
+            self.new.state) }
         ensures told { OnErr result (ChangesTurnAt kinds.Compute number (ended_with GivenUp)
             self.old.slots.slots self.new.slots.slots) }
-        ensures writes { self.new.writes ≡ self.old.writes }
+        ensures rest { self.new
+            ≡ record self.old { state = self.new.state; slots = self.new.slots } }
         ensures cause { IfErr result IsShortage }
         ensures used_up { IsErrOf result errors.UsedUp → LacksSteps 1 self.old.state }
     {
@@ -265,8 +272,7 @@ impl<
         ensures leaves { ChangesTurnAt kind number (λ turn. seen_with turn.ending turn)
             self.old.slots.slots self.new.slots.slots }
         ensures cause { IfErr result (λ e. e ≡ errors.OutOfMemory) }
-        ensures state { self.new.state ≡ self.old.state }
-        ensures writes { self.new.writes ≡ self.old.writes }
+        ensures rest { self.new ≡ record self.old { slots = self.new.slots } }
     {
         match self.slots.look(kind, number) {
             Ok(ending) => Ok(ending),
@@ -288,15 +294,20 @@ impl<
             → ChangesTurnAt kind number (ended_with (told_at_end made result))
             self.old.slots.slots self.new.slots.slots }
         ensures ends { OnOk result ((is_some (turn_at self.old.state.turns number) ≡ true)
-            × FinishesAsDrawn ⟦<R as HasWays<K, V, S>>⟧.ways number made
-            self.old.state self.new.state) }
+            × FinishesAsDrawn ⟦<R as HasWays<K, V, S>>⟧.ways self.old.moment number
+            made self.old.state self.new.state) }
         ensures writes { self.new.writes.steps ≡ noted_if (if is_ok result
             then turn_hash kind (turn_by_number number self.old.slots.slots) else None)
             self.new.state.step self.old.writes.steps }
-        ensures err { OnErr result (GivesUp number self.old.state self.new.state) }
-        ensures cause { IfErr result IsEndRefusal }
-        ensures used_up { IsErrOf result errors.UsedUp → LacksSteps 1 self.old.state
-            ⊎ IsFinishCause ⟦<R as HasWays<K, V, S>>⟧.ways number self.old.state errors.UsedUp }
+        ensures rest { self.new ≡ record self.old {
+          state = self.new.state;
+          slots = self.new.slots;
+          writes = self.new.writes;
+        } }
+        ensures err { OnErr result (GivesUp self.old.moment number self.old.state
+            self.new.state) }
+        ensures cause { IsEndShortOf (LacksSteps 1 self.old.state ⊎ IsFinishCause
+            ⟦<R as HasWays<K, V, S>>⟧.ways number self.old.state errors.UsedUp) result }
         ensures unknown { IsErrOf result errors.UnknownTurn
             → turn_at self.old.state.turns number ≡ None }
     {
@@ -343,15 +354,20 @@ impl<
             (ended_with (if is_ok result then ending else GivenUp))
             self.old.slots.slots self.new.slots.slots }
         ensures ends { OnOk result ((is_some (turn_at self.old.state.turns number) ≡ true)
-            × FinishesAsDrawn ⟦<R as HasWays<K, V, S>>⟧.ways number made
-            self.old.state self.new.state) }
+            × FinishesAsDrawn ⟦<R as HasWays<K, V, S>>⟧.ways self.old.moment number
+            made self.old.state self.new.state) }
         ensures writes { self.new.writes.steps ≡ noted_if (if is_ok result
             then turn_hash kind (turn_by_number number self.old.slots.slots) else None)
             self.new.state.step self.old.writes.steps }
-        ensures err { OnErr result (GivesUp number self.old.state self.new.state) }
-        ensures cause { IfErr result IsEndRefusal }
-        ensures used_up { IsErrOf result errors.UsedUp → LacksSteps 1 self.old.state
-            ⊎ IsFinishCause ⟦<R as HasWays<K, V, S>>⟧.ways number self.old.state errors.UsedUp }
+        ensures rest { self.new ≡ record self.old {
+          state = self.new.state;
+          slots = self.new.slots;
+          writes = self.new.writes;
+        } }
+        ensures err { OnErr result (GivesUp self.old.moment number self.old.state
+            self.new.state) }
+        ensures cause { IsEndShortOf (LacksSteps 1 self.old.state ⊎ IsFinishCause
+            ⟦<R as HasWays<K, V, S>>⟧.ways number self.old.state errors.UsedUp) result }
         ensures unknown { IsErrOf result errors.UnknownTurn
             → turn_at self.old.state.turns number ≡ None }
     {
@@ -372,7 +388,8 @@ impl<
         requires { fits kind ending ≡ true }
         ensures told { ChangesTurnAt kind number (ended_with ending) self.old.slots.slots
             self.new.slots.slots }
-        ensures state { self.new.state ≡ self.old.state }
+        ensures rest { self.new
+            ≡ record self.old { slots = self.new.slots; writes = self.new.writes } }
         ensures writes { self.new.writes.steps
             ≡ noted_if (turn_hash kind (turn_by_number number self.old.slots.slots))
             self.old.state.step self.old.writes.steps }
@@ -385,12 +402,11 @@ impl<
 
     /// Ends the turn of the state.
     fn end_state(&mut self, number: u64, made: Made<V, Shared<R::Fault>>) -> Result<(), CacheError>
-        ensures ends { OnOk result (FinishesAsDrawn ⟦<R as HasWays<K, V, S>>⟧.ways number made
-            self.old.state self.new.state) }
+        ensures ends { OnOk result (FinishesAsDrawn ⟦<R as HasWays<K, V, S>>⟧.ways
+            self.old.moment number made self.old.state self.new.state) }
         ensures known { OnOk result (is_some (turn_at self.old.state.turns number) ≡ true) }
         ensures err { OnErr result (self.new.state ≡ self.old.state) }
-        ensures slots { self.new.slots ≡ self.old.slots }
-        ensures writes { self.new.writes ≡ self.old.writes }
+        ensures rest { self.new ≡ record self.old { state = self.new.state } }
         ensures cause { IfErr result IsEndRefusal }
         ensures used_up { IsErrOf result errors.UsedUp → LacksSteps 1 self.old.state
             ⊎ IsFinishCause ⟦<R as HasWays<K, V, S>>⟧.ways number self.old.state errors.UsedUp }
@@ -408,10 +424,11 @@ impl<
 
     /// Gives up the turn that the caller leads: those that wait begin again. The call is never refused.
     pub fn abandon(&mut self, kind: TurnKind, number: u64)
-        ensures gives_up { GivesUp number self.old.state self.new.state }
+        ensures gives_up { GivesUp self.old.moment number self.old.state self.new.state }
         ensures told { ChangesTurnAt kind number (ended_with GivenUp) self.old.slots.slots
             self.new.slots.slots }
-        ensures writes { self.new.writes ≡ self.old.writes }
+        ensures rest { self.new
+            ≡ record self.old { state = self.new.state; slots = self.new.slots } }
     {
         if let Some(at) = self.draw() {
             let _known = self.state.abandon(number, at);
@@ -422,17 +439,22 @@ impl<
     /// Ends the compute turn that the caller leads by putting a value. Returns the errors of `finish`; then the turn is given up.
     pub fn put(&mut self, number: u64, value: V) -> Result<(), CacheError>
         ensures ends { OnOk result ((is_some (turn_at self.old.state.turns number) ≡ true)
-            × FinishesAsDrawn ⟦<R as HasWays<K, V, S>>⟧.ways {F = R.Fault} number
-            (makes.Value value) self.old.state self.new.state) }
+            × FinishesAsDrawn ⟦<R as HasWays<K, V, S>>⟧.ways self.old.moment {F = R.Fault}
+            number (makes.Value value) self.old.state self.new.state) }
         ensures told { ChangesTurnAt kinds.Compute number (ended_with GivenUp) self.old.slots.slots
             self.new.slots.slots }
         ensures writes { self.new.writes.steps ≡ noted_if (if is_ok result
             then turn_hash kinds.Compute (turn_by_number number self.old.slots.slots) else None)
             self.new.state.step self.old.writes.steps }
-        ensures err { OnErr result (GivesUp number self.old.state self.new.state) }
-        ensures cause { IfErr result IsEndRefusal }
-        ensures used_up { IsErrOf result errors.UsedUp → LacksSteps 1 self.old.state
-            ⊎ IsFinishCause ⟦<R as HasWays<K, V, S>>⟧.ways number self.old.state errors.UsedUp }
+        ensures rest { self.new ≡ record self.old {
+          state = self.new.state;
+          slots = self.new.slots;
+          writes = self.new.writes;
+        } }
+        ensures err { OnErr result (GivesUp self.old.moment number self.old.state
+            self.new.state) }
+        ensures cause { IsEndShortOf (LacksSteps 1 self.old.state ⊎ IsFinishCause
+            ⟦<R as HasWays<K, V, S>>⟧.ways number self.old.state errors.UsedUp) result }
         ensures unknown { IsErrOf result errors.UnknownTurn
             → turn_at self.old.state.turns number ≡ None }
     {
@@ -451,10 +473,12 @@ impl<
         requires exact { (x y : V) → V.is_clone x y → y ≡ x }
         ensures told { ChangesTurnAt kinds.Compute number (ended_with GivenUp) self.old.slots.slots
             self.new.slots.slots }
-        ensures takes_out { IfOk result (TakesOutAsDrawn ⟦<R as HasWays<K, V, S>>⟧.ways number
-            key.now self.old.state self.new.state) }
-        ensures writes { self.new.writes ≡ self.old.writes }
-        ensures err { OnErr result (GivesUp number self.old.state self.new.state) }
+        ensures takes_out { IfOk result (TakesOutAsDrawn ⟦<R as HasWays<K, V, S>>⟧.ways
+            self.old.moment number key.now self.old.state self.new.state) }
+        ensures rest { self.new
+            ≡ record self.old { state = self.new.state; slots = self.new.slots } }
+        ensures err { OnErr result (GivesUp self.old.moment number self.old.state
+            self.new.state) }
         ensures cause { IfErr result IsShortage }
         ensures used_up { IsErrOf result errors.UsedUp → LacksSteps 1 self.old.state ⊎ IsCauseIn
             ⟦<R as HasWays<K, V, S>>⟧.ways removal_rooms self.old.state key.now errors.UsedUp }
@@ -478,11 +502,13 @@ impl<
     ) -> Result<(Made<V, Shared<R::Fault>>, bool), CacheError>
         requires exact { (x y : V) → V.is_clone x y → y ≡ x }
         requires callable { P.IsAlwaysCallable replace_if × M.IsAlwaysCallable make }
-        ensures coalesces { IfOk result (CoalescesAsDrawn ⟦<R as HasWays<K, V, S>>⟧.ways key.now
-            (FnOnceReturnsAt P.FnOnce replace_if) (M.post make) self.old.state self.new.state) }
+        ensures coalesces { IfOk result (CoalescesAsDrawn ⟦<R as HasWays<K, V, S>>⟧.ways
+            self.old.moment key.now (FnOnceReturnsAt P.FnOnce replace_if) (M.post make)
+            self.old.state self.new.state) }
         ensures answer { IfOk result (λ a. IsMadeOrFound (λ made. M.post make (Ok made)) a.0 a.1) }
         ensures err { OnErr result (self.new.state ≡ self.old.state) }
-        ensures slots { self.new.slots ≡ self.old.slots }
+        ensures rest { self.new
+            ≡ record self.old { state = self.new.state; writes = self.new.writes } }
         ensures writes { self.new.writes.steps ≡ noted_if (if is_ok result then Some
             (hash_in ⟦<R as HasWays<K, V, S>>⟧.ways self.old.state key.now) else None)
             (self.old.state.step + 1) self.old.writes.steps }

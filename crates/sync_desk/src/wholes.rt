@@ -33,14 +33,16 @@ impl<
         predicate: R::Predicate,
     ) -> Result<PredicateId, CacheError>
         ensures covers { IfOk result (λ text. (id : ℕ) × (string_bytes text ≡ id_text id)
-            × CoversAsDrawn predicate id self.old.state self.new.state) }
+            × CoversAsDrawn self.old.moment predicate (G.stream self.old.generator)
+            (G.stream self.new.generator) id self.old.state self.new.state) }
         ensures takes { OnOk result (self.old.state.common.settings.takes_predicates ≡ true) }
         ensures first { self.old.state.common.settings.takes_predicates ≡ false
             → IsErrOf result errors.InvalidationClosuresDisabled }
         ensures err { OnErr result (self.new.state ≡ self.old.state) }
-        ensures slots { self.new.slots ≡ self.old.slots }
-        ensures writes { self.new.writes ≡ self.old.writes }
-        ensures cause { IfErr result (IsCauseToCoverAsDrawn self.old.state) }
+        ensures rest { self.new
+            ≡ record self.old { state = self.new.state; generator = self.new.generator } }
+        ensures cause { IfErr result (IsCauseToCoverAsDrawn (G.stream self.old.generator)
+            (G.stream self.new.generator) self.old.state) }
     {
         match self.draw_to_cover() {
             Ok(at) => {
@@ -68,15 +70,17 @@ impl<
     /// `UsedUp` if the 64-bit numbers of calls or writes are used up, and `IdsInUse` if each of a thousand identifiers that were drawn for
     /// a segment is registered there; then the cache is as before.
     pub fn invalidate_entries_if(&mut self, predicate: R::Predicate) -> Result<(), CacheError>
-        ensures covers { OnOk result ((id : ℕ) × CoversAsDrawn predicate id self.old.state
-            self.new.state) }
+        ensures covers { OnOk result ((id : ℕ) × CoversAsDrawn self.old.moment predicate
+            (G.stream self.old.generator) (G.stream self.new.generator) id
+            self.old.state self.new.state) }
         ensures takes { OnOk result (self.old.state.common.settings.takes_predicates ≡ true) }
         ensures first { self.old.state.common.settings.takes_predicates ≡ false
             → IsErrOf result errors.InvalidationClosuresDisabled }
         ensures err { OnErr result (self.new.state ≡ self.old.state) }
-        ensures slots { self.new.slots ≡ self.old.slots }
-        ensures writes { self.new.writes ≡ self.old.writes }
-        ensures cause { IfErr result (IsCauseToCoverAsDrawn self.old.state) }
+        ensures rest { self.new
+            ≡ record self.old { state = self.new.state; generator = self.new.generator } }
+        ensures cause { IfErr result (IsCauseToCoverAsDrawn (G.stream self.old.generator)
+            (G.stream self.new.generator) self.old.state) }
     {
         match self.draw_to_cover() {
             Ok(at) => {
@@ -101,15 +105,13 @@ impl<
     C: Drop,
 > Desk<K, V, S, R, G, C> {
     /// The moment and step of a call with a predicate. A cache that takes none refuses that first.
-    pub(crate) fn draw_to_cover(&mut self) -> Result<At, CacheError>
-        ensures drawn { IfOk result (IsDrawn self.old.state) }
-        ensures takes { OnOk result (self.old.state.common.settings.takes_predicates ≡ true) }
-        ensures first { self.old.state.common.settings.takes_predicates ≡ false
+    pub(crate) fn draw_to_cover(&self) -> Result<At, CacheError>
+        ensures drawn { IfOk result (IsDrawn self.now.moment self.now.state) }
+        ensures takes { OnOk result (self.now.state.common.settings.takes_predicates ≡ true) }
+        ensures first { self.now.state.common.settings.takes_predicates ≡ false
             → IsErrOf result errors.InvalidationClosuresDisabled }
-        ensures state { self.new.state ≡ self.old.state }
-        ensures slots { self.new.slots ≡ self.old.slots }
-        ensures writes { self.new.writes ≡ self.old.writes }
-        ensures cause { IfErr result (IsCauseToCoverAsDrawn self.old.state) }
+        ensures cause { IfErr result (IsCauseToCoverAsDrawn (G.stream self.now.generator)
+            (G.stream self.now.generator) self.now.state) }
     {
         if !self.state.takes_predicates() {
             return Err(CacheError::InvalidationClosuresDisabled);
@@ -123,10 +125,9 @@ impl<
     /// Takes the oldest notice of the first segment that has one, or returns `None` if none has.
     pub fn next_notice(&mut self) -> Option<Notice<Shared<K>, V>>
         ensures notice { result ≡ next_told self.old.state.parts }
-        ensures taken { self.new.state
-            ≡ record self.old.state { parts = without_told self.old.state.parts } }
-        ensures slots { self.new.slots ≡ self.old.slots }
-        ensures writes { self.new.writes ≡ self.old.writes }
+        ensures taken { self.new ≡ record self.old {
+          state = record self.old.state { parts = without_told self.old.state.parts };
+        } }
     {
         self.state.next_notice()
     }
@@ -151,14 +152,11 @@ impl<
     pub fn scan(&mut self, key: &K) -> Result<Option<V>, CacheError>
         requires exact { (x y : V) → V.is_clone x y → y ≡ x }
         ensures found { IfOk result
-            (SeesAsDrawn ⟦<R as HasWays<K, V, S>>⟧.ways key.now self.old.state) }
-        ensures state { self.new.state ≡ self.old.state }
-        ensures slots { self.new.slots ≡ self.old.slots }
-        ensures writes { self.new.writes ≡ self.old.writes }
+            (SeesAsDrawn ⟦<R as HasWays<K, V, S>>⟧.ways self.old.moment key.now self.old.state) }
+        ensures same { self.new ≡ self.old }
         ensures cause { IfErr result (λ e. e ≡ errors.OutOfMemory) }
     {
-        let now = self.moment.max(self.state.last_call().now);
-        match self.state.peek(key, now) {
+        match self.state.peek(key, self.next_moment()) {
             Some(value) => match value.clone() {
                 Ok(found) => Ok(Some(found)),
                 Err(_) => Err(CacheError::OutOfMemory),

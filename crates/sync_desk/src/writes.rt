@@ -1,5 +1,5 @@
 //! When values were last written.
-ghost use Rattle.std.specs.Prelude.{◌≡◌, ◌%◌};
+ghost use Rattle.std.specs.Prelude.{◌≡◌, ◌%◌, replicate};
 ghost use Rattle.sync_desk.specs.Writing.{last_in, noted_in};
 
 /// The number of places.
@@ -15,7 +15,9 @@ pub(crate) struct Writes {
 
 impl Writes {
     /// Creates a table of no writes.
-    pub fn new() -> Self {
+    pub fn new() -> Self
+        ensures { result.steps ≡ replicate 64 0 }
+    {
         Writes { steps: [0; PLACES] }
     }
 

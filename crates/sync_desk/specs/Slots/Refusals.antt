@@ -18,6 +18,10 @@ IsShortOf Lacks result = IfErr result IsShortage × (IsErrOf result UsedUp → L
 abbrev pub IsEndRefusal : CacheError → Type 0
 IsEndRefusal e = IsShortage e ⊎ (e ≡ UnknownTurn)
 
+-- a turn that does not end lacks memory or numbers, or is not under way; if numbers, these are used up
+abbrev pub IsEndShortOf : {T : Type 0} → (Lacks : Type 0) → Result T CacheError → Type 0
+IsEndShortOf Lacks result = IfErr result IsEndRefusal × (IsErrOf result UsedUp → Lacks)
+
 -- a call that makes a value is refused: because its turn does not end, or because each of 200 turns that it waited for was given up
 abbrev pub IsTurnRefusal : CacheError → Type 0
 IsTurnRefusal e = IsEndRefusal e ⊎ (e ≡ Abandoned)

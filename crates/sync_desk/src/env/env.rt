@@ -1,4 +1,5 @@
 //! The source of moments and random words.
+ghost use Rattle.std.specs.Prelude.{ℕ, ⊤};
 
 use policy_base::Instant;
 use rand_core::Rng;
@@ -7,8 +8,12 @@ use rand_core::Rng;
 ///
 /// Moments may fall: a cache treats a moment before its last as the last.
 pub trait Watch {
+    /// Whether this is a moment that the watch may give.
+    ghost may_give: { Self → ℕ → Type 0 } = { λ _ _. ⊤ };
+
     /// Returns the moment at which a call comes.
-    fn now(&self) -> Instant;
+    fn now(&self) -> Instant
+        ensures { may_give self.now result };
 }
 
 /// Gives a cache its moments and its random words. When a cache is built, its environment is split: the watch is read outside the cache's

@@ -12,21 +12,21 @@ pub returns-in-Some-found-clause-begins : goal.returns-in-Some-found-clause-begi
 returns-in-Some-found-clause-begins g c =
     let ways = ways_by g.R.Rules g.K.PartialEq.eq g.K.Hash.hash_input g.S.BuildHasher g.S.Hasher.Hasher in
     let key = g.A.Names.named_key c.args.asked in
-    let drawn = c.draw.new.self.state in
-    let hashed = c.hash-hash.ensures ∙ ap (λ k. hash_in ways drawn k) c.key.ensures ∙ ap (λ f. hash_in ways f key) c.draw.ensures.state in
-    found-drawn ways key c.hash-hash.result c.in-Some.at (FnOnceReturnsAt g.P.FnOnce c.args.replace_if) c.args.self.now.state drawn c.get_unless.new.self c.draw.ensures.state c.in-Some.ensures.drawn hashed c.args.kind c.in-Ok.ignored c.in-Some-found.value
+    let old = c.args.self.now.state in
+    let hashed = c.hash-hash.ensures ∙ ap (λ k. hash_in ways old k) c.key.ensures in
+    found-drawn ways c.args.self.now.moment key c.hash-hash.result c.in-Some.at (FnOnceReturnsAt g.P.FnOnce c.args.replace_if) old c.get_unless.new.self c.in-Some.ensures.drawn hashed c.args.kind c.in-Ok.ignored c.in-Some-found.value
     (sym c.is_same.ensures.value ∙ c.if-is_same.false) c.in-Ok.ensures.asked (sym c.in-Some-found.is ∙ c.in-Ok.ensures.found) (where-some _ _ _ _ c.in-Some-found.is c.in-Ok.ensures.used)
 
 pub returns-in-None-clause-begins : goal.returns-in-None-clause-begins
 returns-in-None-clause-begins g c =
     let ways = ways_by g.R.Rules g.K.PartialEq.eq g.K.Hash.hash_input g.S.BuildHasher g.S.Hasher.Hasher in
     let key = g.A.Names.named_key c.args.asked in
-    let drawn = c.draw.new.self.state in
+    let old = c.args.self.now.state in
     let looked = c.get_unless.new.self in
     let hash = c.hash-hash.result in
     let at = c.in-Some.at in
     let ignored = c.in-Ok.ignored in
-    let hashed = c.hash-hash.ensures ∙ ap (λ k. hash_in ways drawn k) c.key.ensures ∙ ap (λ f. hash_in ways f key) c.draw.ensures.state in
-    let stays = where-none (looked ≡ drawn) (λ value. CallsPart hash at.now at.step (NotesLookUp g.R.Rules.answers g.K.PartialEq.eq key hash at.now ignored) drawn looked) c.in-Ok.found c.in-None.is c.in-Ok.ensures.used in
-    missed-drawn ways key hash at (FnOnceReturnsAt g.P.FnOnce c.args.replace_if) c.args.self.now.state drawn c.wait_or_lead-in-None.new.self.state c.draw.ensures.state c.in-Some.ensures.drawn hashed c.args.kind ignored looked c.wait_or_lead-in-None.result
+    let hashed = c.hash-hash.ensures ∙ ap (λ k. hash_in ways old k) c.key.ensures in
+    let stays = where-none (looked ≡ old) (λ value. CallsPart hash at.now at.step (NotesLookUp g.R.Rules.answers g.K.PartialEq.eq key hash at.now ignored) old looked) c.in-Ok.found c.in-None.is c.in-Ok.ensures.used in
+    missed-drawn ways c.args.self.now.moment key hash at (FnOnceReturnsAt g.P.FnOnce c.args.replace_if) old c.wait_or_lead-in-None.new.self.state c.in-Some.ensures.drawn hashed c.args.kind ignored looked c.wait_or_lead-in-None.result
     stays (sym c.is_same.ensures.value ∙ c.if-is_same.false) c.in-Ok.ensures.asked (sym c.in-None.is ∙ c.in-Ok.ensures.found) c.wait_or_lead-in-None.ensures.starts

@@ -6,4 +6,4 @@ use Rattle.sync_desk.proofs.desk.Desk.end_state.Goals as goal
 pub returns-in-Err-clause-used_up : goal.returns-in-Err-clause-used_up
 returns-in-Err-clause-used_up g c is =
     let ways = ways_by g.R.Rules g.K.PartialEq.eq g.K.Hash.hash_input g.S.BuildHasher g.S.Hasher.Hasher in
-    inr (ending_used_up ways c.args.number _ _ c.in-Err.refused c.draw.ensures.state c.in-Err.ensures.cause is)
+    inr (ending_used_up ways c.args.number c.args.self.now.state c.in-Err.refused c.in-Err.ensures.cause is)
