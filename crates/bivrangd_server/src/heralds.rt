@@ -50,6 +50,8 @@ fn without_value(alloc: Global, note: &Note) -> Result<Note, AllocError> {
 }
 
 impl<R: Clock + Wait + Copy> Teller for Herald<R> {
+    ghost tells = { λ before notes after. Unit {0} };
+
     fn is_told(&self) -> bool {
         true
     }

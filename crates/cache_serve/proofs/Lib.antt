@@ -3,3 +3,5 @@ mod Outgoing
 mod Refusing
 mod Seating
 mod Promised
+mod Telling
+mod Exchanging

@@ -13,6 +13,7 @@ use Rattle.audit_model.specs.declared.event.Outcome.{Outcome}
 use Rattle.audit_model.specs.declared.input.Conn.{Conn}
 use Rattle.audit_model.specs.declared.input.Input.TheVariants as input
 use Rattle.audit_model.specs.declared.input.LoadId.{LoadId}
+use Rattle.audit_model.specs.declared.transcript.Note.{Note}
 use Rattle.audit_laws.specs.declared.receipts.receipt.Receipt.{Receipt}
 use Rattle.cache_run.specs.Devices.Sources.{Asking, Askings, Readings}
 use Rattle.cache_run.specs.declared.devices.errors.RunError.{RunError}
@@ -33,12 +34,13 @@ use Rattle.cache_serve.specs.Served.{HadGoneOut, AsksAll, BeginsOrIdles, BeginsW
 use Rattle.cache_serve.specs.Sitting as sitting
 use Rattle.cache_serve.specs.Sitting.{SeatRests, tally}
 use Rattle.cache_shared.specs.Events.{IsUnfit}
-use Rattle.cache_serve.specs.Served.{Serves}
+use Rattle.cache_serve.specs.Exchanged.{CameSo, WasOpened}
+use Rattle.cache_serve.specs.Served.{Serves, ServesInTurns, ServesTurns}
 use Rattle.cache_shared.specs.declared.seat.Seat.{Seat}
 use Rattle.cache_shared.specs.declared.seat.Seating.{Ghosts as Ledgers}
 use Rattle.cache_shared.specs.Looked.{WereUntaken}
 use Rattle.cache_spaces.specs.Spaces.{Shown}
-use Rattle.cache_serve.proofs.Seating.{asks-more, asks-none, grows-more, Passed, chain-passed, deeds_in, texts-same, texts_in}
+use Rattle.cache_serve.proofs.Seating.{asks-more, asks-none, chain-each, chain-weaker, grows-more, Passed, chain-passed, deeds_in, texts-same, texts_in}
 use Rattle.cache_serve.specs.Asked.{SeatCloses, SeatComes, SeatDrops, SeatOpens, Tally}
 
 -- ---- what was refused: a load for which the loader was asked, and nothing was asked of the service; or a piece, for which the clock told late
@@ -100,12 +102,12 @@ closing-some conn a b (inr one) = (true, one)
 
 -- ---- a connection, from its opening to what was dropped behind its closing
 
-module _ {H C D : Type 0} (keeps : Bool) (WentOut : ℕ → ℕ → List ℕ → Type 0) (Unfit : Outcome → Type 0) (IsTaken : Conn → List ℕ → Type 0) (tally : H → Tally) (reads : C → ℕ → C → Type 0) (loads : D → List ℕ → Option Outcome → D → Type 0) (namespace : ℕ) (h k : H) (a b : Outside C D) where
+module _ {H C D : Type 0} (keeps : Bool) (WentOut : ℕ → ℕ → List ℕ → Type 0) (Unfit : Outcome → Type 0) (IsTaken : Conn → List ℕ → Type 0) (OpenedSo : ℕ → Conn → Type 0) (TookSo : Conn → Exchange → Type 0) (tally : H → Tally) (reads : C → ℕ → C → Type 0) (loads : D → List ℕ → Option Outcome → D → Type 0) (namespace : ℕ) (h k : H) (a b : Outside C D) where
   abbrev Opened : ℕ → Conn → H → H → Type 0
-  Opened n conn p q = SeatOpens keeps WentOut Unfit IsTaken n conn (tally p) (tally q)
+  Opened n conn p q = SeatOpens keeps WentOut Unfit IsTaken n conn (tally p) (tally q) × OpenedSo n conn
 
   abbrev Came : Conn → H → Exchange → H → Type 0
-  Came conn p x q = SeatComes keeps WentOut Unfit IsTaken conn (tally p) x (tally q)
+  Came conn p x q = SeatComes keeps WentOut Unfit IsTaken conn (tally p) x (tally q) × TookSo conn x
 
   abbrev Closed : Conn → H → H → Type 0
   Closed conn p q = SeatCloses keeps WentOut Unfit IsTaken conn (tally p) (tally q)
@@ -181,7 +183,12 @@ module _ {H C D : Type 0} (keeps : Bool) (WentOut : ℕ → ℕ → List ℕ →
 
   module _ (drops : List Settling) (d : Drove drops) where
     passed : Passed keeps WentOut Unfit IsTaken d.conn (tally d.opened) d.talks.exchanges (tally d.stopped) d.hand
-    passed = chain-passed keeps WentOut Unfit IsTaken d.conn tally d.opened [] d.talks.exchanges d.stopped d.hand (All-nil (λ (o : LoadId × List ℕ). WentOut d.conn.namespace o.0.number o.1)) d.talks.chain
+    passed = chain-passed keeps WentOut Unfit IsTaken d.conn tally d.opened [] d.talks.exchanges d.stopped d.hand (All-nil (λ (o : LoadId × List ℕ). WentOut d.conn.namespace o.0.number o.1))
+        (chain-weaker (λ p x q seat. seat.0) d.opened [] d.talks.exchanges d.stopped d.hand d.talks.chain)
+
+    -- each exchange came so
+    came-so : All (TookSo d.conn) d.talks.exchanges
+    came-so = chain-each (TookSo d.conn) (λ p x q seat. seat.1) d.opened [] d.talks.exchanges d.stopped d.hand d.talks.chain
 
     refused : Refused keeps WentOut Unfit IsTaken d.conn (late_of d.rest) (asked_of d.rest)
     refused = refused-any keeps WentOut Unfit IsTaken d.conn d.rest.refused d.hand d.talks.refused passed.hand
@@ -228,7 +235,7 @@ module _ {H C D : Type 0} (keeps : Bool) (WentOut : ℕ → ℕ → List ℕ →
         )
 
     opened-there : keeps ≡ true → OpensConnection d.conn.namespace (tally h).receipts (tally d.opened).receipts d.conn
-    opened-there kept = subst (λ n. OpensConnection n (tally h).receipts (tally d.opened).receipts d.conn) (sym d.opens.here) (d.opens.asks kept)
+    opened-there kept = subst (λ n. OpensConnection n (tally h).receipts (tally d.opened).receipts d.conn) (sym d.opens.0.here) (d.opens.0.asks kept)
 
     -- each receipt is of what was done for the connection
     serves-connection : keeps ≡ true → ServesConnection WentOut Unfit reads loads (tally h).receipts (tally k).receipts a.remaining b.remaining a.clock b.clock a.loader b.loader namespace d.conn drops
@@ -237,7 +244,7 @@ module _ {H C D : Type 0} (keeps : Bool) (WentOut : ℕ → ℕ → List ℕ →
         let opens = opened-there kept in
         let all = asked-behind kept in
         let added = all.1.added in
-        subst (λ m. ServesConnection WentOut Unfit reads loads (tally h).receipts (tally k).receipts a.remaining b.remaining a.clock b.clock a.loader b.loader m d.conn drops) d.opens.here (record {
+        subst (λ m. ServesConnection WentOut Unfit reads loads (tally h).receipts (tally k).receipts a.remaining b.remaining a.clock b.clock a.loader b.loader m d.conn drops) d.opens.0.here (record {
           first = opens.first;
           opening = opens.asked;
           opened = opens.opened;
@@ -261,12 +268,12 @@ module _ {H C D : Type 0} (keeps : Bool) (WentOut : ℕ → ℕ → List ℕ →
     begins-with : keeps ≡ true → BeginsWith namespace (tally h).receipts (tally k).receipts d.conn
     begins-with kept =
         let all = asked-behind kept in
-        subst (λ n. BeginsWith n (tally h).receipts (tally k).receipts d.conn) d.opens.here (record { between = (tally d.opened).receipts; opens = opened-there kept; rest = all.1.added; grows = all.1.grows })
+        subst (λ n. BeginsWith n (tally h).receipts (tally k).receipts d.conn) d.opens.0.here (record { between = (tally d.opened).receipts; opens = opened-there kept; rest = all.1.added; grows = all.1.grows })
 
     -- there is one for each input that is counted, but for those that are spared
     counted : (tally k).count ≤ (tally h).count + length (texts_in d.talks.exchanges) + (length drops + 3)
     counted =
-        let one = d.opens.one in
+        let one = d.opens.0.one in
         let seen = passed.few in
         let same = d.talks.untaken in
         let few = d.few in
@@ -295,8 +302,31 @@ module _ {H C D : Type 0} (keeps : Bool) (WentOut : ℕ → ℕ → List ℕ →
   drove-loaded (Ok x) d = let all = asked-all [] d.0 in (all.0, all.1)
   drove-loaded (Err e) d = let all = asked-all d.0 d.1 in (all.0, all.1)
 
+  -- the turns that it was served in
+  abbrev InTurns : List ℕ → Type 0
+  InTurns rest = ServesInTurns OpenedSo TookSo reads namespace a.remaining b.remaining a.contents b.contents a.clock b.clock rest
+
+  in-turns : (drops : List Settling) (d : Drove drops) → InTurns d.rest.unsent
+  in-turns drops d = record {
+    conn = d.conn;
+    here = d.opens.0.here;
+    opened = d.opens.1;
+    exchanges = d.talks.exchanges;
+    each = came-so drops d;
+    lost = lost_of d.rest;
+    late = late_of d.rest;
+    read = d.talks.read;
+    told = d.talks.clock;
+    sent = record { sent = d.talks.sent; whole = d.talks.replies; wrote = d.talks.wrote };
+  }
+
+  drove-served : (outcome : Result (Unit {0}) RunError) → Driven outcome
+      → MatchResult outcome (λ x. InTurns []) (λ e. ((rest : List ℕ) × InTurns rest) ⊎ ((b.remaining ≡ a.remaining) × (b.contents ≡ a.contents)))
+  drove-served (Ok x) d = subst InTurns d.1 (in-turns [] d.0)
+  drove-served (Err e) d = inl (d.1.rest.unsent, in-turns d.0 d.1)
+
 -- what was written
-module _ {H C D X : Type 0} (keeps : Bool) (WentOut : ℕ → ℕ → List ℕ → Type 0) (Unfit : Outcome → Type 0) (configs : List Config) (spaces : X → List Shown) (untaken : X → Conn → List ℕ) (tally : H → Tally) (reads : C → ℕ → C → Type 0) (loads : D → List ℕ → Option Outcome → D → Type 0)
+module _ {H C D X : Type 0} (keeps : Bool) (WentOut : ℕ → ℕ → List ℕ → Type 0) (Unfit : Outcome → Type 0) (configs : List Config) (spaces : X → List Shown) (untaken : X → Conn → List ℕ) (OpenedSo : ℕ → Conn → Type 0) (TookSo : Conn → Exchange → Type 0) (tally : H → Tally) (reads : C → ℕ → C → Type 0) (loads : D → List ℕ → Option Outcome → D → Type 0)
     (namespace : ℕ) (h k : H) (a b : Outside C D) where
   abbrev IsReply : Conn → List ℕ → Type 0
   IsReply conn text = ∥ WereUntaken configs spaces untaken conn text ∥₁
@@ -304,22 +334,22 @@ module _ {H C D X : Type 0} (keeps : Bool) (WentOut : ℕ → ℕ → List ℕ �
   abbrev Wrote : ℕ → List ℕ → Type 0
   Wrote spared rest = Serves configs spaces untaken namespace (BeginsOrIdles keeps namespace (tally h).receipts (tally k).receipts) (tally h).count (tally k).count spared a.contents b.contents rest
 
-  wrote : (drops : List Settling) (d : Drove keeps WentOut Unfit IsReply tally reads loads namespace h k a b drops) (spared : ℕ) → length drops + 3 ≤ spared → Wrote spared d.rest.unsent
-  wrote drops d spared most = let few = counted keeps WentOut Unfit IsReply tally reads loads namespace h k a b drops d in record {
+  wrote : (drops : List Settling) (d : Drove keeps WentOut Unfit IsReply OpenedSo TookSo tally reads loads namespace h k a b drops) (spared : ℕ) → length drops + 3 ≤ spared → Wrote spared d.rest.unsent
+  wrote drops d spared most = let few = counted keeps WentOut Unfit IsReply OpenedSo TookSo tally reads loads namespace h k a b drops d in record {
     conn = d.conn;
-    here = d.opens.here;
-    asked = λ kept. inl (begins-with keeps WentOut Unfit IsReply tally reads loads namespace h k a b drops d kept);
+    here = d.opens.0.here;
+    asked = λ kept. inl (begins-with keeps WentOut Unfit IsReply OpenedSo TookSo tally reads loads namespace h k a b drops d kept);
     texts = texts_in d.talks.exchanges;
-    taken = (passed keeps WentOut Unfit IsReply tally reads loads namespace h k a b drops d).taken;
+    taken = (passed keeps WentOut Unfit IsReply OpenedSo TookSo tally reads loads namespace h k a b drops d).taken;
     counted = omega (arith, few, most);
     sent = record { sent = d.talks.sent; whole = d.talks.replies ∙ sym (texts-same d.talks.exchanges); wrote = d.talks.wrote };
   }
 
-  drove-wrote : (outcome : Result (Unit {0}) RunError) → Driven keeps WentOut Unfit IsReply tally reads loads namespace h k a b outcome
+  drove-wrote : (outcome : Result (Unit {0}) RunError) → Driven keeps WentOut Unfit IsReply OpenedSo TookSo tally reads loads namespace h k a b outcome
       → MatchResult outcome (λ x. Wrote 3 []) (λ e. (rest : List ℕ) × (asks : List Asking) × Askings loads a.loader asks b.loader × Wrote (length asks + 3) rest)
   drove-wrote (Ok x) d = subst (Wrote 3) d.1 (wrote [] d.0 3 (omega arith))
   drove-wrote (Err e) d =
-      let all = asked-all keeps WentOut Unfit IsReply tally reads loads namespace h k a b d.0 d.1 in
+      let all = asked-all keeps WentOut Unfit IsReply OpenedSo TookSo tally reads loads namespace h k a b d.0 d.1 in
       let often = all.2 in (d.1.rest.unsent, all.0, all.1, wrote d.0 d.1 (length all.0 + 3) (omega (arith, often)))
 
 -- none was opened
@@ -342,26 +372,31 @@ rested-wrote keeps configs spaces untaken namespace h k contents rests = let sam
 
 -- ---- what serving a connection promises
 
-module _ {C L R W K D : Type 0} {G : Ledgers L} (configs : List Config) (spaces : C → List Shown) (untaken : C → Conn → List ℕ) (keeps : Bool) (remaining : R → Option (List ℕ)) (contents : W → Option (List ℕ)) (reads : K → ℕ → K → Type 0) (loads : D → List ℕ → Option Outcome → D → Type 0) (namespace : ℕ)
+module _ {C L R W K D : Type 0} {G : Ledgers L} (configs : List Config) (spaces : C → List Shown) (untaken : C → Conn → List ℕ) (untold : C → ℕ → List Note) (keeps : Bool) (remaining : R → Option (List ℕ)) (contents : W → Option (List ℕ)) (reads : K → ℕ → K → Type 0) (loads : D → List ℕ → Option Outcome → D → Type 0) (namespace : ℕ)
     (p q : Seat L G) (reader reader' : Watched R) (writer writer' : Watched W) (clock clock' : K) (loader loader' : D) where
+  abbrev CameIn : Conn → Exchange → Type 0
+  CameIn conn exchange = CameSo configs spaces untaken untold conn exchange exchange.doing
+
   pub record Promises (outcome : Result (Unit {0}) RunError) : Type 0 where
     pub wrote : WritesAll keeps configs spaces untaken contents loads namespace outcome p q writer writer' loader loader'
     pub asked : AsksAll keeps configs spaces remaining reads loads namespace outcome p q reader reader' clock clock' loader loader'
     pub loaded : HasAskedSome loads loader loader'
+    pub served : ServesTurns configs spaces untaken untold remaining contents reads namespace outcome reader reader' writer writer' clock clock'
 
   -- it was opened, it came to an end or an error, and was closed
-  pub attended : (s t : Session) (start m : Seat L G) (middle : D) (ended : Result Progress RunError) (outcome result : Result (Unit {0}) RunError) → sitting.Opens configs spaces untaken keeps namespace s.conn p start → t.conn ≡ s.conn
-      → ComesToProgress false (sitting.Comes configs spaces untaken keeps) (sitting.Closes configs spaces untaken keeps) reads loads start (around remaining contents reader writer clock loader) ended t m (around remaining contents reader' writer' clock' middle)
+  pub attended : (s t : Session) (start m : Seat L G) (middle : D) (ended : Result Progress RunError) (outcome result : Result (Unit {0}) RunError) → sitting.Opens configs spaces untaken keeps untold namespace s.conn p start → t.conn ≡ s.conn
+      → ComesToProgress false (sitting.Comes configs spaces untaken keeps untold) (sitting.Closes configs spaces untaken keeps) reads loads start (around remaining contents reader writer clock loader) ended t m (around remaining contents reader' writer' clock' middle)
       → outcome ≡ outcome_by ended → ClosesAfter (sitting.Closes configs spaces untaken keeps) (sitting.Drops configs spaces untaken keeps) loads outcome t m q middle loader' → result ≡ outcome → Promises result
   attended s t start m middle ended outcome result opened same comes is closes so =
       let a = around remaining contents reader writer clock loader in
       let b = around remaining contents reader' writer' clock' loader' in
-      let drives = driven keeps (HadGoneOut configs spaces) IsUnfit (sitting.IsReply configs spaces untaken) tally reads loads namespace p q a b t start m middle ended (subst (λ conn. sitting.Opens configs spaces untaken keeps namespace conn p start) (sym same) opened) comes
+      let drives = driven keeps (HadGoneOut configs spaces) IsUnfit (sitting.IsReply configs spaces untaken) (WasOpened configs spaces untaken untold) CameIn tally reads loads namespace p q a b t start m middle ended (subst (λ conn. sitting.Opens configs spaces untaken keeps untold namespace conn p start) (sym same) opened) comes
       (subst (λ (o : Result (Unit {0}) RunError). ClosesAfter (sitting.Closes configs spaces untaken keeps) (sitting.Drops configs spaces untaken keeps) loads o t m q middle loader') is closes) in
       subst Promises (sym (so ∙ is)) (record {
-        wrote = drove-wrote keeps (HadGoneOut configs spaces) IsUnfit configs spaces untaken tally reads loads namespace p q a b (outcome_by ended) drives;
-        asked = drove-asked keeps (HadGoneOut configs spaces) IsUnfit (sitting.IsReply configs spaces untaken) tally reads loads namespace p q a b (outcome_by ended) drives;
-        loaded = drove-loaded keeps (HadGoneOut configs spaces) IsUnfit (sitting.IsReply configs spaces untaken) tally reads loads namespace p q a b (outcome_by ended) drives;
+        wrote = drove-wrote keeps (HadGoneOut configs spaces) IsUnfit configs spaces untaken (WasOpened configs spaces untaken untold) CameIn tally reads loads namespace p q a b (outcome_by ended) drives;
+        asked = drove-asked keeps (HadGoneOut configs spaces) IsUnfit (sitting.IsReply configs spaces untaken) (WasOpened configs spaces untaken untold) CameIn tally reads loads namespace p q a b (outcome_by ended) drives;
+        loaded = drove-loaded keeps (HadGoneOut configs spaces) IsUnfit (sitting.IsReply configs spaces untaken) (WasOpened configs spaces untaken untold) CameIn tally reads loads namespace p q a b (outcome_by ended) drives;
+        served = drove-served keeps (HadGoneOut configs spaces) IsUnfit (sitting.IsReply configs spaces untaken) (WasOpened configs spaces untaken untold) CameIn tally reads loads namespace p q a b (outcome_by ended) drives;
       })
 
 -- ---- causes

@@ -1,30 +1,28 @@
 -- What a seat answers for, input by input and over exchanges.
 use Rattle.std.proofs.Common.{◌≡◌, ◌≤◌, ℕ, Bool, true, List, arith, length, [], ◌∷◌, ◌++◌, map, Vec, Global, refl, sym, ap, ◌∙◌, append_assoc, false, length-append, Option, Some, None, Result, Ok, Err, subst, inl, inr, ◌<◌, IfOk, IfSome, OnErr, ◌+◌, cond, is_none, unwrap_or}
+use Rattle.std.proofs.lemmas.Bool.{eqb-true}
 use Rattle.std.proofs.lemmas.Grind.{flat_map-append}
 use Rattle.std.proofs.lemmas.List.{append-nil, map-append}
 use Rattle.std.proofs.lemmas.List.Elements.{All-append, All-cons, All-nil}
 use Rattle.std.proofs.lemmas.List.Sums.{sum_by-cons}
 use Rattle.std.specs.List.{flat_map, slice_index_or, All, concat}
-use Rattle.audit_model.specs.declared.config.Config.{Config}
 use Rattle.audit_model.specs.declared.event.Outcome.{Outcome}
 use Rattle.audit_model.specs.declared.input.Conn.{Conn}
 use Rattle.audit_model.specs.declared.input.Input.{Input}
 use Rattle.audit_model.specs.declared.input.LoadId.{LoadId}
 use Rattle.audit_laws.specs.declared.receipts.output.Output.{Output}
+use Rattle.audit_laws.specs.declared.receipts.output.Output.TheVariants.{Opened}
 use Rattle.audit_laws.specs.declared.receipts.receipt.Receipt.{Receipt}
 use Rattle.cache_spaces.specs.Calls.{namespace_of}
-use Rattle.cache_spaces.specs.Spaces.{Shown}
 use Rattle.cache_run.proofs.devices.Sending.{askings_more}
 use Rattle.cache_run.proofs.driver.Exchanges.{each-kept, each-last, each-rest}
 use Rattle.cache_run.specs.Devices.Sources.{Asking, Askings}
 use Rattle.cache_run.specs.Driver.Exchanges.{Answered, Dropped, GivenUp, Settling, Doing, EachOut, Outs, Settled, load_number, settling_asking, Chain, Exchange, Hands, LeavesInHand, replies_in, untaken_among}
-use Rattle.cache_run.specs.Driver.Hosting.{SettlesBy, SuitsRequest, exchange_of}
+use Rattle.cache_run.specs.Driver.Hosting.{SuitsRequest}
 use Rattle.cache_run.specs.declared.driver.host.Given.{Given}
-use Rattle.cache_shared.specs.Events.{IsUnfit}
 use Rattle.cache_shared.specs.Seats.{Counts, SameReceipts, receipt_for, receipts_at}
-use Rattle.cache_serve.specs.Asked.{Asks, Grows, settling_inputs, IsOfLoad, MayBeGivenUp, answer_input, give_up_input, IsShort, inputs_of, settlings_of, SeatCloses, SeatComes, SeatDrops, SeatSettles, Tally}
-use Rattle.cache_serve.specs.Served.{HadGoneOut}
-use Rattle.cache_serve.specs.Sitting.{GivesDue, IsReply, SeatRests, SeatTakes, TakesIfGiven, asks-behind}
+use Rattle.cache_serve.specs.Asked.{Asks, Grows, settling_inputs, IsOfLoad, MayBeGivenUp, answer_input, give_up_input, IsShort, inputs_of, settlings_of, SeatCloses, SeatComes, SeatDrops, SeatOpens, SeatSettles, Tally}
+use Rattle.cache_serve.specs.Sitting.{SeatRests, SeatTakes, TakesIfGiven, asks-behind}
 use Rattle.audit_model.specs.declared.input.Input.TheVariants as input
 use Rattle.cache_run.specs.Driver.Exchanges as did
 
@@ -85,12 +83,12 @@ fits-anyhow (Dropped number asking) = tt
 
 module _ {keeps : Bool} {WentOut : ℕ → ℕ → List ℕ → Type 0} {Unfit : Outcome → Type 0} {IsTaken : Conn → List ℕ → Type 0} where
   -- an answer was taken
-  pub settles-answer : {n moment number : ℕ} {h k : Tally} (key : List ℕ) {outcome : Outcome} → SeatTakes keeps (answer_input n moment number outcome) h k
+  abbrev pub settles-answer : {n moment number : ℕ} {h k : Tally} (key : List ℕ) {outcome : Outcome} → SeatTakes keeps (answer_input n moment number outcome) h k
       → SeatSettles keeps WentOut Unfit IsTaken n moment number (record { key = key; answer = Some outcome }) h k
   settles-answer {n} {moment} {number} key {outcome} takes = record { settling = Answered number key outcome; of = refl; numbered = refl; asks = takes.asks; counts = takes.one; fit = tt }
 
   -- nothing was taken
-  pub settles-none : {n moment number : ℕ} {h k : Tally} (asking : Asking) → SeatRests h k → SeatSettles keeps WentOut Unfit IsTaken n moment number asking h k
+  abbrev pub settles-none : {n moment number : ℕ} {h k : Tally} (asking : Asking) → SeatRests h k → SeatSettles keeps WentOut Unfit IsTaken n moment number asking h k
   settles-none {n} {moment} {number} {h} {k} asking rests = let same = rests.count in record {
     settling = Dropped number asking;
     of = refl;
@@ -106,11 +104,6 @@ module _ {keeps : Bool} {WentOut : ℕ → ℕ → List ℕ → Type 0} {Unfit :
   settles-give-up {number = number} (Ok (Some x)) asking unfit takes = record { settling = GivenUp number asking; of = refl; numbered = refl; asks = takes.asks; counts = takes.one; fit = unfit }
   settles-give-up (Ok None) asking unfit takes = settles-none asking takes
   settles-give-up (Err e) asking unfit takes = settles-none asking takes
-
-  -- the loader said so
-  pub settles-said : {n moment number : ℕ} {h k : Tally} {key : List ℕ} {said answer : Option Outcome} → said ≡ answer → SeatSettles keeps WentOut Unfit IsTaken n moment number (record { key = key; answer = answer }) h k
-      → SeatSettles keeps WentOut Unfit IsTaken n moment number (record { key = key; answer = said }) h k
-  settles-said {n} {moment} {number} {h} {k} {key} is s = subst (λ (o : Option Outcome). SeatSettles keeps WentOut Unfit IsTaken n moment number (record { key = key; answer = o }) h k) (sym is) s
 
   -- whatever the service refuses
   pub settles-anyhow : {n moment number : ℕ} {h k : Tally} {asking : Asking} → SeatSettles keeps WentOut Unfit IsTaken n moment number asking h k → SeatSettles keeps WentOut (λ outcome. Unit {0}) IsTaken n moment number asking h k
@@ -189,6 +182,13 @@ module _ {keeps : Bool} {WentOut : ℕ → ℕ → List ℕ → Type 0} {Unfit :
 -- ---- openings and closings
 
 module _ {keeps : Bool} {WentOut : ℕ → ℕ → List ℕ → Type 0} {Unfit : Outcome → Type 0} {IsTaken : Conn → List ℕ → Type 0} where
+  pub opens-so : (namespace : ℕ) (conn : Conn) {h k : Tally} → Counts keeps (input.Open namespace) (Opened conn) h.count k.count h.receipts k.receipts → SeatOpens keeps WentOut Unfit IsTaken namespace conn h k
+  opens-so namespace conn counts = record {
+    here = eqb-true conn.namespace namespace counts.fits;
+    asks = λ kept. let g = counts.receipt kept in record { first = receipt_for (input.Open namespace) (Opened conn) g.0; asked = refl; opened = refl; grows = record { own = g.1.own; others = g.1.others } };
+    one = counts.one;
+  }
+
   -- behind what rested
   pub closes-so : {E : Type 0} (conn : Conn) {h m k : Tally} (r : Result Output E) → SeatRests h m → IfOk r (λ output. Counts keeps (input.Close conn) output m.count k.count m.receipts k.receipts) → OnErr r ((k.count ≡ m.count) × SameReceipts m.receipts k.receipts)
       → SeatCloses keeps WentOut Unfit IsTaken conn h k
@@ -202,18 +202,6 @@ module _ {keeps : Bool} {WentOut : ℕ → ℕ → List ℕ → Type 0} {Unfit :
     one = omega (arith, same, still);
     rises = omega (arith, same, still);
   }
-
--- ---- exchanges
-
-module _ {C : Type 0} {configs : List Config} {spaces : C → List Shown} {untaken : C → Conn → List ℕ} {keeps : Bool} where
-  -- a load was settled
-  pub comes-settled : {conn : Conn} {wants : Bool} {given : Given} {h k : Tally} (load moment : ℕ) (asking : Asking) → SeatSettles keeps (HadGoneOut configs spaces) IsUnfit (IsReply configs spaces untaken) conn.namespace moment load asking h k → GivesDue configs spaces untaken conn wants given
-      → (doing : Doing) × SettlesBy load moment asking doing × SeatComes keeps (HadGoneOut configs spaces) IsUnfit (IsReply configs spaces untaken) conn h (exchange_of doing given) k
-  comes-settled load moment asking s gives = (
-    Settled s.settling moment,
-    record { settling = s.settling; of = s.of; numbered = s.numbered; done = refl },
-    record { asks = s.asks; counts = s.counts; short = tt; fit = All-cons (MayBeGivenUp IsUnfit) s.settling [] s.fit (All-nil (MayBeGivenUp IsUnfit)); text = gives.text; out = gives.out },
-  )
 
 -- loads come only where they were wanted, where the service is shared
 pub suits-shared : {wants : Bool} {given : Given} → (wants ≡ false → given.owed.loads ≡ None) → SuitsRequest false wants given
@@ -242,6 +230,16 @@ texts-same (x ∷ xs) = go x.text (texts-same xs)
     go (Some text) more = ap (λ l. text ++ l) more
 
 -- ---- exchanges one after another
+
+-- of which more is known than this
+pub chain-weaker : {H : Type 0} {Came Less : H → Exchange → H → Type 0} → ((p : H) (x : Exchange) (q : H) → Came p x q → Less p x q) → (h : H) (hand : Outs) (xs : List Exchange) (k : H) (after : Outs) → Chain Came h hand xs k after → Chain Less h hand xs k after
+chain-weaker less h hand [] k after c = c
+chain-weaker less h hand (x ∷ xs) k after c = (c.0, c.1, less h x c.0 c.2, c.3, chain-weaker less c.0 c.1 xs k after c.4)
+
+-- this is so of each of them
+pub chain-each : {H : Type 0} {Came : H → Exchange → H → Type 0} (Fact : Exchange → Type 0) → ((p : H) (x : Exchange) (q : H) → Came p x q → Fact x) → (h : H) (hand : Outs) (xs : List Exchange) (k : H) (after : Outs) → Chain Came h hand xs k after → All Fact xs
+chain-each Fact so h hand [] k after c = All-nil Fact
+chain-each Fact so h hand (x ∷ xs) k after c = All-cons Fact x xs (so h x c.0 c.2) (chain-each Fact so c.0 c.1 xs k after c.4)
 
 module _ (keeps : Bool) (WentOut : ℕ → ℕ → List ℕ → Type 0) (Unfit : Outcome → Type 0) (IsTaken : Conn → List ℕ → Type 0) (conn : Conn) where
   abbrev Out : Outs → Type 0

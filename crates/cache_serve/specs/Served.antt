@@ -1,23 +1,26 @@
 -- The result of serving a connection, and what is written to it.
-use Rattle.std.specs.Prelude.{◌≡◌, ℕ, ◌+◌, ◌≤◌, List, length, Option, Bool, true, [], Vec, Result, ◌⊎◌, MatchResult}
+use Rattle.std.specs.Prelude.{◌≡◌, ℕ, ◌+◌, ◌++◌, ◌≤◌, List, length, Option, Bool, true, [], Vec, Result, ◌⊎◌, MatchResult}
+use Rattle.std.specs.Io.KnownBytes.{Consumes}
 use Rattle.std.specs.List.{All, concat, Contains}
 use Rattle.std.specs.declared.alloc.Global.{Global}
 use Rattle.audit_model.specs.declared.config.Config.{Config}
 use Rattle.audit_model.specs.declared.event.Outcome.{Outcome}
 use Rattle.audit_model.specs.declared.input.Conn.{Conn}
 use Rattle.audit_model.specs.declared.input.LoadId.{LoadId}
+use Rattle.audit_model.specs.declared.transcript.Note.{Note}
 use Rattle.audit_laws.specs.declared.receipts.receipt.Receipt.{Receipt}
 use Rattle.cache_spaces.specs.Spaces.{Shown}
 use Rattle.cache_run.specs.Devices.Sent.{SentBut}
-use Rattle.cache_run.specs.Devices.Sources.{Asking, Askings}
+use Rattle.cache_run.specs.Devices.Sources.{Asking, Askings, Readings}
 use Rattle.cache_run.specs.Devices.Watched.{device}
-use Rattle.cache_run.specs.Driver.Exchanges.{EachOut}
+use Rattle.cache_run.specs.Driver.Exchanges.{EachOut, Exchange, moments_in, pieces_in, replies_in}
 use Rattle.cache_run.specs.declared.devices.watched.Watched.{Watched}
 use Rattle.cache_shared.specs.Events.{IsUnfit}
 use Rattle.cache_shared.specs.Looked.{WereUntaken, WereOut}
 use Rattle.cache_shared.specs.Seats.{SameReceipts}
 use Rattle.cache_shared.specs.declared.seat.Seat.{Seat}
 use Rattle.cache_shared.specs.declared.seat.Seating.{Ghosts as Ledgers}
+use Rattle.cache_serve.specs.Exchanged.{CameSo, WasOpened}
 use Rattle.cache_serve.specs.Asked.{Grows, OpensConnection, ServesConnection, ServesConnectionOrNot}
 
 module _ {C : Type 0} (configs : List Config) (spaces : C → List Shown)
@@ -54,6 +57,41 @@ HadGoneOut configs spaces namespace number key = ∥ WasOut configs spaces names
 abbrev pub AreOut : {C : Type 0} → List Config → (C → List Shown) → ℕ
     → List (LoadId × List ℕ) → Type 0
 AreOut configs spaces namespace loads = EachOut (HadGoneOut configs spaces namespace) loads
+
+-- The turns in which a connection was served.
+
+-- A connection of this namespace was opened, and exchanges of it took place, one after another, each of which came so. What was read was
+-- fed, piece by piece, except for the rest; the clock told their moments, and maybe one that was refused; and their replies were written,
+-- except for the rest.
+pub record ServesInTurns {K : Type 0} (Opened : ℕ → Conn → Type 0) (Came : Conn → Exchange → Type 0) (reads : K → ℕ → K → Type 0)
+    (namespace : ℕ) (remaining later before after : Option (List ℕ)) (k l : K) (rest : List ℕ) : Type 0
+  where
+    pub conn : Conn
+    pub here : conn.namespace ≡ namespace
+    pub opened : Opened namespace conn
+    pub exchanges : List Exchange
+    pub each : All (Came conn) exchanges
+    pub lost : List ℕ
+    pub late : List ℕ
+    pub read : Consumes remaining later (pieces_in exchanges ++ lost)
+    pub told : Readings reads k (moments_in exchanges ++ late) l
+    pub sent : SentBut rest (replies_in exchanges) before after
+
+-- It was served so, each exchange in one hold of the lock, and all replies were written; after an error, but for the rest, or nothing was
+-- read or written.
+abbrev pub ServesTurns : {C R W K X E : Type 0} → List Config → (C → List Shown)
+    → (C → Conn → List ℕ) → (C → ℕ → List Note) → (R → Option (List ℕ)) → (W → Option (List ℕ))
+    → (K → ℕ → K → Type 0) → ℕ → Result X E → Watched R → Watched R → Watched W → Watched W → K → K
+    → Type 0
+ServesTurns configs spaces untaken untold remaining contents reads namespace r reader reader' writer writer' k l =
+    let InTurns = ServesInTurns (WasOpened configs spaces untaken untold)
+    (λ conn exchange. CameSo configs spaces untaken untold conn exchange exchange.doing) reads
+    namespace (remaining (device reader)) (remaining (device reader'))
+    (contents (device writer)) (contents (device writer')) k l in
+    MatchResult r (λ x. InTurns [])
+    (λ err. ((rest : List ℕ) × InTurns rest)
+    ⊎ ((remaining (device reader') ≡ remaining (device reader))
+    × (contents (device writer') ≡ contents (device writer))))
 
 -- The result of serving a connection.
 

@@ -1,6 +1,6 @@
 -- What the host of a connection of a shared service guarantees, by its seat.
 use Rattle.std.proofs.Common.{◌∙◌, ap, arith, inl, inr}
-use Rattle.std.specs.Prelude.{◌≡◌, ℕ, ◌+◌, ◌-◌, ◌^◌, ◌≤◌, Bool, true, false, List, [], ◌∷◌, ◌++◌, Option, Some, None, IfSome, Result, Ok, Err, Vec}
+use Rattle.std.specs.Prelude.{◌≡◌, ℕ, ◌+◌, ◌-◌, ◌^◌, ◌≤◌, Bool, true, false, List, [], ◌∷◌, ◌++◌, Option, Some, None, IfSome, Result, Ok, Err, IfOk, Vec}
 use Rattle.std.specs.Option.{option_map}
 use Rattle.std.specs.declared.alloc.Global.{Global}
 use Rattle.audit_model.specs.declared.config.Config.{Config}
@@ -8,6 +8,7 @@ use Rattle.audit_model.specs.declared.event.Outcome.{Outcome}
 use Rattle.audit_model.specs.declared.input.Conn.{Conn}
 use Rattle.audit_model.specs.declared.input.Input.{Input}
 use Rattle.audit_model.specs.declared.input.Input.TheVariants as input
+use Rattle.audit_model.specs.declared.transcript.Note.{Note}
 use Rattle.audit_laws.specs.declared.receipts.receipt.Receipt.{Receipt}
 use Rattle.cache_run.specs.Devices.Sources.{Asking, Askings}
 use Rattle.cache_run.specs.Driver.Exchanges.{Exchange, Outs}
@@ -15,6 +16,7 @@ use Rattle.cache_run.specs.Driver.Hosting.{SuitsRequest}
 use Rattle.cache_run.specs.declared.driver.host.Given.{Given}
 use Rattle.cache_serve.specs.Asked.{Asks, AsksOrNot, SeatCloses, SeatComes, SeatDrops, SeatOpens, SeatSettles, Tally}
 use Rattle.cache_serve.specs.Cutting.{IsShortPiece}
+use Rattle.cache_serve.specs.Exchanged.{CameSo, SettledSo, WasOpened}
 use Rattle.cache_serve.specs.Served.{AreOut, HadGoneOut}
 use Rattle.cache_shared.specs.Events.{IsUnfit}
 use Rattle.cache_shared.specs.Seats.{SameReceipts}
@@ -59,17 +61,19 @@ module _ {C : Type 0} (configs : List Config) (spaces : C → List Shown)
     pub suits : SuitsRequest false wants_loads given
 
   module _ {L : Type 0} {G : Ledgers L} (keeps : Bool) where
+    module _ (untold : C → ℕ → List Note) where
+      -- in terms of a seat, and of one hold of the lock
+      abbrev pub Opens : ℕ → Conn → Seat L G → Seat L G → Type 0
+      Opens namespace conn p q =
+          SeatOpens keeps (HadGoneOut configs spaces) IsUnfit IsReply namespace conn (tally p)
+          (tally q) × WasOpened configs spaces untaken untold namespace conn
+
+      abbrev pub Comes : Conn → Seat L G → Exchange → Seat L G → Type 0
+      Comes conn p exchange q =
+          SeatComes keeps (HadGoneOut configs spaces) IsUnfit IsReply conn (tally p) exchange
+          (tally q) × CameSo configs spaces untaken untold conn exchange exchange.doing
+
     -- in terms of a seat
-    abbrev pub Opens : ℕ → Conn → Seat L G → Seat L G → Type 0
-    Opens namespace conn p q =
-        SeatOpens keeps (HadGoneOut configs spaces) IsUnfit IsReply namespace conn (tally p)
-        (tally q)
-
-    abbrev pub Comes : Conn → Seat L G → Exchange → Seat L G → Type 0
-    Comes conn p exchange q =
-        SeatComes keeps (HadGoneOut configs spaces) IsUnfit IsReply conn (tally p) exchange
-        (tally q)
-
     abbrev pub Closes : Conn → Seat L G → Seat L G → Type 0
     Closes conn p q =
         SeatCloses keeps (HadGoneOut configs spaces) IsUnfit IsReply conn (tally p) (tally q)
@@ -79,10 +83,13 @@ module _ {C : Type 0} (configs : List Config) (spaces : C → List Shown)
         SeatDrops keeps (HadGoneOut configs spaces) IsUnfit IsReply conn hand (tally p) askings
         (tally q)
 
-    -- whatever the key, a load was settled by what the loader returned
-    abbrev pub Settles : ℕ → ℕ → Option Outcome → ℕ → Seat L G → Seat L G → Type 0
-    Settles namespace load said moment p q =
-        (key : List ℕ) → SeatSettles keeps (HadGoneOut configs spaces) IsUnfit IsReply namespace moment load (record { key = key; answer = said }) (tally p) (tally q)
+    -- whatever the key, a load was settled by what the loader returned, and this was given
+    abbrev pub Settles : {E : Type 0} → (C → ℕ → List Note) → Conn → ℕ → Option Outcome → ℕ
+        → Result (Option Given) E → Seat L G → Seat L G → Type 0
+    Settles untold conn load said moment result p q =
+        (key : List ℕ)
+        → (settles : SeatSettles keeps (HadGoneOut configs spaces) IsUnfit IsReply conn.namespace moment load (record { key = key; answer = said }) (tally p) (tally q))
+        × IfOk result (SettledSo configs spaces untaken untold conn settles.settling moment)
 
     -- this happened at moment 0, whatever the service refuses
     abbrev pub SettlesLate : ℕ → ℕ → Option Outcome → Seat L G → Seat L G → Type 0

@@ -4,7 +4,7 @@ ghost use Rattle.cache_run.specs.Devices.Failures.{HasFailed};
 ghost use Rattle.cache_run.specs.Devices.Watched.{failures};
 ghost use Rattle.cache_run.specs.Devices.Sources.{HasToldLate};
 ghost use Rattle.cache_serve.specs.Asked.{HasAskedSome};
-ghost use Rattle.cache_serve.specs.Served.{AsksAll, WritesAll};
+ghost use Rattle.cache_serve.specs.Served.{AsksAll, ServesTurns, WritesAll};
 
 use crate::devices::{Teller, Untold};
 use crate::sitting::Sitting;
@@ -69,6 +69,8 @@ pub fn serve<L: Seating, C: Shareable, I: Read, O: Write, K: Clock, D: Loader, R
         → HasFailed (failures writer.old) (failures writer.new) }
     ensures moment { IsErrOf result RunError.Moment → HasToldLate K.reads clock.new }
     ensures loader { HasAskedSome D.loads loader.old loader.new }
+    ensures served { ServesTurns L.configs C.spaces C.untaken C.untold I.remaining O.contents
+        K.reads namespace result reader.old reader.new writer.old writer.new clock.old clock.new }
 {
     serve_and_tell(
         rt,
@@ -122,6 +124,8 @@ pub fn serve_and_tell<
         → HasFailed (failures writer.old) (failures writer.new) }
     ensures moment { IsErrOf result RunError.Moment → HasToldLate K.reads clock.new }
     ensures loader { HasAskedSome D.loads loader.old loader.new }
+    ensures served { ServesTurns L.configs C.spaces C.untaken C.untold I.remaining O.contents
+        K.reads namespace result reader.old reader.new writer.old writer.new clock.old clock.new }
 {
     let Ok(mut sitting) = Sitting::new(rt, alloc, shared, teller, true) else {
         return Err(RunError::OutOfMemory);

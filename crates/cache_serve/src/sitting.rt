@@ -1,13 +1,14 @@
 //! The host of a connection that has a seat of a shared service.
-ghost use Rattle.std.specs.Prelude.{◌≡◌, ◌≤◌, ◌⊎◌, ◌-◌, ◌^◌, Bool, true, false, IfOk, IfErr, IfSome, OnOk, OnErr};
-ghost use Rattle.audit_model.specs.declared.input.Conn.{Conn};
+ghost use Rattle.std.specs.Prelude.{◌≡◌, ◌≤◌, ◌⊎◌, ◌-◌, ◌^◌, true, false, IfOk, IfErr, IfSome, OnOk, OnErr};
+ghost use Rattle.cache_run.specs.Devices.Sources.{Asking};
 ghost use Rattle.cache_run.specs.Driver.Hosting.{Stops};
 ghost use Rattle.cache_serve.specs.Asked.{give_up_input};
 ghost use Rattle.cache_serve.specs.Cutting.{IsShortPiece};
+ghost use Rattle.cache_serve.specs.Exchanged.{GivesLook, GivesTurn, IsRefusedFor, SettledSo, WereTaken, given_up_or_left, is_held_by};
 ghost use Rattle.cache_serve.specs.Sitting.{Closes, Comes, Drops, DropsBy, DropsOne, GivesDue, Opens, SeatRests, SeatTakes, Settles, TakesIfGiven, closes-behind, none-short, tally, used-later};
-ghost use Rattle.cache_shared.specs.Events.{HasLateMoment, IsUnfitAnswer, is_of_outcome};
+ghost use Rattle.cache_serve.specs.Telling.{TellsAll};
+ghost use Rattle.cache_shared.specs.Events.{HasLateMoment};
 ghost use Rattle.cache_shared.specs.Intakes.{input_in};
-ghost use Rattle.cache_shared.specs.Looked.{Owes};
 
 use crate::cutting::{length_of_cut, lines_after};
 use crate::devices::Teller;
@@ -35,6 +36,13 @@ pub struct Sitting<'a, L: Seating, C: Shareable, T: Teller, R: Wait> {
     waits: bool,
 }
 
+/// Whether a command is held back for lack of memory.
+fn is_held(output: &Output) -> bool
+    ensures { result ≡ is_held_by output.now }
+{
+    matches!(output, Output::Held)
+}
+
 impl<'a, L: Seating, C: Shareable, T: Teller, R: Wait> Sitting<'a, L, C, T, R> {
     /// Creates what a connection is served with, with room for notes if they are received. `waits` says whether the connection waits for
     /// loads that are requested from other connections' loaders, or only looks. Returns an error if there is not enough memory.
@@ -57,8 +65,12 @@ impl<'a, L: Seating, C: Shareable, T: Teller, R: Wait> Sitting<'a, L, C, T, R> {
     }
 
     /// Reports the notes that were taken, and those for which there was no room.
-    fn tell_notes(&mut self, namespace: u64) {
-        for _turn in 0..u64::MAX {
+    fn tell_notes(&mut self, namespace: u64)
+        ensures same { self.new.teller.ghost_name ≡ self.old.teller.ghost_name }
+        ensures told { TellsAll T.tells (WereTaken L.configs C.spaces C.untaken C.untold namespace)
+            self.old.teller.now self.new.teller.now self.old.notes.items }
+    {
+        for _turn in self.rt.forever() {
             if self.notes.is_empty() {
                 return;
             }
@@ -71,13 +83,13 @@ impl<'a, L: Seating, C: Shareable, T: Teller, R: Wait> Sitting<'a, L, C, T, R> {
             let notes = &mut self.notes;
             let _ = self.shared.take_notices(self.rt, namespace, notes);
         }
+        unreachable!()
     }
 
     /// Gives what is owed, and counts the reply bytes.
     fn give(&mut self, owed: Owed, held: bool) -> Given
-        ensures { (conn : Conn) (wants_loads : Bool)
-            → Owes L.configs C.spaces C.untaken conn wants_loads owed
-            → GivesDue L.configs C.spaces C.untaken conn wants_loads result }
+        ensures given { result ≡ record { held = held; owed = owed } }
+        ensures teller { self.new.teller ≡ self.old.teller }
     {
         if let Some(text) = &owed.replies {
             self.replied = self.replied.saturating_add(text.len());
@@ -96,13 +108,18 @@ impl<'a, L: Seating, C: Shareable, T: Teller, R: Wait> Sitting<'a, L, C, T, R> {
         ensures taken { OnOk result
             (SeatTakes C.KEEPS (input_in intake.entry) (tally seat.old) (tally seat.new)) }
         ensures given { IfOk result (GivesDue L.configs C.spaces C.untaken conn wants_loads) }
+        ensures turned { IfOk result (GivesTurn L.configs C.spaces C.untaken C.untold conn
+            (input_in intake.entry) wants_loads (TellsAll T.tells
+            (WereTaken L.configs C.spaces C.untaken C.untold conn.namespace) self.old.teller.now
+            self.new.teller.now)) }
         ensures rests { OnErr result (SeatRests (tally seat.old) (tally seat.new)) }
         ensures late { IfErr result
             (λ e. e ≡ ServiceError.Moment → HasLateMoment (input_in intake.entry)) }
-        ensures unfit { IfErr result
-            (λ e. is_of_outcome e ≡ true → IsUnfitAnswer (input_in intake.entry)) }
+        ensures why { IfErr result
+            (IsRefusedFor L.configs C.spaces C.untaken C.untold (input_in intake.entry)) }
         ensures used_up { IfErr result
             (λ e. e ≡ ServiceError.UsedUp → seat.old.count ≡ 2 ^ 64 - 1) }
+        ensures same { self.new.teller.ghost_name ≡ self.old.teller.ghost_name }
     {
         let Sitting { shared, notes, .. } = self;
         let turn = match shared.turn(self.rt, seat, conn, intake, wants_loads, notes) {
@@ -110,13 +127,17 @@ impl<'a, L: Seating, C: Shareable, T: Teller, R: Wait> Sitting<'a, L, C, T, R> {
             Err(refused) => return Err(refused.error),
         };
         self.tell_notes(conn.namespace);
-        let is_held = matches!(turn.output, Output::Held);
-        Ok(self.give(turn.owed, is_held))
+        let held = is_held(&turn.output);
+        Ok(self.give(turn.owed, held))
     }
 
     /// What a connection is owed; notes are reported.
     fn take_owed(&mut self, conn: Conn, wants_loads: bool) -> Given
-        ensures { GivesDue L.configs C.spaces C.untaken conn wants_loads result }
+        ensures given { GivesDue L.configs C.spaces C.untaken conn wants_loads result }
+        ensures looked { GivesLook L.configs C.spaces C.untaken C.untold conn wants_loads
+            (TellsAll T.tells (WereTaken L.configs C.spaces C.untaken C.untold conn.namespace)
+            self.old.teller.now self.new.teller.now) result }
+        ensures same { self.new.teller.ghost_name ≡ self.old.teller.ghost_name }
     {
         let notes = &mut self.notes;
         let owed = self.shared.take_owed(self.rt, conn, wants_loads, notes);
@@ -137,6 +158,9 @@ impl<'a, L: Seating, C: Shareable, T: Teller, R: Wait> Sitting<'a, L, C, T, R> {
             (tally seat.old) (tally seat.new) }
         ensures given { IfOk result
             (λ given. IfSome given (GivesDue L.configs C.spaces C.untaken conn wants_loads)) }
+        ensures settled { IfOk result (λ given. (asking : Asking)
+            → SettledSo L.configs C.spaces C.untaken C.untold conn
+            (given_up_or_left load asking given) moment given) }
         ensures why { IfErr result
             (Stops (2 ^ 64 - 1 ≤ seat.new.count) (2 ^ 63 ≤ moment)) }
     {
@@ -148,13 +172,16 @@ impl<'a, L: Seating, C: Shareable, T: Teller, R: Wait> Sitting<'a, L, C, T, R> {
                 },
                 moment: Instant { nanos: moment },
             };
-            match self.ask(seat, conn, Intake::Input(input), wants_loads) {
+            let error = match self.ask(seat, conn, Intake::Input(input), wants_loads) {
                 Ok(given) => return Ok(Some(given)),
-                Err(ServiceError::OutOfMemory) => pause(self.rt),
-                Err(ServiceError::UsedUp) => return Err(RunError::UsedUp),
-                Err(ServiceError::Moment) => return Err(RunError::Moment),
+                Err(error) => error,
+            };
+            match error {
+                ServiceError::OutOfMemory => pause(self.rt),
+                ServiceError::UsedUp => return Err(RunError::UsedUp),
+                ServiceError::Moment => return Err(RunError::Moment),
                 // It is not under way.
-                Err(_) => return Ok(None),
+                _ => return Ok(None),
             }
         }
         unreachable!()
@@ -171,8 +198,8 @@ impl<'a, L: Seating, C: Shareable, T: Teller, R: Wait> Sitting<'a, L, C, T, R> {
         moment: u64,
         wants_loads: bool,
     ) -> Result<Option<Given>, RunError>
-        ensures settled { Settles L.configs C.spaces C.untaken C.KEEPS conn.namespace load said
-            moment seat.old seat.new }
+        ensures settled { Settles L.configs C.spaces C.untaken C.KEEPS C.untold conn load said
+            moment result seat.old seat.new }
         ensures rests { OnErr result (SeatRests (tally seat.old) (tally seat.new)) }
         ensures given { IfOk result
             (λ given. IfSome given (GivesDue L.configs C.spaces C.untaken conn wants_loads)) }
@@ -249,13 +276,13 @@ impl<L: Seating, C: Shareable, T: Teller, R: Wait> Host for Sitting<'_, L, C, T,
 
     ghost LENT = { false };
 
-    ghost opens = { Opens L.configs C.spaces C.untaken C.KEEPS };
+    ghost opens = { Opens L.configs C.spaces C.untaken C.KEEPS C.untold };
 
     ghost knows = { λ conn seat. Unit {0} };
 
     ghost fits = { IsShortPiece };
 
-    ghost came = { Comes L.configs C.spaces C.untaken C.KEEPS };
+    ghost came = { Comes L.configs C.spaces C.untaken C.KEEPS C.untold };
 
     ghost rests = { λ p q. SeatRests (tally p) (tally q) };
 

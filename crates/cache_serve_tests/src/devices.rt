@@ -38,6 +38,8 @@ pub struct Counter {
 }
 
 impl Teller for Counter {
+    ghost tells = { λ before notes after. Unit {0} };
+
     fn is_told(&self) -> bool {
         true
     }

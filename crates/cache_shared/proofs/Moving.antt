@@ -1,5 +1,5 @@
 -- What is moved out of a service, and what an input adds to it.
-use Rattle.std.proofs.Common.{◌&&◌, drop, is_none, ◌≡◌, ◌≢◌, ℕ, zero, suc, ◌-◌, ◌<◌, ◌==◌, Bool, true, false, cond, List, [], ◌∷◌, ◌++◌, length, map, Option, None, Some, refl, sym, ap, ◌∙◌, subst, arith, inl, inr, ◌⊎◌, Vec, Global}
+use Rattle.std.proofs.Common.{◌&&◌, drop, is_none, ◌≡◌, ◌≢◌, ℕ, zero, suc, ◌-◌, ◌<◌, ◌==◌, Bool, true, false, List, [], ◌∷◌, ◌++◌, length, map, Option, None, Some, refl, sym, ap, ◌∙◌, subst, arith, inl, inr, ◌⊎◌, Vec, Global}
 use Rattle.std.specs.Prelude.{slice_set, Result, Ok, Err, OnErr, OnOk, IfOk, MatchOption, IfSome, is_some, if◌then◌else◌, unwrap_or, nat_lt, nat_le}
 use Rattle.std.specs.List.{flat_map, slice_get}
 use Rattle.std.specs.Option.{option_map, option_map_or, option_to_list}
@@ -29,9 +29,8 @@ use Rattle.audit_model.specs.declared.transcript.Step.{Step}
 use Rattle.audit_model.specs.declared.transcript.Transcript.{Transcript}
 use Rattle.cache_core.proofs.connections.Getting.{at-mapped, at-other, at-replaced}
 use Rattle.cache_core.specs.Owing.{GivesWanted, without_output}
-use Rattle.cache_core.specs.Turned.{notes_in, own_steps, replies_to}
+use Rattle.cache_core.specs.Turned.{notes_in, replies_to}
 use Rattle.cache_core.specs.declared.owing.Owed.{Owed}
-use Rattle.cache_lines.specs.Gathered.{reply_in}
 use Rattle.cache_lines.specs.Tape.Taped.{Taped, with_entry}
 use Rattle.cache_spaces.proofs.Journaling.{journal-at}
 use Rattle.cache_spaces.proofs.Placing.{at-is, at-map, at-others, fact-here}
@@ -47,7 +46,7 @@ use Rattle.cache_spaces.specs.Services.{BareSpace, bare_tape}
 use Rattle.cache_spaces.specs.Spaces.{Shown, Space, closing_of, config_of, is_waiting_for, untaken_notes, outgoing_of, shown_space, shown_tape, untaken_output}
 use Rattle.cache_shared.proofs.Performing.{first-note, loads-leave, loads-shown, no-note}
 use Rattle.cache_shared.specs.Events.{IsReachedFrom, configs_of}
-use Rattle.cache_shared.specs.Looked.{HeldAtSomeMoment, IsWhatIsOwed, MovesNotes, Owes, WereOut, WereUntaken, nothing_owed}
+use Rattle.cache_shared.specs.Looked.{HeldAtSomeMoment, IsOwedIn, IsWhatIsOwed, MovesNotes, Owes, WereOut, WereUntaken, nothing_owed}
 use Rattle.cache_shared.specs.Recordings.{bare_spaces, spaces_in, untaken_of, untold_of}
 use Rattle.cache_shared.specs.Taken.{GainsFrom, KeepsNotes, MovesAll, MovesLoads, MovesNote, MovesNotesOf, MovesOwed, MovesReplies, TakesInput, outgoing_in}
 
@@ -159,41 +158,42 @@ module _ {C : Type 0} (spaces : C → List Shown) (untaken : C → Conn → List
       )
 
   -- and this is what it was owed
-  pub owed-parts : (old new : C) (conn : Conn) (wants : Bool) (owed : Owed) → MovesOwed spaces untaken untold old new conn owed → InSpace (spaces old) conn.namespace (λ space. owed.closing ≡ closing_of space conn.number)
-      → InSpace (spaces old) conn.namespace (λ space. owed.waits ≡ is_waiting_for space conn.number) → is_some owed.loads ≡ wants → InSpace (spaces old) conn.namespace (λ space. IsWhatIsOwed space conn.number wants owed)
+  pub owed-parts : (old new : C) (conn : Conn) (wants : Bool) (owed : Owed) → MovesOwed spaces untaken untold old new conn owed → InSpace (spaces old) conn.namespace (λ space. IsOpened space conn.number × (owed.closing ≡ closing_of space conn.number))
+      → InSpace (spaces old) conn.namespace (λ space. IsOpened space conn.number × (owed.waits ≡ is_waiting_for space conn.number)) → is_some owed.loads ≡ wants → InSpace (spaces old) conn.namespace (λ space. IsWhatIsOwed space conn.number wants owed)
   owed-parts old new conn wants owed moved i j wanted = record {
     space = i.space;
     at = i.at;
     fact = record {
+      opened = i.fact.0;
       loads = told-of _ _ owed.loads (outgoing_in (spaces old) conn.namespace) (outgoing_of i.space) (seen-at outgoing_of (spaces old) conn.namespace i.space i.at) moved.loads;
       wanted = wanted;
-      closing = i.fact;
-      waits = fact-here (λ space. owed.waits ≡ is_waiting_for space conn.number) (spaces old) conn.namespace i.space i.at j;
+      closing = i.fact.1;
+      waits = (fact-here (λ space. IsOpened space conn.number × (owed.waits ≡ is_waiting_for space conn.number)) (spaces old) conn.namespace i.space i.at j).1;
     };
   }
 
-  -- after notes
-  pub moves-owed : (a b c : C) (conn : Conn) (owed : Owed) (behind behind' : List Note) → MovesNotesOf spaces untaken untold a b conn.namespace → MovesNotes behind behind' (untold a conn.namespace) (untold b conn.namespace)
-      → MovesOwed spaces untaken untold b c conn owed → KeepsNotes spaces untaken untold b c → MovesAll spaces untaken untold a c conn owed behind behind'
-  moves-owed a b c conn owed behind behind' notes moved moves kept =
+  -- what it was owed, and then notes
+  pub moves-owed : (a b c : C) (conn : Conn) (wants : Bool) (owed : Owed) (behind behind' : List Note) → MovesOwed spaces untaken untold a b conn owed → KeepsNotes spaces untaken untold a b → IsOwedIn conn wants owed (spaces a)
+      → MovesNotesOf spaces untaken untold b c conn.namespace → MovesNotes behind behind' (untold b conn.namespace) (untold c conn.namespace) → MovesAll spaces untaken untold a c conn wants owed behind behind'
+  moves-owed a b c conn wants owed behind behind' moves kept told notes moved =
       let n = conn.namespace in record {
         owed = record {
-          replies = own-moved owed.replies (untaken a conn) (untaken b conn) (untaken c conn) (untaken c conn) (notes.replies conn) refl moves.replies;
-          loads = own-moved owed.loads (outgoing_in (spaces a) n) (outgoing_in (spaces b) n) (outgoing_in (spaces c) n) (outgoing_in (spaces c) n) (notes.loads n) refl moves.loads;
-          other_replies = λ other ne. moves.other_replies other ne ∙ notes.replies other;
-          other_loads = λ other ne. moves.other_loads other ne ∙ notes.loads other;
-          other_notes = λ other ne. kept other ∙ notes.others other ne;
+          replies = own-moved owed.replies (untaken a conn) (untaken a conn) (untaken b conn) (untaken c conn) refl (notes.replies conn) moves.replies;
+          loads = own-moved owed.loads (outgoing_in (spaces a) n) (outgoing_in (spaces a) n) (outgoing_in (spaces b) n) (outgoing_in (spaces c) n) refl (notes.loads n) moves.loads;
+          other_replies = λ other ne. notes.replies other ∙ moves.other_replies other ne;
+          other_loads = λ other ne. notes.loads other ∙ moves.other_loads other ne;
+          other_notes = λ other ne. notes.others other ne ∙ kept other;
         };
-        notes = subst (MovesNotes behind behind' (untold a n)) (sym (kept n)) moved;
+        told = told;
+        notes = subst (λ l. MovesNotes behind behind' l (untold c n)) (kept n) moved;
       }
 
   -- if the connection is unknown, nothing is
-  pub moves-nothing : (a b c : C) (conn : Conn) (owed : Owed) (behind behind' : List Note) → MovesNotesOf spaces untaken untold a b conn.namespace → MovesNotes behind behind' (untold a conn.namespace) (untold b conn.namespace)
-      → c ≡ b → owed.replies ≡ None → owed.loads ≡ None → MovesAll spaces untaken untold a c conn owed behind behind'
-  moves-nothing a b c conn owed behind behind' notes moved same no-replies no-loads =
-      let parts = moves-parts b b c conn owed (subst (λ o. MatchOption o (b ≡ b) (λ t. MovesReplies spaces untaken untold b b conn t.items)) (sym no-replies) refl)
-      (subst (λ o. MatchOption o (c ≡ b) (λ l. MovesLoads spaces untaken untold b c conn.namespace l.items)) (sym no-loads) same) in
-      moves-owed a b c conn owed behind behind' notes moved parts.0 parts.1
+  pub moves-nothing : (a b c : C) (conn : Conn) (wants : Bool) (behind behind' : List Note) → b ≡ a → (e : ServiceError) → Refuses (spaces a) conn.namespace e (λ space. IsUnknown space conn.number e)
+      → MovesNotesOf spaces untaken untold b c conn.namespace → MovesNotes behind behind' (untold b conn.namespace) (untold c conn.namespace) → MovesAll spaces untaken untold a c conn wants nothing_owed behind behind'
+  moves-nothing a b c conn wants behind behind' same e refused notes moved =
+      let parts = moves-parts a a b conn nothing_owed refl same in
+      moves-owed a b c conn wants nothing_owed behind behind' parts.0 parts.1 (inr (e, refused, refl)) notes moved
 
 -- what was due at some moment
 module _ {C : Type 0} (configs : List Config) (spaces : C → List Shown) (untaken : C → Conn → List ℕ) (untold : C → ℕ → List Note) (old new : C) (events : ℕ) (reached : IsReachedFrom configs (spaces old) events) (conn : Conn) where
@@ -201,15 +201,10 @@ module _ {C : Type 0} (configs : List Config) (spaces : C → List Shown) (untak
   replies-due None e = tt
   replies-due (Some t) e = record { core = old; events = events; reached = reached; same = e.0 }
 
-  pub owes-due : (wants : Bool) (owed : Owed) → MovesOwed spaces untaken untold old new conn owed → InSpace (spaces old) conn.namespace (λ space. IsWhatIsOwed space conn.number wants owed) → Owes configs spaces untaken conn wants owed
-  owes-due wants owed moved i = record { replies = replies-due owed.replies moved.replies; told = record { core = old; events = events; reached = reached; fact = inl i } }
+  pub owes-due : (wants : Bool) (owed : Owed) → MovesOwed spaces untaken untold old new conn owed → IsOwedIn conn wants owed (spaces old) → Owes configs spaces untaken conn wants owed
+  owes-due wants owed moved told = record { replies = replies-due owed.replies moved.replies; told = record { core = old; events = events; reached = reached; fact = told } }
 
 -- the loads among it, which are there only where they are requested
-abbrev pub IsOwedIn : Conn → Bool → Owed → List Shown → Type 0
-IsOwedIn conn wants owed spaces =
-    InSpace spaces conn.namespace (λ space. IsWhatIsOwed space conn.number wants owed)
-    ⊎ ((e : ServiceError) × Refuses spaces conn.namespace e (λ space. IsUnknown space conn.number e) × (owed ≡ nothing_owed))
-
 module _ {C : Type 0} (configs : List Config) (spaces : C → List Shown) (conn : Conn) (wants : Bool) where
   pub owed-out : (owed : Owed) → HeldAtSomeMoment configs spaces (IsOwedIn conn wants owed) → IfSome owed.loads (λ loads. WereOut configs spaces conn.namespace loads.items)
   owed-out owed held = go owed.loads (out-of owed held.fact)
@@ -272,6 +267,7 @@ pub bare-replies : (conn : Conn) (old new : List BareSpace) (r : Result (Vec ℕ
     → IfOk r (λ text. MovesReplies bare_spaces untaken_of untold_of old new conn text.items)
 bare-replies conn old new (Err e) taken = taken
 bare-replies conn old new (Ok text) a = record {
+  known = record { space = shown_space bare_tape a.was; at = at-mapped (shown_space bare_tape) old n a.was a.at; fact = a.fact.opened };
   all = a.fact.taken ∙ sym (seen-at own old n a.was a.at);
   none = seen-at own new n a.is (at-is F old new n a) ∙ output-none a.was a.is conn.number text.items a.fact;
   others = λ other ne. go other ne (cases_eq other.namespace n);
@@ -300,6 +296,7 @@ bare-note n old new (Err e) taken = taken
 bare-note n old new (Ok note) a =
     let before = seen-at untaken_notes old n a.was a.at in
     let behind = seen-at untaken_notes new n a.is (at-is (λ was is. TakesNotice was is note) old new n a) in record {
+      there = subst (λ k. n < k) (sym (length-map old (shown_space bare_tape))) (slice_get_within old n a.was a.at);
       first = before ∙ first-note note a.was a.is a.fact ∙ ap (λ l. option_to_list note ++ l) (sym behind);
       none = λ none. before ∙ no-note note a.was a.is a.fact none;
       rest = record {
@@ -369,8 +366,8 @@ module _ (conn : Conn) (wants : Bool) (old new : List BareSpace) where
   bare-told (Ok owed) a =
       let at = at-mapped (shown_space bare_tape) old conn.namespace a.was a.at in
       owed-parts bare_spaces untaken_of untold_of old new conn wants owed (owed-moved owed a).0
-      (record { space = shown_space bare_tape a.was; at = at; fact = a.fact.1.closing })
-      (record { space = shown_space bare_tape a.was; at = at; fact = a.fact.1.waits })
+      (record { space = shown_space bare_tape a.was; at = at; fact = (a.fact.0, a.fact.1.closing) })
+      (record { space = shown_space bare_tape a.was; at = at; fact = (a.fact.0, a.fact.1.waits) })
       a.fact.1.wanted
 
   pub bare-configs : (owed : Owed) (was is : BareSpace) → Given was is owed → config_of is ≡ config_of was
@@ -385,6 +382,7 @@ module _ (conn : Conn) (wants : Bool) (old new : List BareSpace) where
 pub kept-replies : (old new : Recorded) (conn : Conn) (r : Result (Vec ℕ Global) ServiceError) → IfOk r (λ text. TakesReplies old new conn text.items) → IfOk r (λ text. MovesReplies spaces_in untaken_in untold_in old new conn text.items)
 kept-replies old new conn (Err e) taken = taken
 kept-replies old new conn (Ok text) t = record {
+  known = record { space = shown_space kept_by t.known.space; at = at-mapped (shown_space kept_by) old.spaces conn.namespace t.known.space t.known.at; fact = t.known.fact };
   all = t.text_is;
   none = t.none;
   others = t.others;
@@ -392,9 +390,10 @@ kept-replies old new conn (Ok text) t = record {
   loads = λ k. ap (λ spaces. outgoing_in (map (shown_space kept_by) spaces) k) t.spaces;
 }
 
-pub kept-note : (old new : Recorded) (n : ℕ) (r : Result (Option Note) ServiceError) → IfOk r (TakesNote old new n) → IfOk r (λ note. MovesNote spaces_in untaken_in untold_in old new n note)
-kept-note old new n (Err e) taken = taken
-kept-note old new n (Ok note) t = record {
+pub kept-note : (old new : Recorded) (n : ℕ) (r : Result (Option Note) ServiceError) → IfOk r (TakesNote old new n) → OnOk r (n < length old.spaces) → IfOk r (λ note. MovesNote spaces_in untaken_in untold_in old new n note)
+kept-note old new n (Err e) taken there = taken
+kept-note old new n (Ok note) t there = record {
+  there = subst (λ k. n < k) (sym (length-map old.spaces (shown_space kept_by))) there;
   first = t.left;
   none = t.none;
   rest = record {

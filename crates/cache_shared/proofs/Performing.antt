@@ -51,8 +51,8 @@ module _ {T : Type 0} (tape : T → Option Taped) where
   none-shown n old (Err e) cause = (cause.0, subst (λ k. k ≤ n) (sym (length-map old (shown_space tape))) cause.1)
 
   pub look-shown : {A : Type 0} (of : Space T → A) (seen : Shown → A) (n number : ℕ) (spaces : List (Space T)) (r : Result A ServiceError) → ((x : Space T) → seen (shown_space tape x) ≡ of x)
-      → IfOk r (λ a. InSpace spaces n (λ space. IsOpened space number × (a ≡ of space))) → IfOk r (λ a. InSpace (map (shown_space tape) spaces) n (λ space. a ≡ seen space))
-  look-shown of seen n number spaces (Ok a) same looked = in-shown (shown_space tape) spaces n (λ x p. p.1 ∙ sym (same x)) looked
+      → IfOk r (λ a. InSpace spaces n (λ space. IsOpened space number × (a ≡ of space))) → IfOk r (λ a. InSpace (map (shown_space tape) spaces) n (λ space. IsOpened space number × (a ≡ seen space)))
+  look-shown of seen n number spaces (Ok a) same looked = in-shown (shown_space tape) spaces n (λ x p. (p.0, p.1 ∙ sym (same x))) looked
   look-shown of seen n number spaces (Err e) same looked = looked
 
   -- a refusal, where its cause is seen whatever the tape is

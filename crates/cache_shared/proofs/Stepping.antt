@@ -26,7 +26,7 @@ use Rattle.cache_spaces.specs.Calls as inputs
 use Rattle.cache_spaces.specs.Journals.{IsReached}
 use Rattle.cache_spaces.specs.Spaces.{Shown, shown_tape}
 use Rattle.cache_shared.specs.Events.{PerformsInput, is_fed, is_output_for, CountsRecord, StandsAfter, IsLastNumber, IsReachedFrom}
-use Rattle.cache_shared.specs.Looked.{HappenedAtSomeMoment, HeldAtSomeMoment, MovesNotes}
+use Rattle.cache_shared.specs.Looked.{HappenedAtSomeMoment, HeldAtSomeMoment, MovesNotes, WasGuarded}
 use Rattle.cache_shared.specs.Marks.{marks, AllMarked}
 use Rattle.cache_shared.specs.Taken.{TakesInput}
 use Rattle.cache_shared.proofs.Configured.{same-configs}
@@ -176,6 +176,11 @@ pub moves-none : (behind notes : List Note) → MovesNotes behind behind notes n
 moves-none behind notes = record { moved = []; gained = sym (append-nil behind); left = refl }
 
 -- What is said once the lock is let go.
+
+-- of what the lock guards
+pub guarded : {A E B : Type 0} (Cause : E → Type 0) (Fact : B → Type 0) (r : Result A E) (value : B) → IfErr r (λ e. Cause e × Fact value) → IfErr r (λ e. Cause e × WasGuarded Fact)
+guarded Cause Fact (Ok x) value cause = cause
+guarded Cause Fact (Err e) value cause = (cause.0, record { value = value; fact = cause.1 })
 
 module _ {C A E : Type 0} (configs : List Config) (spaces : C → List Shown) where
   -- of what was given

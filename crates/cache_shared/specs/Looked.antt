@@ -1,5 +1,5 @@
 -- What a look at a shared service saw, and what nobody had taken then.
-use Rattle.std.specs.Prelude.{◌≡◌, ◌⊎◌, ℕ, List, ◌++◌, Bool, true, false, Option, [], None, IfSome, IsNone, is_some}
+use Rattle.std.specs.Prelude.{◌≡◌, ◌⊎◌, ℕ, List, ◌++◌, Bool, false, Option, [], None, IfSome, IsNone, is_some}
 use Rattle.std.specs.Option.{option_to_list}
 use Rattle.audit_model.specs.declared.config.Config.{Config}
 use Rattle.audit_model.specs.declared.input.Conn.{Conn}
@@ -23,9 +23,10 @@ pub record MovesNotes (behind behind' notes notes' : List Note) : Type 0 where
   pub gained : behind' ≡ behind ++ moved
   pub left : notes ≡ moved ++ notes'
 
--- this is what a connection of a namespace is owed: loads where they are requested, and only there
+-- this is what a connection of a namespace, which was opened, is owed: loads where they are requested, and only there
 pub record IsWhatIsOwed {T : Type 0} (space : Space T) (number : ℕ) (wants_loads : Bool) (owed : Owed) :
     Type 0 where
+  pub opened : IsOpened space number
   pub loads : IfSome owed.loads (λ loads. loads.items ≡ outgoing_of space)
   pub wanted : is_some owed.loads ≡ wants_loads
   pub closing : owed.closing ≡ closing_of space number
@@ -34,6 +35,18 @@ pub record IsWhatIsOwed {T : Type 0} (space : Space T) (number : ℕ) (wants_loa
 -- nothing is
 abbrev pub nothing_owed : Owed
 nothing_owed = record { replies = None; loads = None; closing = None; waits = false }
+
+-- this is what a connection is owed in these namespaces: nothing, if it is unknown
+abbrev pub IsOwedIn : Conn → (wants_loads : Bool) → Owed → List Shown → Type 0
+IsOwedIn conn wants_loads owed spaces =
+    InSpace spaces conn.namespace (λ space. IsWhatIsOwed space conn.number wants_loads owed)
+    ⊎ ((e : ServiceError) × Refuses spaces conn.namespace e (λ space. IsUnknown space conn.number e)
+    × (owed ≡ nothing_owed))
+
+-- at some moment this was true of what a lock guards
+pub record WasGuarded {B : Type 0} (Fact : B → Type 0) : Type 0 where
+  pub value : B
+  pub fact : Fact value
 
 -- What was so at some moment, in a service of these configurations to which some journals that obey lead.
 module _ {C : Type 0} (configs : List Config) (spaces : C → List Shown) where
@@ -90,8 +103,4 @@ module _ {C : Type 0} (configs : List Config) (spaces : C → List Shown) where
   pub record Owes (untaken : C → Conn → List ℕ) (conn : Conn) (wants_loads : Bool) (owed : Owed) :
       Type 0 where
     pub replies : IfSome owed.replies (λ text. WereUntaken untaken conn text.items)
-    pub told : HeldAtSomeMoment (λ spaces.
-        InSpace spaces conn.namespace
-        (λ space. IsWhatIsOwed space conn.number wants_loads owed)
-        ⊎ ((e : ServiceError) × Refuses spaces conn.namespace e
-        (λ space. IsUnknown space conn.number e) × (owed ≡ nothing_owed)))
+    pub told : HeldAtSomeMoment (IsOwedIn conn wants_loads owed)

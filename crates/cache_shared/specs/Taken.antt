@@ -1,5 +1,6 @@
 -- What is moved out of a shared service, what is left of it, and what an input adds to it.
-use Rattle.std.specs.Prelude.{◌≡◌, ◌≢◌, ℕ, List, [], ◌++◌, ◌==◌, Option, IsNone, MatchOption, if◌then◌else◌}
+use Rattle.std.specs.Prelude.{◌≡◌, ◌≢◌, ◌<◌, ◌⊎◌, ℕ, Bool, List, [], ◌++◌, ◌==◌, length, Option, IsNone, MatchOption, Result, OnOk, Vec, vec_len, vec_capacity, if◌then◌else◌}
+use Rattle.std.specs.declared.alloc.Global.{Global}
 use Rattle.std.specs.List.{slice_get}
 use Rattle.std.specs.Option.{option_map_or, option_to_list}
 use Rattle.audit_laws.specs.declared.receipts.output.Output.{Output}
@@ -9,10 +10,10 @@ use Rattle.audit_model.specs.declared.input.Input.{Input}
 use Rattle.audit_model.specs.declared.input.LoadId.{LoadId}
 use Rattle.audit_model.specs.declared.transcript.Note.{Note}
 use Rattle.cache_core.specs.Turned.{notes_in, replies_to}
-use Rattle.cache_spaces.specs.Calls.{At, PerformsFrom, TakesLoads, namespace_of}
+use Rattle.cache_spaces.specs.Calls.{At, InSpace, IsOpened, PerformsFrom, TakesLoads, namespace_of}
 use Rattle.cache_spaces.specs.Spaces.{Shown, StandsFor, outgoing_of, shown_tape}
 use Rattle.cache_shared.specs.Events.{PerformsInput}
-use Rattle.cache_shared.specs.Looked.{MovesNotes}
+use Rattle.cache_shared.specs.Looked.{IsOwedIn, MovesNotes}
 use Rattle.cache_core.specs.declared.owing.Owed.{Owed}
 use Rattle.cache_shared.specs.declared.turning.Turn.{Turn}
 
@@ -32,8 +33,9 @@ module _ {C : Type 0} (spaces : C → List Shown) (untaken : C → Conn → List
   KeepsLoads old new =
       (namespace : ℕ) → outgoing_in (spaces new) namespace ≡ outgoing_in (spaces old) namespace
 
-  -- All replies of this connection were moved out, and nothing else was taken.
+  -- All replies of this connection, which was opened, were moved out, and nothing else was taken.
   pub record MovesReplies (old new : C) (conn : Conn) (text : List ℕ) : Type 0 where
+    pub known : InSpace (spaces old) conn.namespace (λ space. IsOpened space conn.number)
     pub all : text ≡ untaken old conn
     pub none : untaken new conn ≡ []
     pub others : (other : Conn) → other ≢ conn → untaken new other ≡ untaken old other
@@ -46,11 +48,21 @@ module _ {C : Type 0} (spaces : C → List Shown) (untaken : C → Conn → List
     pub replies : KeepsReplies old new
     pub loads : KeepsLoads old new
 
-  -- The oldest note of this namespace was moved out, if there is one, and nothing else was taken.
+  -- The oldest note of this namespace, which exists, was moved out, if there is one, and nothing else was taken.
   pub record MovesNote (old new : C) (namespace : ℕ) (note : Option Note) : Type 0 where
+    pub there : namespace < length (spaces old)
     pub first : untold old namespace ≡ option_to_list note ++ untold new namespace
     pub none : IsNone note → untold old namespace ≡ []
     pub rest : MovesNotesOf old new namespace
+
+  -- The oldest notes of this namespace were appended to others, in order, and nothing else was taken. If the call was not refused, the
+  -- namespace exists and no note of it is left, or there is no more room.
+  pub record MovesOldest {A E : Type 0} (old new : C) (namespace : ℕ) (result : Result A E)
+      (behind behind' : Vec Note Global) : Type 0 where
+    pub notes : MovesNotes behind.items behind'.items (untold old namespace) (untold new namespace)
+    pub rest : MovesNotesOf old new namespace
+    pub all : OnOk result (((namespace < length (spaces old)) × (untold new namespace ≡ []))
+        ⊎ (vec_len behind' ≡ vec_capacity behind))
 
   -- All loads of this namespace that went out were moved out, and nothing else was taken.
   pub record MovesLoads (old new : C) (namespace : ℕ) (loads : List (LoadId × List ℕ)) : Type 0
@@ -74,10 +86,11 @@ module _ {C : Type 0} (spaces : C → List Shown) (untaken : C → Conn → List
     pub other_notes : (other : ℕ) → other ≢ conn.namespace
         → untold new other ≡ untold old other
 
-  -- The same, with the oldest notes of its namespace, which were appended to others.
-  pub record MovesAll (old new : C) (conn : Conn) (given : Owed) (behind behind' : List Note) :
-      Type 0 where
+  -- The same, and this is what it was owed; with the oldest notes of its namespace, which were appended to others.
+  pub record MovesAll (old new : C) (conn : Conn) (wants_loads : Bool) (given : Owed)
+      (behind behind' : List Note) : Type 0 where
     pub owed : MovesOwed old new conn given
+    pub told : IsOwedIn conn wants_loads given (spaces old)
     pub notes : MovesNotes behind behind' (untold old conn.namespace) (untold new conn.namespace)
 
   -- From this situation the input's event happened, by a record with this output. Its replies and notes, and nothing else, were added to
@@ -98,8 +111,8 @@ module _ {C : Type 0} (spaces : C → List Shown) (untaken : C → Conn → List
         (λ was is. (s : Situation) → StandsFor was s → GainsFrom i output old new was is s)
 
   -- An input was taken, and everything that a connection was owed then was moved out, and oldest notes of its namespace.
-  pub record TakesInputWhole (old new : C) (conn : Conn) (i : Input) (turn : Turn)
-      (behind behind' : List Note) : Type 0 where
+  pub record TakesInputWhole (old new : C) (conn : Conn) (i : Input) (wants_loads : Bool)
+      (turn : Turn) (behind behind' : List Note) : Type 0 where
     pub between : C
     pub taken : TakesInput i turn.output old between
-    pub moved : MovesAll between new conn turn.owed behind behind'
+    pub moved : MovesAll between new conn wants_loads turn.owed behind behind'

@@ -1,5 +1,5 @@
 //! The core that keeps its journals.
-ghost use Rattle.std.specs.Prelude.{◌≡◌, ◌<◌, length, is_some, IfErr, IfOk, MatchOption, OnErr};
+ghost use Rattle.std.specs.Prelude.{◌≡◌, ◌<◌, length, is_some, IfErr, IfOk, MatchOption, OnErr, OnOk};
 ghost use Rattle.std.specs.Option.{option_copied};
 ghost use Rattle.cache_shared.specs.Events.{KeepsStanding};
 ghost use Rattle.cache_shared.specs.Looked.{IsWhatIsOwed, RefusesCopy};
@@ -148,6 +148,7 @@ fn take_replies(recorded: &mut RecordedService, conn: Conn) -> Option<Vec<u8>>
 /// Returns a copy of the oldest note of a namespace that was not taken. It is taken only if there is memory for the copy.
 fn take_note(recorded: &mut RecordedService, namespace: u64) -> Result<Option<Note>, ServiceError>
     ensures taken { IfOk result (TakesNote recorded.old recorded.new namespace) }
+    ensures there { OnOk result (namespace < length recorded.old.spaces) }
     ensures refused { IfErr result
         (λ e. Refuses recorded.old.spaces namespace e (λ space. e ≡ ServiceError.OutOfMemory)) }
     ensures unchanged { OnErr result (recorded.new ≡ recorded.old) }

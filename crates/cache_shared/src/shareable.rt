@@ -8,7 +8,7 @@ ghost use Rattle.audit_model.specs.declared.transcript.Transcript.{Transcript};
 ghost use Rattle.cache_shared.specs.Events.{CountsRecord, KeepsStanding};
 ghost use Rattle.cache_shared.specs.Looked.{IsWhatIsOwed, RefusesCopy};
 ghost use Rattle.cache_shared.specs.Taken.{KeepsNotes, MovesLoads, MovesNote, MovesOwed, MovesReplies, TakesInput};
-ghost use Rattle.cache_spaces.specs.Calls.{InSpace, IsUnknown, Refuses, RefusedInput, namespace_of};
+ghost use Rattle.cache_spaces.specs.Calls.{InSpace, IsOpened, IsUnknown, Refuses, RefusedInput, namespace_of};
 ghost use Rattle.cache_spaces.specs.Spaces.{Shown, closing_of, is_waiting_for};
 
 use audit_model::{Bytes, Closing, Conn, Input, Instant, LoadId, Note, ServiceError, Transcript};
@@ -122,7 +122,7 @@ pub trait Shareable: Drop {
     /// if the connection was never opened.
     fn closed(&self, conn: Conn) -> Result<Option<Closing>, ServiceError>
         ensures closing { IfOk result (λ closing. InSpace (spaces self.now) conn.namespace
-            (λ space. closing ≡ closing_of space conn.number)) }
+            (λ space. IsOpened space conn.number × (closing ≡ closing_of space conn.number))) }
         ensures refused { IfErr result (λ e.
             Refuses (spaces self.now) conn.namespace e (λ space. IsUnknown space conn.number e)) };
 
@@ -130,7 +130,7 @@ pub trait Shareable: Drop {
     /// namespace, and `NoConnection` if the connection was never opened.
     fn waiting(&self, conn: Conn) -> Result<bool, ServiceError>
         ensures waits { IfOk result (λ waits. InSpace (spaces self.now) conn.namespace
-            (λ space. waits ≡ is_waiting_for space conn.number)) }
+            (λ space. IsOpened space conn.number × (waits ≡ is_waiting_for space conn.number))) }
         ensures refused { IfErr result (λ e.
             Refuses (spaces self.now) conn.namespace e (λ space. IsUnknown space conn.number e)) };
 }

@@ -3,10 +3,10 @@ ghost use Rattle.std.specs.Prelude.{◌≡◌, ◌≤◌, ◌-◌, ◌^◌, [], 
 ghost use Rattle.std.specs.Arc.{arc_value};
 ghost use Rattle.cache_shared.specs.Events.{RefusesStep, StandsAfter};
 ghost use Rattle.cache_shared.specs.Intakes.{input_in};
-ghost use Rattle.cache_shared.specs.Looked.{HappenedAtSomeMoment, HeldAtSomeMoment, Owes, WasOldestNote, WereMoved, RefusesCopy, WereOut, WereUntaken};
+ghost use Rattle.cache_shared.specs.Looked.{HappenedAtSomeMoment, HeldAtSomeMoment, Owes, WasGuarded, WasOldestNote, WereMoved, RefusesCopy, WereOut, WereUntaken};
 ghost use Rattle.cache_shared.specs.Seats.{AgreeAll, Counts, SameReceipts};
-ghost use Rattle.cache_shared.specs.Taken.{MovesAll, MovesLoads, MovesNote, MovesReplies, TakesInput, TakesInputWhole};
-ghost use Rattle.cache_spaces.specs.Calls.{InSpace, IsUnknown, Refuses};
+ghost use Rattle.cache_shared.specs.Taken.{MovesAll, MovesLoads, MovesNote, MovesOldest, MovesReplies, TakesInput, TakesInputWhole};
+ghost use Rattle.cache_spaces.specs.Calls.{InSpace, IsOpened, IsUnknown, Refuses};
 ghost use Rattle.cache_spaces.specs.Spaces.{closing_of, is_waiting_for};
 
 use crate::booked::{BookedService, Finished};
@@ -86,7 +86,9 @@ impl<L: Seating, C: Shareable> SharedService<L, C> {
     /// Returns a seat for one thread, or `UsedUp` if the ledger has no part left. The call allocates nothing.
     pub fn seat(&self, rt: &impl Wait) -> Result<Seat<L>, ServiceError>
         ensures seat { IfOk result (λ seat. (seat.count ≡ 0) × (seat.receipts.items ≡ [])) }
-        ensures refused { IfErr result (λ e. e ≡ ServiceError.UsedUp) }
+        ensures refused { IfErr result (λ e. (e ≡ ServiceError.UsedUp) × WasGuarded
+            (λ (booked : BookedService L C (record { all = L.all; configs = L.configs }) C.Shareable).
+            booked.left ≡ 0)) }
     {
         self.inner().booked.lock(rt).seat(self.alloc)
     }
@@ -195,7 +197,7 @@ impl<L: Seating, C: Shareable> SharedService<L, C> {
             × (notes.new ≡ notes.old)) }
         ensures taken { IfOk result (λ turn. HappenedAtSomeMoment L.configs C.spaces
             (λ old new. TakesInputWhole C.spaces C.untaken C.untold old new conn
-            (input_in intake.entry) turn notes.old.items notes.new.items)) }
+            (input_in intake.entry) wants_loads turn notes.old.items notes.new.items)) }
         ensures refused { IfErr result (λ refused. HeldAtSomeMoment L.configs C.spaces
             (RefusesStep (input_in intake.entry) refused.error seat.old.count)) }
         ensures used_up { IfErr result
@@ -222,7 +224,7 @@ impl<L: Seating, C: Shareable> SharedService<L, C> {
         notes: &mut Vec<Note>,
     ) -> Owed
         ensures all { HappenedAtSomeMoment L.configs C.spaces (λ old new. MovesAll C.spaces
-            C.untaken C.untold old new conn result notes.old.items notes.new.items) }
+            C.untaken C.untold old new conn wants_loads result notes.old.items notes.new.items) }
         ensures owed { Owes L.configs C.spaces C.untaken conn wants_loads result }
         ensures moved { WereMoved L.configs C.spaces C.untold conn.namespace notes.old.items
             notes.new.items }
@@ -242,6 +244,8 @@ impl<L: Seating, C: Shareable> SharedService<L, C> {
         namespace: u64,
         notes: &mut Vec<Note>,
     ) -> Result<(), ServiceError>
+        ensures all { HappenedAtSomeMoment L.configs C.spaces (λ old new. MovesOldest C.spaces
+            C.untaken C.untold old new namespace result notes.old notes.new) }
         ensures moved { WereMoved L.configs C.spaces C.untold namespace notes.old.items
             notes.new.items }
         ensures refused { IfErr result (λ e. HeldAtSomeMoment L.configs C.spaces
@@ -284,7 +288,8 @@ impl<L: Seating, C: Shareable> SharedService<L, C> {
     /// namespace, and `NoConnection` if the connection was never opened.
     pub fn closed(&self, rt: &impl Wait, conn: Conn) -> Result<Option<Closing>, ServiceError>
         ensures closing { IfOk result (λ closing. HeldAtSomeMoment L.configs C.spaces (λ spaces.
-            InSpace spaces conn.namespace (λ space. closing ≡ closing_of space conn.number))) }
+            InSpace spaces conn.namespace
+            (λ space. IsOpened space conn.number × (closing ≡ closing_of space conn.number)))) }
         ensures refused { IfErr result (λ e. HeldAtSomeMoment L.configs C.spaces
             (λ spaces. Refuses spaces conn.namespace e (λ space. IsUnknown space conn.number e))) }
     {
@@ -295,7 +300,8 @@ impl<L: Seating, C: Shareable> SharedService<L, C> {
     /// namespace, and `NoConnection` if the connection was never opened.
     pub fn waiting(&self, rt: &impl Wait, conn: Conn) -> Result<bool, ServiceError>
         ensures waits { IfOk result (λ waits. HeldAtSomeMoment L.configs C.spaces (λ spaces.
-            InSpace spaces conn.namespace (λ space. waits ≡ is_waiting_for space conn.number))) }
+            InSpace spaces conn.namespace
+            (λ space. IsOpened space conn.number × (waits ≡ is_waiting_for space conn.number)))) }
         ensures refused { IfErr result (λ e. HeldAtSomeMoment L.configs C.spaces
             (λ spaces. Refuses spaces conn.namespace e (λ space. IsUnknown space conn.number e))) }
     {

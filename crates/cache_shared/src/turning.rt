@@ -1,10 +1,10 @@
 //! Turns: an intake, and everything that its connection is owed afterwards, in one hold of the lock.
-ghost use Rattle.std.specs.Prelude.{◌≡◌, ◌⊎◌, ◌-◌, ◌^◌, [], IfOk, IfErr, OnOk, OnErr, vec_len, vec_capacity};
+ghost use Rattle.std.specs.Prelude.{◌≡◌, ◌-◌, ◌^◌, IfOk, IfErr, OnErr};
 ghost use Rattle.cache_shared.specs.Events.{RefusesStep, TakesNothing};
 ghost use Rattle.cache_shared.specs.Intakes.{input_in};
-ghost use Rattle.cache_shared.specs.Looked.{HeldAtSomeMoment, MovesNotes, Owes, WereMoved};
+ghost use Rattle.cache_shared.specs.Looked.{HeldAtSomeMoment, Owes, WereMoved};
 ghost use Rattle.cache_shared.specs.Seats.{Counts, SameReceipts};
-ghost use Rattle.cache_shared.specs.Taken.{MovesAll, MovesNotesOf, TakesInputWhole};
+ghost use Rattle.cache_shared.specs.Taken.{MovesAll, MovesOldest, TakesInputWhole};
 ghost use Rattle.cache_spaces.specs.Calls.{Refuses};
 
 use crate::booked::BookedService;
@@ -39,8 +39,8 @@ impl<L: Seating, C: Shareable> BookedService<L, C> {
         ensures counted { IfOk result (λ turn. Counts C.KEEPS (input_in intake.entry) turn.output
             seat.old.count seat.new.count seat.old.receipts.items seat.new.receipts.items) }
         ensures taken { IfOk result (λ turn. TakesInputWhole C.spaces C.untaken C.untold
-            self.old.core self.new.core conn (input_in intake.entry) turn notes.old.items
-            notes.new.items) }
+            self.old.core self.new.core conn (input_in intake.entry) wants_loads turn
+            notes.old.items notes.new.items) }
         ensures owed { IfOk result
             (λ turn. Owes L.configs C.spaces C.untaken conn wants_loads turn.owed) }
         ensures refused { IfErr result (λ refused. RefusesStep (input_in intake.entry) refused.error
@@ -64,15 +64,16 @@ impl<L: Seating, C: Shareable> BookedService<L, C> {
     /// Returns what a connection is owed, and appends its namespace's oldest notes, as many as there is room for, moved out; nothing if the
     /// connection is unknown.
     pub fn take_owed(&mut self, conn: Conn, wants_loads: bool, notes: &mut Vec<Note>) -> Owed
-        ensures all { MovesAll C.spaces C.untaken C.untold self.old.core self.new.core conn result
-            notes.old.items notes.new.items }
+        ensures all { MovesAll C.spaces C.untaken C.untold self.old.core self.new.core conn
+            wants_loads result notes.old.items notes.new.items }
         ensures owed { Owes L.configs C.spaces C.untaken conn wants_loads result }
         ensures moved { WereMoved L.configs C.spaces C.untold conn.namespace notes.old.items
             notes.new.items }
     {
+        let owed = self.core.owed(conn, wants_loads);
         // Notes that are not taken for lack of memory stay.
         let _ = self.take_notices(conn.namespace, notes);
-        match self.core.owed(conn, wants_loads) {
+        match owed {
             Ok(owed) => owed,
             Err(_) => Owed {
                 replies: None,
@@ -91,12 +92,8 @@ impl<L: Seating, C: Shareable> BookedService<L, C> {
         namespace: u64,
         notes: &mut Vec<Note>,
     ) -> Result<(), ServiceError>
-        ensures moved { MovesNotes notes.old.items notes.new.items
-            (C.untold self.old.core namespace) (C.untold self.new.core namespace) }
-        ensures others { MovesNotesOf C.spaces C.untaken C.untold self.old.core self.new.core
-            namespace }
-        ensures all { OnOk result ((C.untold self.new.core namespace ≡ [])
-            ⊎ (vec_len notes.new ≡ vec_capacity notes.old)) }
+        ensures all { MovesOldest C.spaces C.untaken C.untold self.old.core self.new.core namespace
+            result notes.old notes.new }
         ensures refused { IfErr result (λ e. HeldAtSomeMoment L.configs C.spaces
             (λ spaces. Refuses spaces namespace e (λ space. e ≡ ServiceError.OutOfMemory))) }
     {

@@ -109,6 +109,8 @@ pub struct Site<R: time::Clock + Wait + Copy> {
 }
 
 impl<R: time::Clock + Wait + Copy> Teller for Site<R> {
+    ghost tells = { λ before notes after. Unit {0} };
+
     fn is_told(&self) -> bool {
         true
     }

@@ -28,9 +28,15 @@ returns-in_err-session-clause-asked g c = λ kept.
       inr (record { same = (rested c.args.seat.now c.open.new.place c.in_err-session.ensures.rests).same; unread = refl; untold = refl; unasked = refl }),
     )
 
+pub returns-in_default-clause-served : goal.returns-in_default-clause-served
+returns-in_default-clause-served g c = inr (refl, refl)
+
+pub returns-in_err-session-clause-served : goal.returns-in_err-session-clause-served
+returns-in_err-session-clause-served g c = let p = err_from_is_err_and c.from_residual.result c.from_residual.ensures.1 in rw p.1 (inr (refl, refl))
+
 pub loop-turn-init : goal.loop-turn-init
 loop-turn-init g c = record {
-  goes = fresh-underway false (Comes g.L.Seating.configs g.C.Shareable.spaces g.C.Shareable.untaken g.C.Shareable.KEEPS) (Closes g.L.Seating.configs g.C.Shareable.spaces g.C.Shareable.untaken g.C.Shareable.KEEPS) g.K.Clock.reads g.D.Loader.loads _ _ c.in_ok-session.session c.in_ok-session.ensures.opens.1;
+  goes = fresh-underway false (Comes g.L.Seating.configs g.C.Shareable.spaces g.C.Shareable.untaken g.C.Shareable.KEEPS g.C.Shareable.untold) (Closes g.L.Seating.configs g.C.Shareable.spaces g.C.Shareable.untaken g.C.Shareable.KEEPS) g.K.Clock.reads g.D.Loader.loads _ _ c.in_ok-session.session c.in_ok-session.ensures.opens.1;
   same = refl;
   reads = omega arith;
   writes = omega arith;
@@ -51,7 +57,7 @@ loop-turn-preserved g c =
 pub returns-in-loop-turn : goal.returns-in-loop-turn
 returns-in-loop-turn g c =
     let i = c.loop-turn.invariant in
-    let all = attended g.L.Seating.configs g.C.Shareable.spaces g.C.Shareable.untaken g.C.Shareable.KEEPS g.I.Read.remaining g.O.Write.contents g.K.Clock.reads g.D.Loader.loads c.args.namespace c.args.seat.now c.close.new.place c.args.reader.now c.converse-ended.new.reader c.args.writer.now
+    let all = attended g.L.Seating.configs g.C.Shareable.spaces g.C.Shareable.untaken g.C.Shareable.untold g.C.Shareable.KEEPS g.I.Read.remaining g.O.Write.contents g.K.Clock.reads g.D.Loader.loads c.args.namespace c.args.seat.now c.close.new.place c.args.reader.now c.converse-ended.new.reader c.args.writer.now
     c.converse-ended.new.writer c.args.clock.now c.converse-ended.new.clock c.args.loader.now c.close.new.loader c.in_ok-session.session c.converse-ended.new.session c.open.new.place c.converse-ended.new.place c.converse-ended.new.loader c.converse-ended.result c.outcome_of.result
     c.close.result c.in_ok-session.ensures.opens.0 (c.converse-ended.ensures.known.1 ∙ i.same) (c.converse-ended.ensures.goes c.open.new.place (around g.I.Read.remaining g.O.Write.contents c.args.reader.now c.args.writer.now c.args.clock.now c.args.loader.now) i.goes) c.outcome_of.ensures c.close.ensures.closes c.close.ensures.same in
     let counts : c.args.seat.now.count ≤ c.close.new.place.count = omega arith in
@@ -66,4 +72,5 @@ returns-in-loop-turn g c =
       write = why Write;
       moment = why Moment;
       loader = all.loaded;
+      served = all.served;
     }

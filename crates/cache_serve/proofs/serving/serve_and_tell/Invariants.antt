@@ -6,7 +6,7 @@ use Rattle.cache_serve.proofs.serving.serve_and_tell.Given as goal
 
 abbrev pub invariant-loop-turn : goal.invariant-loop-turn
 invariant-loop-turn g l = record {
-  goes : Underway false (Comes g.L.Seating.configs g.C.Shareable.spaces g.C.Shareable.untaken g.C.Shareable.KEEPS) (Closes g.L.Seating.configs g.C.Shareable.spaces g.C.Shareable.untaken g.C.Shareable.KEEPS) g.K.Clock.reads g.D.Loader.loads l.initial.seat
+  goes : Underway false (Comes g.L.Seating.configs g.C.Shareable.spaces g.C.Shareable.untaken g.C.Shareable.KEEPS g.C.Shareable.untold) (Closes g.L.Seating.configs g.C.Shareable.spaces g.C.Shareable.untaken g.C.Shareable.KEEPS) g.K.Clock.reads g.D.Loader.loads l.initial.seat
       (around g.I.Read.remaining g.O.Write.contents l.initial.reader l.initial.writer l.initial.clock l.initial.loader) l.session l.seat (around g.I.Read.remaining g.O.Write.contents l.reader l.writer l.clock l.loader);
   same : l.session.conn ≡ l.initial.session.conn;
   reads : failures l.initial.reader ≤ failures l.reader;

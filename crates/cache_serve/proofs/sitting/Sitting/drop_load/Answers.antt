@@ -2,7 +2,7 @@ use Rattle.cache_serve.proofs.Seating.{if-some-any, settles-anyhow, settles-give
 use Rattle.cache_serve.proofs.sitting.Sitting.drop_load.Goals as goal
 
 pub returns-in_default : goal.returns-in_default
-returns-in_default g c = (c.load-said.result, λ key. settles-anyhow (c.settle_load.ensures.settled key), c.load-said.ensures)
+returns-in_default g c = (c.load-said.result, λ key. settles-anyhow (c.settle_load.ensures.settled key).0, c.load-said.ensures)
 
 pub returns-in-Err : goal.returns-in-Err
 returns-in-Err g c = (

@@ -8,7 +8,7 @@ use Rattle.cache_shared.proofs.shared.SharedService.turn.Goals as goal
 
 pub returns-clause-taken : goal.returns-clause-taken
 returns-clause-taken g c =
-    happened _ _ (λ (turn : Turn) old new. TakesInputWhole g.C.Shareable.spaces g.C.Shareable.untaken g.C.Shareable.untold old new c.args.conn (input_in c.args.intake) turn c.args.notes.now.items c.turn-turn.new.notes.items) c.turn-turn.result _ _ _
+    happened _ _ (λ (turn : Turn) old new. TakesInputWhole g.C.Shareable.spaces g.C.Shareable.untaken g.C.Shareable.untold old new c.args.conn (input_in c.args.intake) c.args.wants_loads turn c.args.notes.now.items c.turn-turn.new.notes.items) c.turn-turn.result _ _ _
     c.deref_mut.result.now.stands.reached c.turn-turn.ensures.taken
 
 pub returns-clause-refused : goal.returns-clause-refused
