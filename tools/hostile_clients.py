@@ -784,7 +784,8 @@ BLOCKS = [
     ([b"set b 0 0 -1\r\n", b""], FORMAT, True),
     ([b"ms b 18446744073709551616\r\n", b""], FORMAT, True),
     ([b"set " + b"k" * 251 + b" 0 0 1\r\n", b""], FORMAT, True),
-    ([b"get " + b"k" * 40_000, b"k" * 30_000], b"CLIENT_ERROR line too long\r\n", False),
+    ([b"delete " + b"k" * 40_000, b"k" * 30_000], b"CLIENT_ERROR line too long\r\n", False),
+    ([b"get " + b"k" * 2_000_000, b"k" * 100_000], b"CLIENT_ERROR line too long\r\n", False),
 ]
 
 
