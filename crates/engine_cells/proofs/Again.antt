@@ -1,5 +1,5 @@
 -- The record of a number, looked for under the hash of its key.
-use Rattle.std.proofs.Common.{arith, ◌≡◌, refl, ap, ◌∙◌, sym, subst, ℕ, Bool, true, false, true≢false, eqb, List, Option, Some, None}
+use Rattle.std.proofs.Common.{arith, ◌≡◌, refl, ap, sym, ℕ, Bool, true, false, true≢false, eqb, List, Option, Some, None}
 use Rattle.engine_cells.specs.Keys.Spots.{Spots, IsUnder}
 use Rattle.engine_reference.specs.declared.data.Record.{Record}
 use Rattle.engine_cells.specs.Cells.{cell_at}

@@ -1,7 +1,7 @@
 -- The held record of a key, among the records of cells.
-use Rattle.std.proofs.Common.{inr, inl, ◌≡◌, refl, ap, subst, ◌∙◌, ℕ, zero, suc, arith, Bool, true, false, cond, ◌&&◌, List, [], ◌∷◌, Option, Some, None}
+use Rattle.std.proofs.Common.{inr, inl, ◌≡◌, refl, ap, ◌∙◌, ℕ, zero, suc, arith, Bool, true, false, cond, ◌&&◌, List, [], ◌∷◌, Option, Some, None}
 use Rattle.std.specs.Prelude.{nat_lt}
-use Rattle.std.proofs.lemmas.Bool.{cases_Bool, and_parts}
+use Rattle.std.proofs.lemmas.Bool.{cases_Bool}
 use Rattle.engine_cells.specs.Keys.Spots.{Spots, IsUnder}
 use Rattle.engine_reference.specs.declared.data.Record.{Record}
 use Rattle.engine_reference.specs.Records.{held_at}

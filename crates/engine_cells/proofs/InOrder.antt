@@ -1,5 +1,5 @@
 -- The held records in the order of their numbers, and their keys.
-use Rattle.std.proofs.Common.{inr, inl, ◌≡◌, refl, ap, sym, ◌∙◌, ℕ, ◌+◌, suc, zero, arith, Bool, true, false, cond, eqb, List, [], ◌∷◌, ◌++◌, Option, Some, None}
+use Rattle.std.proofs.Common.{inr, inl, ◌≡◌, refl, ap, sym, ◌∙◌, ℕ, ◌+◌, suc, zero, arith, cond, eqb, List, [], ◌∷◌, ◌++◌, Option, Some, None}
 use Rattle.std.specs.Prelude.{map, sum_by}
 use Rattle.std.specs.List.{AllByRecursion}
 use Rattle.std.specs.List.Sorted.{IsPermutation, IsNonDecreasingBy}
@@ -7,9 +7,8 @@ use Rattle.std.proofs.lemmas.Bool.{cond_both, cases_Bool, eq-eqb, ne_eqb}
 use Rattle.std.proofs.lemmas.List.Elements.{All-from_recursion, recursion_from_All}
 use Rattle.std.proofs.lemmas.List.Sorted.{All-permutation, sum_by-IsPermutation}
 use Rattle.std.proofs.lemmas.List.Sums.{sum_by-cons}
-use Rattle.engine_reference.specs.declared.data.Entry.{Entry}
 use Rattle.engine_reference.specs.declared.data.Record.{Record}
-use Rattle.engine_reference.specs.Records.{record_at, held_entries}
+use Rattle.engine_reference.specs.Records.{record_at}
 use Rattle.engine_reference.specs.Scanning.{held_keys}
 use Rattle.engine_cells.specs.declared.listing.Stand.{Stand}
 use Rattle.engine_cells.specs.Cells.{cell_at, records_by_number, HaveOwnNumbers}

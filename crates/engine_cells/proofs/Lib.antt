@@ -17,3 +17,6 @@ pub mod InOrder
 pub mod Sorting
 pub mod Awaits
 pub mod Shown
+pub mod WriteLists
+pub mod Making
+pub mod Sweeps

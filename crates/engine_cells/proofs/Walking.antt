@@ -1,5 +1,5 @@
 -- Walks over cells and queues.
-use Rattle.std.proofs.Common.{inr, inl, ◌≡◌, refl, sym, ◌∙◌, ℕ, ◌<◌, zero, suc, arith, length, Bool, true, false, cond, eqb, List, [], ◌∷◌, Option, Some, None}
+use Rattle.std.proofs.Common.{inr, inl, ◌≡◌, refl, sym, ◌∙◌, ℕ, ◌<◌, zero, suc, arith, length, true, eqb, List, [], ◌∷◌, Option, Some, None}
 use Rattle.std.specs.Prelude.{IfSome, IfNone, OnOk, OnErr, Result, Ok, Err, option_map, is_some}
 use Rattle.engine_reference.specs.declared.data.Record.{Record}
 use Rattle.engine_reference.specs.Records.{record_at}

@@ -4,6 +4,8 @@ pub mod Lending
 pub mod Cells
 pub mod Kept
 pub mod Fitting
+pub mod WriteList
+pub mod Swept
 pub mod Spotted
 pub mod Noting
 pub mod Looking

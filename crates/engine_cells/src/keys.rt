@@ -26,7 +26,7 @@ struct Slot {
 /// each of these hashes.
 #[derive(Drop)]
 pub struct Keys {
-    // At most half of the slots are taken.
+    // At most two thirds of the slots are taken.
     slots: Vec<Slot>,
     // How many places there are.
     count: usize,
@@ -78,7 +78,7 @@ impl Keys {
         if MOST_PLACES < wanted {
             return Err(AllocError);
         }
-        let many = slots_for(wanted.max(self.count + self.count / 2));
+        let many = slots_for(wanted.max(self.count + self.count / 4));
         let mut slots = vacant_slots(*self.slots.allocator(), many)?;
         put_all(&mut slots, &self.slots);
         self.slots = slots;
@@ -123,7 +123,7 @@ impl Keys {
 fn most_in(many: usize) -> usize
     ensures { result ≡ most_in many }
 {
-    many / 2
+    many / 3 * 2
 }
 
 /// How many slots so many places want.
@@ -131,7 +131,7 @@ fn slots_for(places: usize) -> usize
     requires { places ≤ 2 ^ 33 }
     ensures { places ≤ most_in result }
 {
-    places * 2
+    places.div_ceil(2) * 3
 }
 
 /// A hash's tag.

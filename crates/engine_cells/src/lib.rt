@@ -12,6 +12,8 @@ mod rooms;
 mod showing;
 mod tally;
 mod timing;
+mod trail;
+mod write_order;
 
 pub use cell::Cell;
 pub use cell_slab::CellSlab;
@@ -24,3 +26,5 @@ pub use rooms::grow;
 pub use showing::count_shown;
 pub use tally::Tally;
 pub use timing::{set_changed, time_all};
+pub use trail::Trail;
+pub use write_order::{WriteOrder, put_last, take_off};

@@ -7,6 +7,7 @@ ghost use Rattle.engine_cells.specs.Rooms.{OnlyMoreCells, HasRooms};
 use crate::cell::Cell;
 use crate::cell_slab::CellSlab;
 use crate::keys::Keys;
+use crate::write_order::WriteOrder;
 use policy_queue::IndexQueue;
 
 /// Makes room for `more` records, if `waiting` of those that are there are in no queue. Returns whether there was enough memory.
@@ -14,16 +15,18 @@ use policy_queue::IndexQueue;
 pub fn grow<K, V>(
     cells: &mut CellSlab<Cell<K, V>>,
     access: &mut IndexQueue,
-    order: &mut IndexQueue,
+    order: &mut WriteOrder,
     keys: &mut Keys,
     more: usize,
     waiting: usize,
 ) -> bool
     ensures cells { OnlyMoreCells cells.old cells.new }
     ensures access { OnlyGainsPlaces access.old access.new }
-    ensures order { OnlyGainsPlaces order.old order.new }
+    ensures order { OnlyGainsPlaces order.old.places order.new.places }
+    ensures kept { order.new.is_kept ≡ order.old.is_kept }
     ensures keys { OnlyGainsSpace keys.old keys.new }
-    ensures room { result ≡ true → HasRooms cells.new access.new order.new keys.new more waiting }
+    ensures room { result ≡ true
+        → HasRooms cells.new access.new order.new.places keys.new more waiting }
 {
     let Some(queued) = waiting.checked_add(more) else {
         return false;

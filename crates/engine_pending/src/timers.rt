@@ -1,5 +1,6 @@
 //! When places expire: the first of them is found at once.
 mod expirations;
-mod names;
+mod firsts;
+mod places;
 
 pub use expirations::Expirations;

@@ -5,7 +5,7 @@ use Rattle.std.specs.List.{list_any}
 use Rattle.std.specs.Option.{option_and_then}
 use Rattle.std.proofs.Math.Logic.{∥∥₁_elim}
 use Rattle.std.proofs.Props.{props}
-use Rattle.std.proofs.lemmas.Bool.{and_parts, cases_eq}
+use Rattle.std.proofs.lemmas.Bool.{and_parts, cases_eq, ltb-false}
 use Rattle.std.proofs.lemmas.List.Edits.{length-remove}
 use Rattle.std.proofs.lemmas.Option.{slice_get-get_or}
 use Rattle.engine_reference.specs.declared.rules.causes.RemovalCause.TheVariants as cause
@@ -21,6 +21,7 @@ use Rattle.engine_reference.proofs.Unapplied.{record_at-without}
 use Rattle.engine_reference.proofs.run_laws.Rising.{each-own}
 use Rattle.engine_cells.specs.Kept.{Kept, kept_at, numbered_at}
 use Rattle.engine_cells.specs.Stretches.{StepsFor}
+use Rattle.engine_cells.specs.Swept.{NoneIsCleared}
 use Rattle.engine_runs.proofs.Fronting.{kept-number}
 use Rattle.engine_runs.specs.Covered.{is_covered_as, IsScanned, NoneIsCovered, EachCoversNone, CoverNone}
 
@@ -127,6 +128,11 @@ module _ {K V P S R : Type 0} (answers : Answers K V P R) where
   cover-none s sound none = each-from answers s.rules s.records s.predicates sound (λ k. each-covers_none answers s.rules s.predicates s.records
       (each-map (λ r. record_at s.records r.number ≡ Some r) (λ r. (r.is_held && list_any (λ p. is_covered_by answers s.rules p r.entry) s.predicates) ≡ false)
       (λ r there. others-not r.is_held (nat_lt r.entry.step s.cleared) (list_any (λ p. is_covered_by answers s.rules p r.entry) s.predicates) (none r there)) s.records (each-own s.records k.records.numbered)))
+
+  -- nor is one of a step before the clear
+  pub none-cleared : (s : State K V P S R) → NoneIsCovered answers s → NoneIsCleared s
+  none-cleared s none r there held =
+      ltb-false r.entry.step s.cleared (first-not true (nat_lt r.entry.step s.cleared) (list_any (λ p. is_covered_by answers s.rules p r.entry) s.predicates) (ap (λ b. b && is_covered answers s r.entry) (sym held) ∙ none r there))
 
   -- a predicate at a place of them goes
   pub predicate-ends : (now : ℕ) (s t : State K V P S R) (place : ℕ) (p : Registered P) → IsApplied s → slice_get s.predicates place ≡ Some p → CoverNone answers s → t ≡ record s { predicates = remove s.predicates place } → StepsFor answers now s t

@@ -14,7 +14,9 @@ use Rattle.engine_reference.specs.Runs.{first_of, IsWrittenClean, IsUsedClean}
 use Rattle.engine_reference.specs.State.{State}
 use Rattle.engine_reference.specs.Times.{end_of, is_reached, earlier_of, has_come}
 use Rattle.engine_cells.specs.Looking.{is_expired}
+use Rattle.engine_cells.specs.Swept.{NoneIsCleared}
 use Rattle.engine_runs.specs.Fronts.{why_written, why_used, MayLeave, dies, cleared}
+use Rattle.engine_runs.proofs.SweepingStretching.{first-admitted}
 
 -- ---- deadlines
 
@@ -104,10 +106,12 @@ module _ {K V P S R : Type 0} where
 
   -- ---- a front that is clean
 
-  pub never-written : (s : State K V P S R) (now : ℕ) → s.settings.live ≡ None → s.cleared ≡ 0 → IsWrittenClean now s
-  never-written s now live clear = record {
+  pub never-written : (s : State K V P S R) (now : ℕ) → s.settings.live ≡ None → NoneIsCleared s → IsWrittenClean now s
+  never-written s now live none = record {
     live = λ x at held. ap (λ t. is_reached (end_of x.entry.written t) now) live;
-    clear = λ x at held. ap (λ n. nat_lt x.entry.step n) clear ∙ le-ltb x.entry.step 0 (omega arith);
+    clear = λ x at held.
+        let p = first-admitted s.records s.order x at in
+        le-ltb x.entry.step s.cleared (none x (ap (λ m. record_at s.records m) (record_at-number s.records p.0 x p.1) ∙ p.1) held);
   }
 
   pub written-clean : (s : State K V P S R) (now : ℕ) (r : Record K V) → slice_get s.order 0 ≡ Some r.number → record_at s.records r.number ≡ Some r → is_some r.counts ≡ true → why_written s.settings.live s.cleared now r ≡ None → IsWrittenClean now s

@@ -16,9 +16,10 @@ use Rattle.engine_reference.specs.State.{State, Answers}
 use Rattle.engine_reference.specs.Times.{tick_of}
 use Rattle.engine_reference.specs.Visible.{is_covered_by}
 use Rattle.engine_reference.proofs.SoundSteps.{left-is_sound, counted}
-use Rattle.engine_reference.proofs.run_laws.Fronting.{each-at}
+use Rattle.engine_reference.proofs.run_laws.Fronting.{each-at, there-before}
 use Rattle.engine_runs.specs.Fronts.{MayLeave, dies, cleared, excess, IsClean}
 use Rattle.engine_cells.specs.Stretches.{Stretch, StepsFor}
+use Rattle.engine_cells.specs.Swept.{NoneIsCleared}
 use Rattle.engine_runs.specs.Stretches.{EndsRun, KeepsRest}
 
 module _ {K V : Type 0} where
@@ -65,6 +66,14 @@ module _ {K V P S R : Type 0} where
 
   pub fewer-left : (why : RemovalCause) (s : State K V P S R) (r : Record K V) → record_at s.records r.number ≡ Some r → length (left why r.number s).records < length s.records
   fewer-left why s r there = subst (λ o. length (with_left why s o).records < length s.records) (sym there) (fewer r.number s.records r there)
+
+  -- no other held record is of a step before the clear
+  pub none-cleared_left : (why : RemovalCause) (n : ℕ) (s : State K V P S R) → ∥ IsSound s ∥₁ → NoneIsCleared s → NoneIsCleared (left why n s)
+  none-cleared_left why n s sound none = go (record_at s.records n)
+    where
+      go : (o : Option (Record K V)) → NoneIsCleared (with_left why s o)
+      go None = none
+      go (Some r) = λ x there held. ∥∥₁_elim sound (Prim.hlevel props) (λ k. none x (there-before r.number x.number s.records x k.records.numbered there) held)
 
   -- what may leave makes a step, whatever the predicates answer
   pub step-of : (answers : Answers K V P R) (s new : State K V P S R) (now : ℕ) (r : Record K V) (why : RemovalCause) → IsApplied s → record_at s.records r.number ≡ Some r → MayLeave s now r why → new ≡ left why r.number s → StepsFor answers now s new

@@ -8,6 +8,7 @@ use Rattle.engine_reference.specs.Records.{admitted_weight, settled_in}
 use Rattle.engine_reference.specs.Runs.{next_to_evict, FrontsAreClean}
 use Rattle.engine_reference.specs.State.{State}
 use Rattle.engine_reference.specs.Times.{end_of, is_reached, has_come}
+use Rattle.engine_cells.specs.Swept.{NoneIsCleared}
 
 module _ {K V : Type 0} where
   -- why a record has to leave by its last write: it is past its live time, or of a step before the clear
@@ -43,3 +44,7 @@ module _ {K V P S R : Type 0} where
   pub record IsClean (now : ℕ) (s : State K V P S R) : Type 0 where
     pub fronts : FrontsAreClean now s
     pub light : IsLight s
+
+  -- where no live time is set, so that no write list shows what is old, no held record is of a step before the clear
+  abbrev pub HidesNone : State K V P S R → Type 0
+  HidesNone s = s.settings.live ≡ None → NoneIsCleared s

@@ -1,11 +1,12 @@
-//! Predicates: removes what they cover, and then the predicates.
-ghost use Rattle.std.specs.Prelude.{◌≡◌, ◌+◌, ◌<◌, ℕ, [], length};
+//! Predicates and clears: removes what they cover, and then the predicates.
+ghost use Rattle.std.specs.Prelude.{◌≡◌, ◌+◌, ◌<◌, ℕ, false, [], length};
 ghost use Rattle.engine_cells.specs.Kept.{kept_at};
 ghost use Rattle.engine_cells.specs.Stretches.{Stretch, StepsFor};
 ghost use Rattle.engine_reference.specs.Runs.{IsApplied};
 ghost use Rattle.engine_reference.specs.Soundness.{IsSound};
 ghost use Rattle.engine_reference.specs.State.{Answers};
 ghost use Rattle.engine_runs.specs.Covered.{is_covered_as, IsScanned, NoneIsCovered, CoverNone};
+ghost use Rattle.engine_runs.specs.Fronts.{HidesNone};
 ghost use Rattle.engine_runs.specs.Stretches.{KeepsRest};
 
 use engine_reference::{RemovalCause, Rules};
@@ -117,5 +118,32 @@ pub fn end_predicates<K: Eq + Hash + Drop, V: Drop, S: BuildHasher, R: Rules<K, 
     if 0 < tables.predicates().len() {
         scan(tables);
         end_all(tables);
+    }
+}
+
+/// Whether held records may be of a step before the last clear, and no write list shows them.
+fn hides_cleared<K: Eq + Hash, V, S: BuildHasher, R: Rules<K, V>>(
+    tables: &Tables<K, V, S, R>,
+) -> bool
+    ensures { result ≡ false → HidesNone tables.now.state }
+{
+    tables.settings().live.is_none() && !tables.is_swept()
+}
+
+/// Removes all held records that a clear covers, in one walk over the places, where no write list shows them.
+pub fn end_cleared<K: Eq + Hash + Drop, V: Drop, S: BuildHasher, R: Rules<K, V>>(
+    tables: &mut Tables<K, V, S, R>,
+)
+    requires { IsApplied tables.old.state }
+    ensures stretch { (answers : Answers K V R.Predicate R) (now : ℕ)
+        → answers.covers ≡ R.answers.covers
+        → Stretch answers now tables.old.state tables.new.state }
+    ensures applied { IsApplied tables.new.state }
+    ensures rest { KeepsRest tables.old.state tables.new.state }
+    ensures hides { HidesNone tables.new.state }
+{
+    if hides_cleared(tables) {
+        scan(tables);
+        tables.note_swept();
     }
 }

@@ -1,10 +1,10 @@
 //! The fronts at which a run looks.
-ghost use Rattle.std.specs.Prelude.{◌≡◌, ℕ, [], true, None, IfSome, IfNone};
+ghost use Rattle.std.specs.Prelude.{◌≡◌, ℕ, [], true, false, None, is_some, IfSome, IfNone};
 ghost use Rattle.engine_cells.specs.Kept.{kept_at};
 ghost use Rattle.engine_reference.specs.Runs.{FrontsAreClean, IsTimerClean, IsUsedClean, IsWrittenClean, is_later_tick};
 ghost use Rattle.engine_reference.specs.Times.{end_of, is_reached, tick_of};
 ghost use Rattle.engine_reference.specs.declared.data.Record.{Record};
-ghost use Rattle.engine_runs.specs.Fronts.{why_written, why_used, MayLeave, IsLight, IsClean};
+ghost use Rattle.engine_runs.specs.Fronts.{why_written, why_used, MayLeave, IsLight, IsClean, HidesNone};
 
 use engine_cells::Cell;
 use engine_reference::{RemovalCause, Rules, Settings};
@@ -56,25 +56,27 @@ fn why_used<K, V>(found: &Cell<K, V>, settings: Settings, now: u64) -> Option<Re
     }
 }
 
-/// Whether no record has to leave by its last write, whenever that was: there is no live time, and there was no clear.
-fn keeps_written(settings: Settings, cleared: u64) -> bool
-    ensures { result ≡ true → (settings.live ≡ None) × (cleared ≡ 0) }
+/// Whether no live time is set, so that no write list is kept.
+fn lacks_write_list(settings: Settings) -> bool
+    ensures none { result ≡ true → settings.live ≡ None }
+    ensures some { result ≡ false → is_some settings.live ≡ true }
 {
-    settings.live.is_none() && cleared == 0
+    settings.live.is_none()
 }
 
-/// The front of the write list, where it has to leave.
+/// The front of the write list, where it has to leave. Where no live time is set none has to.
 fn written_leaving<K: Eq + Hash, V, S: BuildHasher, R: Rules<K, V>>(
     tables: &Tables<K, V, S, R>,
     now: u64,
 ) -> Option<(usize, RemovalCause)>
+    requires { HidesNone tables.now.state }
     ensures found { IfSome result (λ due. (r : Record K V) × (kept_at tables.now due.0 ≡ Some r)
         × MayLeave tables.now.state now r due.1) }
     ensures none { IfNone result (IsWrittenClean now tables.now.state) }
 {
     let settings = tables.settings();
     let cleared = tables.cleared();
-    if keeps_written(settings, cleared) {
+    if lacks_write_list(settings) {
         return None;
     }
     let place = tables.first_written()?;
@@ -173,6 +175,7 @@ pub fn next_leaving<K: Eq + Hash, V, S: BuildHasher, R: Rules<K, V>>(
     is_later: bool,
 ) -> Option<(usize, RemovalCause)>
     requires predicates { tables.now.state.predicates ≡ [] }
+    requires hides { HidesNone tables.now.state }
     requires later { is_later ≡ is_later_tick tables.now.state now }
     ensures found { IfSome result (λ due. (r : Record K V) × (kept_at tables.now due.0 ≡ Some r)
         × MayLeave tables.now.state now r due.1) }

@@ -5,10 +5,12 @@ ghost use Rattle.engine_reference.specs.Runs.{IsApplied};
 ghost use Rattle.engine_reference.specs.Soundness.{IsSound};
 ghost use Rattle.engine_reference.specs.State.{Answers};
 ghost use Rattle.engine_reference.specs.declared.data.Record.{Record};
-ghost use Rattle.engine_runs.specs.Fronts.{MayLeave, IsClean};
+ghost use Rattle.engine_runs.specs.Fronts.{MayLeave, IsClean, HidesNone};
 ghost use Rattle.engine_cells.specs.Stretches.{Stretch, StepsFor};
+ghost use Rattle.engine_cells.specs.Swept.{NoneIsCleared};
 ghost use Rattle.engine_runs.specs.Stretches.{EndsRun, KeepsRest};
 
+use crate::covered::end_cleared;
 use crate::fronts::{is_in_later_tick, next_leaving};
 use engine_reference::{RemovalCause, Rules};
 use engine_tables::Tables;
@@ -28,6 +30,8 @@ fn leave_for<K: Eq + Hash + Drop, V: Drop, S: BuildHasher, R: Rules<K, V>>(
     ensures applied { IsApplied tables.new.state }
     ensures rest { KeepsRest tables.old.state tables.new.state }
     ensures fewer { length tables.new.state.records < length tables.old.state.records }
+    ensures none { ∥ IsSound tables.old.state ∥₁ → NoneIsCleared tables.old.state
+        → NoneIsCleared tables.new.state }
 {
     tables.leave(place, cause);
 }
@@ -39,6 +43,8 @@ pub fn sweep<K: Eq + Hash + Drop, V: Drop, S: BuildHasher, R: Rules<K, V>>(
 )
     requires applied { IsApplied tables.old.state }
     requires predicates { tables.old.state.predicates ≡ [] }
+    requires sound { ∥ IsSound tables.old.state ∥₁ }
+    requires hides { HidesNone tables.old.state }
     ensures stretch { (answers : Answers K V R.Predicate R)
         → Stretch answers now tables.old.state tables.new.state }
     ensures applied { IsApplied tables.new.state }
@@ -51,7 +57,7 @@ pub fn sweep<K: Eq + Hash + Drop, V: Drop, S: BuildHasher, R: Rules<K, V>>(
     }
 }
 
-/// Ends a run that has nothing to apply and no predicate: removes what is due by the fronts, and notes the counts, and whether there was no
+/// Ends a run that has nothing to apply and no predicate: removes what a clear covers and what is due by the fronts, and notes the counts, and whether there was no
 /// memory for the sketch's table.
 pub fn settle<K: Eq + Hash + Drop, V: Drop, S: BuildHasher, R: Rules<K, V>>(
     tables: &mut Tables<K, V, S, R>,
@@ -61,10 +67,11 @@ pub fn settle<K: Eq + Hash + Drop, V: Drop, S: BuildHasher, R: Rules<K, V>>(
     requires applied { IsApplied tables.old.state }
     requires predicates { tables.old.state.predicates ≡ [] }
     requires sound { ∥ IsSound tables.old.state ∥₁ }
-    ensures runs { (answers : Answers K V R.Predicate R)
+    ensures runs { (answers : Answers K V R.Predicate R) → answers.covers ≡ R.answers.covers
         → EndsRun answers now tables.old.state tables.new.state }
     ensures refused { tables.new.state.table_refused ≡ table_refused }
 {
+    end_cleared(tables);
     sweep(tables, now);
     tables.finish_run(now, table_refused);
 }

@@ -9,7 +9,7 @@ ghost use Rattle.engine_reference.specs.Admission.{is_above};
 ghost use Rattle.engine_reference.specs.declared.data.Record.{Record};
 ghost use Rattle.engine_reference.specs.Visible.{told, is_covered};
 ghost use Rattle.engine_reference.specs.State.{Answers};
-ghost use Rattle.engine_cells.specs.Fitting.{HasPlaceFor, StepsOut, ComesLast};
+ghost use Rattle.engine_cells.specs.Swept.{NoneIsCleared};
 ghost use Rattle.engine_cells.specs.Noting.{read_of, write_of, number_written, AimsRight, AimsOnlyAt};
 ghost use Rattle.engine_reference.specs.Runs.{after_hit, after_read, after_removal, next_to_evict, is_due};
 ghost use Rattle.engine_reference.specs.Calls.{IsNew, without_room, without_notice, cleared_by, registered, sent, unsent_at, is_full};
@@ -22,8 +22,8 @@ ghost use Rattle.engine_tables.specs.Changing.{ChangesAt, GoesToBack, IsWrittenO
 ghost use Rattle.engine_cells.specs.Kept.{numbered_at, kept_at, StandsFirst, is_admitted_as, is_removed_as};
 
 use engine_cells::{
-    Cell, CellSlab, Keys, Noted, PlacedWrite, Tally, WaitingWrite, find_held, first_expired,
-    first_settled, grow, set_changed, take_if, time_all,
+    Cell, CellSlab, Keys, Noted, PlacedWrite, Tally, WaitingWrite, WriteOrder, find_held,
+    first_expired, first_settled, grow, put_last, set_changed, take_if, take_off, time_all,
 };
 use engine_pending::{Backlog, Expirations};
 use engine_reference::{
@@ -44,9 +44,9 @@ const SPARE: u64 = 16;
 #[derive(Drop)]
 pub struct Tables<K: Eq + Hash, V, S: BuildHasher, R: Rules<K, V>> {
     cells: CellSlab<Cell<K, V>>,
-    // The places of the admitted records, by their last uses and by their last writes.
+    // The places of the admitted records, by their last uses, and, where a live time is set, by their last writes.
     access: IndexQueue,
-    order: IndexQueue,
+    order: WriteOrder,
     tally: Tally,
     next_number: u64,
     keys: Keys,
@@ -54,10 +54,12 @@ pub struct Tables<K: Eq + Hash, V, S: BuildHasher, R: Rules<K, V>> {
     backlog: Backlog<K, V, Noted, PlacedWrite, S, R>,
     // For how many writes or predicates room was asked for. The backlog's room is for these, and for some to come.
     reserved: u64,
+    // No held record is of an earlier step.
+    since: u64,
 }
 
 impl<K: Eq + Hash, V, S: BuildHasher, R: Rules<K, V>> Model for Tables<K, V, S, R> {
-    ghost use Rattle.std.specs.Prelude.{ℕ, ◌≡◌, true, ◌+◌, ◌≤◌, ◌<◌, ◌^◌};
+    ghost use Rattle.std.specs.Prelude.{ℕ, ◌≡◌, true, is_some, ◌+◌, ◌≤◌, ◌<◌, ◌^◌};
     ghost use Rattle.slab.specs.Slab.{slab_len};
     ghost use Rattle.engine_pending.specs.Whole.{whole};
     ghost use Rattle.engine_cells.specs.Cells.{records_by_number, numbers_in, numbers_of, AreNumberedBelow, AreListed};
@@ -67,23 +69,24 @@ impl<K: Eq + Hash, V, S: BuildHasher, R: Rules<K, V>> Model for Tables<K, V, S, 
     ghost use Rattle.engine_cells.specs.Tallying.{IsTallied};
     ghost use Rattle.engine_cells.specs.Spotted.{AreSpotted, AreHashed};
     ghost use Rattle.engine_cells.specs.Awaiting.{AreAwaited};
+    ghost use Rattle.engine_cells.specs.Swept.{AreSince};
     ghost use Rattle.engine_reference.specs.Rules.Hashing.{hash_of_key};
 
     ghost Value = { Kept K V R.Predicate S R };
 
     ghost view = { λ c. record {
-      state = whole read_of write_of (records_by_number c.cells.slots) (numbers_in c.cells.slots c.access.indices) (numbers_in c.cells.slots c.order.indices) c.next_number (record c.backlog { reserved = c.reserved });
+      state = whole read_of write_of (records_by_number c.cells.slots) (numbers_in c.cells.slots c.access.indices) (numbers_in c.cells.slots c.order.places.indices) c.next_number (record c.backlog { reserved = c.reserved });
       numbers = numbers_of c.cells.slots;
     } };
 
-    // the queues have the places of the admitted records; each record has room in both and, where removals are told, for its notice, and what is reserved serves a write; what waits, and the hashes of keys, lead to their records; what expires has a timer
+    // the access queue and the write list have the places of the admitted records; each record has room in both and, where removals are told, for its notice, and what is reserved serves a write; what waits, and the hashes of keys, lead to their records; what expires has a timer; the write list is kept where a live time is set
     ghost invariant = { λ c. record {
       kept : AreNumberedBelow c.cells.slots c.next_number;
       used : AreListed c.cells.slots c.access.indices;
-      written : AreListed c.cells.slots c.order.indices;
+      written : AreListed c.cells.slots c.order.places.indices;
       cells : slab_len c.cells + c.backlog.reserved ≤ c.cells.capacity;
       access : HasPlacesFor c.cells c.tally.number c.backlog.reserved c.access;
-      order : HasPlacesFor c.cells c.tally.number c.backlog.reserved c.order;
+      order : HasPlacesFor c.cells c.tally.number c.backlog.reserved c.order.places;
       notices : c.backlog.settings.tells ≡ true → slab_len c.cells + c.backlog.reserved ≤ c.backlog.notice_room;
       tallied : IsTallied c.cells.slots c.tally;
       aimed : AreAllAimed c.cells.slots c.next_number c.backlog.reads c.backlog.writes c.backlog.unsent;
@@ -94,6 +97,8 @@ impl<K: Eq + Hash, V, S: BuildHasher, R: Rules<K, V>> Model for Tables<K, V, S, 
       hashed : AreHashed (hash_of_key S.Hasher.finish S.Hasher.write S.build_hasher K.hash_input c.backlog.hasher) c.cells.slots;
       keys : c.backlog.reserved ≤ c.keys.space;
       awaited : ∥ AreAwaited c.cells.slots c.expirations ∥₁;
+      live : is_some c.backlog.settings.live ≡ true → c.order.is_kept ≡ true;
+      since : AreSince c.since c.cells.slots;
     } };
 }
 
@@ -116,7 +121,7 @@ impl<K: Eq + Hash, V, S: BuildHasher, R: Rules<K, V>> Tables<K, V, S, R> {
         Ok(Tables {
             cells: CellSlab::new(alloc),
             access: IndexQueue::new(alloc),
-            order: IndexQueue::new(alloc),
+            order: WriteOrder::new(alloc, settings.live.is_some()),
             tally: Tally {
                 held: 0,
                 weight: 0,
@@ -127,6 +132,7 @@ impl<K: Eq + Hash, V, S: BuildHasher, R: Rules<K, V>> Tables<K, V, S, R> {
             expirations: Expirations::new(alloc),
             backlog,
             reserved: 0,
+            since: 0,
         })
     }
 
@@ -205,6 +211,21 @@ impl<K: Eq + Hash, V, S: BuildHasher, R: Rules<K, V>> Tables<K, V, S, R> {
         ensures { self.new ≡ record self.old { state = cleared_by step self.old.state } }
     {
         self.backlog.clear(step);
+    }
+
+    /// Returns whether it is known that no held record is of a step before the last clear.
+    pub fn is_swept(&self) -> bool
+        ensures { result ≡ true → NoneIsCleared self.now.state }
+    {
+        self.backlog.cleared() <= self.since
+    }
+
+    /// Notes that no held record is of a step before the last clear.
+    pub fn note_swept(&mut self)
+        requires { NoneIsCleared self.old.state }
+        ensures { self.new ≡ self.old }
+    {
+        self.since = self.backlog.cleared();
     }
 
     /// Registers a predicate, for which there is room.
@@ -335,6 +356,7 @@ impl<K: Eq + Hash, V, S: BuildHasher, R: Rules<K, V>> Tables<K, V, S, R> {
         let held = self.tally.held_with(0, added.weight());
         let write = WaitingWrite::put(&added, held);
         self.tally.held = held;
+        self.since = self.since.min(added.step());
         let hash = added.hash();
         let expires = added.expires();
         let place = self.cells.insert_reserved(added);
@@ -369,6 +391,7 @@ impl<K: Eq + Hash, V, S: BuildHasher, R: Rules<K, V>> Tables<K, V, S, R> {
         ensures { IsWrittenOver entry cause at_once place self.old self.new }
     {
         let _many = self.cells.capacity();
+        self.since = self.since.min(entry.step);
         let cell = &mut self.cells[place];
         let before = cell.expires();
         let expires = entry.expires;
@@ -512,7 +535,7 @@ impl<K: Eq + Hash, V, S: BuildHasher, R: Rules<K, V>> Tables<K, V, S, R> {
         self.tally = self.tally.without(&gone);
         let is_queued = gone.counts().is_some();
         take_off(&mut self.access, index, is_queued);
-        take_off(&mut self.order, index, is_queued);
+        self.order.take_off(index, is_queued);
         let was_held = gone.is_held();
         take_if(&mut self.keys, was_held, gone.hash(), place);
         set_changed(&mut self.expirations, place, gone.expires(), None);
@@ -550,8 +573,10 @@ impl<K: Eq + Hash, V, S: BuildHasher, R: Rules<K, V>> Tables<K, V, S, R> {
         let _ = &self.access;
     }
 
-    /// Returns the place of the record whose write was applied longest ago, or `None` if no record is on the write list.
+    /// Returns the place of the record whose write was applied longest ago, or `None` if no record is on the write list. The list is kept
+    /// only where a live time is set.
     pub fn first_written(&self) -> Option<usize>
+        requires { is_some self.now.state.settings.live ≡ true }
         ensures first { IfSome result (λ i. (r : Record K V) × (kept_at self.now i ≡ Some r)
             × (slice_get self.now.state.order 0 ≡ Some r.number) × (is_some r.counts ≡ true)) }
         ensures none { IfNone result (self.now.state.order ≡ []) }
@@ -907,31 +932,7 @@ impl<K: Eq + Hash, V, S: BuildHasher, R: Rules<K, V>> Tables<K, V, S, R> {
         self.tally = self.tally.counted(before, weight);
         cell.count(write, weight);
         put_last(&mut self.access, index, is_queued);
-        put_last(&mut self.order, index, is_queued);
-    }
-}
-
-/// Moves a place that is in a queue to the back, or puts another there, for which there is room.
-fn put_last(queue: &mut IndexQueue, index: u32, is_there: bool)
-    requires there { is_there ≡ has_index index queue.old.indices }
-    requires room { HasPlaceFor index queue.old }
-    ensures { ComesLast index queue.old queue.new }
-{
-    if is_there {
-        queue.move_to_back(index);
-    } else {
-        queue.push_back(index);
-    }
-}
-
-/// Takes a place out of a queue, if it is there.
-#[inline(always)]
-fn take_off(queue: &mut IndexQueue, index: u32, is_there: bool)
-    requires { is_there ≡ has_index index queue.old.indices }
-    ensures { StepsOut index queue.old queue.new }
-{
-    if is_there {
-        queue.remove(index);
+        self.order.put_last(index, is_queued);
     }
 }
 

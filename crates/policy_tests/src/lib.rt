@@ -8,6 +8,8 @@ mod records;
 #[cfg(test)]
 mod regions;
 #[cfg(test)]
+mod rows;
+#[cfg(test)]
 mod sketches;
 #[cfg(test)]
 mod texts;

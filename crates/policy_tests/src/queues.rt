@@ -1,8 +1,8 @@
 //! Queues. A push whose memory is refused is tried once more, and has changed nothing; so the tests
 //! pass with any one allocation refused.
+use crate::rows::{Stage, Table, first_wrong};
 use moka_policy::{CacheRegion, Deque, NodeId, PushError, ReserveError};
 use policy_queue::places_of;
-use rows::{Stage, Table, first_wrong};
 use std::alloc::Global;
 
 /// A queue, and the names of its nodes in the order of their pushes.

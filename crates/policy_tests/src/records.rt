@@ -1,8 +1,8 @@
 //! Moments, regions and entries. The tests pass with any one allocation refused.
+use crate::rows::{Stage, Table, first_wrong};
 use moka_policy::{
     CacheRegion, EntryInfo, HousekeeperConfig, Instant, KeyHash, MAX_NANOS, sketch_capacity,
 };
-use rows::{Stage, Table, first_wrong};
 use std::alloc::Global;
 use std::sync::Arc;
 use std::time::Duration;

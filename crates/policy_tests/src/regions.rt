@@ -1,9 +1,9 @@
 //! The queues of a cache's entries. What is refused for memory is tried once more, and has changed
 //! nothing; so the tests pass with any one allocation refused.
+use crate::rows::{Stage, Table, first_wrong};
 use moka_policy::{
     CacheRegion, Deques, EntryInfo, Instant, KeyHash, KeyHashDate, NodeId, PushError, Slot, Stale,
 };
-use rows::{Stage, Table, first_wrong};
 use slab::Slab;
 use std::alloc::Global;
 use std::sync::Arc;

@@ -1,7 +1,7 @@
 //! The frequency sketch. A table that is refused for lack of memory is requested once more, and the sketch
 //! is as it was; so the tests pass with any one allocation refused.
+use crate::rows::{Stage, Table, first_wrong};
 use moka_policy::FrequencySketch;
-use rows::{Stage, Table, first_wrong};
 use std::alloc::Global;
 
 /// What is done with a sketch.

@@ -1,9 +1,9 @@
 //! Timers. What is refused for memory is tried once more, and has changed nothing; so the tests
 //! pass with any one allocation refused.
+use crate::rows::{Stage, Table, first_wrong};
 use moka_policy::{
     Due, EntryInfo, Instant, KeyHash, NodeId, ScheduleError, Slot, TimerEvent, TimerWheel,
 };
-use rows::{Stage, Table, first_wrong};
 use slab::Slab;
 use std::alloc::Global;
 use std::sync::Arc;

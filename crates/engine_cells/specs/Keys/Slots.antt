@@ -28,9 +28,9 @@ entries_in [] = []
 entries_in (s ∷ rest) =
     if nat_lt s.place nowhere then (s.tag, s.place) ∷ entries_in rest else entries_in rest
 
--- how many places this many slots hold at most
+-- how many places this many slots hold at most: two thirds
 abbrev pub most_in : ℕ → ℕ
-most_in many = many / 2
+most_in many = many / 3 * 2
 
 -- the slot in which a tag is looked for first, of this many
 unfoldable pub home_of : ℕ → ℕ → ℕ

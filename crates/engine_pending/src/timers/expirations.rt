@@ -2,28 +2,31 @@
 ghost use Rattle.std.specs.Prelude.{◌≡◌, ◌<◌, ◌≤◌, ℕ, true, [], IfSome, IfNone, Some};
 ghost use Rattle.engine_pending.specs.Timers.Awaited.{IsAwaited, IsSet, KeepsOthers};
 
-use crate::timers::names::set;
-use policy_base::{Instant, MAX_NANOS, NodeId};
-use policy_queue::TimerWheel;
+use crate::timers::firsts::{first_at, place_with};
+use crate::timers::places::set;
+use policy_base::Instant;
 use std::alloc::Global;
 use std::marker::Model;
 
-/// When places expire: a timer for each place that does. If there was no memory for one, that is remembered.
+/// When places expire, 9 bytes a place from the first that does. If there was no memory for one, that is remembered.
 #[derive(Drop)]
 pub struct Expirations {
-    wheel: TimerWheel<()>,
-    names: Vec<Option<NodeId>>,
+    // When each place expires, in nanoseconds, or `NEVER`.
+    expiries: Vec<u64>,
+    // Of the places with others below them, the first expiry of each and all below it.
+    firsts: Vec<u64>,
     is_whole: bool,
 }
 
 impl Model for Expirations {
-    ghost use Rattle.engine_pending.specs.Timers.Awaited.{Awaited, IsOwned};
+    ghost use Rattle.engine_pending.specs.Timers.Awaited.{Awaited};
+    ghost use Rattle.engine_pending.specs.Timers.Firsts.{AreFirsts};
 
     ghost Value = { Awaited };
 
-    ghost view = { λ e. record { timers = e.wheel.timers; is_whole = e.is_whole } };
+    ghost view = { λ e. record { timers = e.expiries.items; is_whole = e.is_whole } };
 
-    ghost invariant = { λ e. IsOwned e.wheel e.names.items };
+    ghost invariant = { λ e. AreFirsts e.expiries.items e.firsts.items };
 }
 
 impl Expirations {
@@ -31,11 +34,9 @@ impl Expirations {
     pub fn new(alloc: Global) -> Self
         ensures { result ≡ record { timers = []; is_whole = true } }
     {
-        let mut wheel = TimerWheel::new(alloc, Instant::from_nanos(0));
-        wheel.enable();
         Expirations {
-            wheel,
-            names: Vec::new(alloc),
+            expiries: Vec::new(alloc),
+            firsts: Vec::new(alloc),
             is_whole: true,
         }
     }
@@ -47,7 +48,7 @@ impl Expirations {
         self.is_whole
     }
 
-    /// Forgets all timers, and that there was no memory for some. The caller then sets each place again.
+    /// Forgets that there was no memory for some timers. The caller then sets each place again.
     pub fn start_again(&mut self)
         ensures { self.new ≡ record self.old { is_whole = true } }
     {
@@ -60,30 +61,22 @@ impl Expirations {
         ensures set { IsSet self.new place time }
         ensures whole { self.new.is_whole ≡ true → self.old.is_whole ≡ true }
     {
-        let is_set = set(&mut self.wheel, &mut self.names, place, placed_for(time));
+        let is_set = set(&mut self.expiries, &mut self.firsts, place, time);
         self.is_whole = both(self.is_whole, is_set);
     }
 
     /// Returns the place that expires first, if its timer has come at `now`, or `None`.
+    #[tactic(auto, unfolding(crate::specs::Timers::Awaited::IsTimed))]
     pub fn first_due(&self, now: Instant) -> Option<usize>
         ensures found { IfSome result (λ place. IsAwaited self.now place now) }
         ensures none { IfNone result
             ((place time : ℕ) → IsAwaited self.now place time → now < time) }
     {
-        match self.wheel.first_due(now) {
-            Some(timer) => Some(timer.node.entry_info),
-            None => None,
+        let first = first_at(self.expiries.as_slice(), self.firsts.as_slice(), 0);
+        if now.as_nanos() < first {
+            return None;
         }
-    }
-}
-
-/// The time to which a timer is set for a moment in nanoseconds: no later.
-fn placed_for(time: Option<u64>) -> Option<Instant>
-    ensures { (t : ℕ) → time ≡ Some t → (placed : ℕ) × (result ≡ Some placed) × (placed ≤ t) }
-{
-    match time {
-        Some(nanos) => Some(Instant::from_nanos(nanos.min(MAX_NANOS))),
-        None => None,
+        Some(place_with(self.expiries.as_slice(), self.firsts.as_slice(), first))
     }
 }
 

@@ -1,4 +1,4 @@
-use Rattle.std.proofs.Common.{◌≡◌, ap, sym, ◌∙◌, ◌<◌, ◌-◌, ◌+◌, length, true≢false, arith}
+use Rattle.std.proofs.Common.{◌≡◌, ap, sym, ◌∙◌, ◌<◌, ◌-◌, length, true≢false, arith}
 use Rattle.engine_cells.specs.Keys.Slots.{nowhere, steps_on, steps_to}
 use Rattle.engine_cells.proofs.keys.Around.{reaches, ahead}
 use Rattle.engine_cells.proofs.keys.Tables.{taken-within, read}

@@ -4,10 +4,10 @@ use Rattle.engine_runs.specs.Fronts.{why_written}
 use Rattle.engine_runs.proofs.Fronting.{leaves-by_write, never-written, written-clean, kept-number}
 use Rattle.engine_runs.proofs.fronts.written_leaving.Goals as goal
 
-pub returns-then-keeps_written-clause-none : goal.returns-then-keeps_written-clause-none
-returns-then-keeps_written-clause-none g c =
-    let keeps = c.keeps_written.ensures c.if-keeps_written.true in
-    never-written c.args.tables.now.state c.args.now (ap (λ t. t.live) (sym c.settings-settings.ensures) ∙ keeps.0) (sym c.cleared-cleared.ensures ∙ keeps.1)
+pub returns-then-lacks_write_list-clause-none : goal.returns-then-lacks_write_list-clause-none
+returns-then-lacks_write_list-clause-none g c =
+    let live = ap (λ t. t.live) (sym c.settings-settings.ensures) ∙ c.lacks_write_list.ensures.none c.if-lacks_write_list.true in
+    never-written c.args.tables.now.state c.args.now live (c.requires live)
 
 pub returns-in-Some-why_written-clause-found : goal.returns-in-Some-why_written-clause-found
 returns-in-Some-why_written-clause-found g c =

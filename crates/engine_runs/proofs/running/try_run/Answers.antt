@@ -26,10 +26,10 @@ returns-clause-runs g c = λ answers covers.
     let s = c.args.tables.now.state in
     run-later answers c.args.now s _ _
     (stretch-join answers c.args.now s _ _ (stretch-join answers c.args.now s _ _ (stretch-join answers c.args.now s _ _ (stretch-join answers c.args.now s _ _ (stretch-same answers c.args.now s _ (ap (λ t. t.state) c.mend_timers.ensures)) (c.apply_reads.ensures.stretch answers c.args.now)) (c.apply_writes.ensures.stretch answers c.args.now)) (c.grow-grown.ensures.stretch answers c.args.now)) (c.end_predicates.ensures.stretch answers c.args.now covers))
-    (c.settle.ensures.runs answers)
+    (c.settle.ensures.runs answers covers)
     (c.settle.ensures.refused ∙ c.is_err.ensures.value ∙ c.grow-grown.ensures.refused
     ∙ ap (λ t. lacks_table t && (c.grow-grown.new.tables.state.sketch.words == 0)) (c.apply_writes.ensures.all ∙ c.apply_reads.ensures.all ∙ ap (λ t. all_applied t.state) c.mend_timers.ensures)
-    ∙ ap (λ (k : Sketch). lacks_table (all_applied s) && (k.words == 0)) (sym ((c.settle.ensures.runs answers).sketch ∙ c.end_predicates.ensures.sketch)))
+    ∙ ap (λ (k : Sketch). lacks_table (all_applied s) && (k.words == 0)) (sym ((c.settle.ensures.runs answers covers).sketch ∙ c.end_predicates.ensures.sketch)))
 
 pub returns-clause-counts : goal.returns-clause-counts
 returns-clause-counts g c = λ answers covers. run-counts answers c.args.now c.args.tables.now.state _ c.requires (returns-clause-runs g c answers covers)

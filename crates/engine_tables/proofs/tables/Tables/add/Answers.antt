@@ -15,6 +15,7 @@ use Rattle.engine_cells.proofs.Totals.{held-is, tally-fits, tally-came, places-i
 use Rattle.std.proofs.Math.Logic.{∥∥₁_map}
 use Rattle.engine_cells.proofs.Awaits.{awaited-gets}
 use Rattle.engine_pending.specs.Timers.Awaited.{IsSet}
+use Rattle.engine_cells.proofs.Sweeps.{since-gets, since-less}
 use Rattle.engine_tables.proofs.tables.Tables.add.Goals as goal
 
 pub invariant_of-self : goal.invariant_of-self
@@ -43,10 +44,10 @@ invariant_of-self g c =
     record {
       kept = kept;
       used = listed-inserted old new c.self.inside.access.indices i x c.self.invariant.used vacant gets c.requires.newcomer.uncounted;
-      written = listed-inserted old new c.self.inside.order.indices i x c.self.invariant.written vacant gets c.requires.newcomer.uncounted;
+      written = listed-inserted old new c.self.inside.order.places.indices i x c.self.invariant.written vacant gets c.requires.newcomer.uncounted;
       cells = rw made (omega arith);
       access = rw made (places c.self.inside.access c.self.invariant.access c.insert_reserved-place.ensures.len c.insert_reserved-place.ensures.slots number room);
-      order = rw made (places c.self.inside.order c.self.invariant.order c.insert_reserved-place.ensures.len c.insert_reserved-place.ensures.slots number room);
+      order = rw made (places c.self.inside.order.places c.self.invariant.order c.insert_reserved-place.ensures.len c.insert_reserved-place.ensures.slots number room);
       notices = rw made (λ tells. let had = c.self.invariant.notices tells in omega arith);
       tallied = tally-came old new i x c.self.inside.tally tally vacant gets c.requires.newcomer.held c.requires.newcomer.uncounted (rw c.weight.ensures at c.held_with-held.ensures.light) c.self.invariant.tallied is_tally;
       aimed = rw (made, c.put-write.ensures)
@@ -59,6 +60,8 @@ invariant_of-self g c =
       hashed = rw made (hashed-inserted g.K.PartialEq.eq old new c.self.inside.keys c.put.new.self i x g.met.K.Eq.laws vacant gets c.requires.newcomer.held comes alone c.self.invariant.spotted _ mine c.self.invariant.hashed);
       keys = rw made (omega (arith, space, had_keys));
       awaited = ∥∥₁_map c.self.invariant.awaited (λ k. awaited-gets old new c.self.inside.expirations c.set_changed.new.expirations i x gets c.set_changed.ensures.others c.set_changed.ensures.whole (λ held. subst (λ e. IsSet c.set_changed.new.expirations i e) c.expires-expires.ensures (c.set_changed.ensures.set tt)) k);
+      live = rw made c.self.invariant.live;
+      since = since-gets c.min-self-inside.result old new i x gets (λ held. omega (arith, c.min-self-inside.ensures, c.step.ensures)) (since-less c.min-self-inside.result c.self.inside.since old (omega (arith, c.min-self-inside.ensures)) c.self.invariant.since);
     }
 
 pub returns-clause-place : goal.returns-clause-place
@@ -98,7 +101,7 @@ returns-clause-state g c =
     rw (
       ← c.self.view_is,
       list-inserted old new c.self.inside.access.indices i x c.self.invariant.used vacant gets,
-      list-inserted old new c.self.inside.order.indices i x c.self.invariant.written vacant gets,
+      list-inserted old new c.self.inside.order.places.indices i x c.self.invariant.written vacant gets,
       records,
       c.add_write.ensures,
       made-unsent c.args.at_once c.self.inside.backlog.unsent c.self.inside.backlog.next_ticket (record { place = i; write = c.put-write.result }),

@@ -14,6 +14,7 @@ use Rattle.engine_cells.proofs.Spotting.{spotted-gets, hashed-gets}
 use Rattle.engine_cells.proofs.Totals.{tally-has, tally-fits, number-counted, tally-counted, has-place, places-counted}
 use Rattle.engine_cells.proofs.Views.{numbers_of-same, kept-in, count-set}
 use Rattle.engine_cells.proofs.Walking.{some-of}
+use Rattle.engine_cells.proofs.Sweeps.{since-gets}
 use Rattle.engine_tables.proofs.tables.Tables.count.Goals as goal
 
 pub index_of-index-requires : goal.index_of-index-requires
@@ -32,8 +33,8 @@ pub put_last-requires-2-clause-room : goal.put_last-requires-2-clause-room
 put_last-requires-2-clause-room g c =
     let cells = c.self.inside.cells in
     let x = some-of (cell_at cells.slots c.args.place) (sym (ap (λ o. is_some o) (ap (λ t. kept_at t c.args.place) (sym c.self.view_is) ∙ kept-in c.self.inside.cells.slots c.args.place c.self.invariant.kept.apart)) ∙ c.requires) in
-    subst (λ k. HasPlaceFor k c.self.inside.order) (sym c.index_of-index.ensures.is)
-    (has-place cells c.self.inside.tally c.self.inside.backlog.reserved c.args.place x.0 c.self.inside.order c.self.invariant.tallied c.self.invariant.written c.self.invariant.order x.1 (subst (λ k. k < length cells.slots) c.index_of-index.ensures.is c.index_of-index.ensures.within))
+    subst (λ k. HasPlaceFor k c.self.inside.order.places) (sym c.index_of-index.ensures.is)
+    (has-place cells c.self.inside.tally c.self.inside.backlog.reserved c.args.place x.0 c.self.inside.order.places c.self.invariant.tallied c.self.invariant.written c.self.invariant.order x.1 (subst (λ k. k < length cells.slots) c.index_of-index.ensures.is c.index_of-index.ensures.within))
 
 pub put_last-requires-clause-there : goal.put_last-requires-clause-there
 put_last-requires-clause-there g c =
@@ -43,7 +44,7 @@ put_last-requires-clause-there g c =
 pub put_last-requires-2-clause-there : goal.put_last-requires-2-clause-there
 put_last-requires-2-clause-there g c =
     c.is_some-is_queued.ensures ∙ ap (λ o. is_some o) c.counts-before.ensures
-    ∙ sym (ap (λ k. has_index k c.self.inside.order.indices) c.index_of-index.ensures.is ∙ c.self.invariant.written.listed c.args.place ∙ ap (λ o. has_counts o) c.index_mut-cell.ensures.value)
+    ∙ sym (ap (λ k. has_index k c.self.inside.order.places.indices) c.index_of-index.ensures.is ∙ c.self.invariant.written.listed c.args.place ∙ ap (λ o. has_counts o) c.index_mut-cell.ensures.value)
 
 pub invariant_of-self : goal.invariant_of-self
 invariant_of-self g c =
@@ -54,7 +55,7 @@ invariant_of-self g c =
     let new = slice_set cells c.args.place (Some d) in
     let gets = gets-set cells c.args.place y d there in
     let comes = subst (λ k. ComesLast k c.self.inside.access c.put_last.new.queue) c.index_of-index.ensures.is c.put_last.ensures in
-    let comes_too = subst (λ k. ComesLast k c.self.inside.order c.put_last-2.new.queue) c.index_of-index.ensures.is c.put_last-2.ensures in
+    let comes_too = subst (λ k. ComesLast k c.self.inside.order.places c.put_last-2.new.self.places) c.index_of-index.ensures.is c.put_last-2.ensures.last in
     let counted = rw c.counts-before.ensures at c.counted-self-inside.ensures.is in
     let number = number-counted y c.self.inside.tally c.counted-self-inside.result (ap (λ v. v.number) counted) in
     let many = count-set cells c.args.place y d there in
@@ -63,10 +64,10 @@ invariant_of-self g c =
     rw c.count.ensures (record {
       kept = numbered-set cells new c.self.inside.next_number c.args.place y d c.self.invariant.kept there gets refl;
       used = rw comes.indices (listed-moved cells new c.self.inside.access.indices c.args.place d c.self.invariant.used gets refl);
-      written = rw comes_too.indices (listed-moved cells new c.self.inside.order.indices c.args.place d c.self.invariant.written gets refl);
+      written = rw comes_too.indices (listed-moved cells new c.self.inside.order.places.indices c.args.place d c.self.invariant.written gets refl);
       cells = subst (λ n. n + c.self.inside.backlog.reserved ≤ c.self.inside.cells.capacity) (sym many) c.self.invariant.cells;
       access = places c.self.inside.access c.put_last.new.queue c.self.invariant.access c.self.invariant.used there refl many long number comes;
-      order = places c.self.inside.order c.put_last-2.new.queue c.self.invariant.order c.self.invariant.written there refl many long number comes_too;
+      order = places c.self.inside.order.places c.put_last-2.new.self.places c.self.invariant.order c.self.invariant.written there refl many long number comes_too;
       notices = λ tells. subst (λ n. n + c.self.inside.backlog.reserved ≤ c.self.inside.backlog.notice_room) (sym many) (c.self.invariant.notices tells);
       tallied = tally-counted cells c.args.place y c.args.write c.args.weight c.self.inside.tally c.counted-self-inside.result there c.counted-self-inside.ensures.light c.self.invariant.tallied counted;
       aimed = pointed-gets_same cells new c.self.inside.next_number c.args.place y d there gets refl c.self.invariant.aimed;
@@ -77,6 +78,8 @@ invariant_of-self g c =
       hashed = hashed-gets g.K.PartialEq.eq cells new c.self.inside.keys c.args.place y d there gets (record { held = refl; hash = refl; key = λ key. refl }) c.self.invariant.spotted _ refl c.self.invariant.hashed;
       keys = c.self.invariant.keys;
       awaited = ∥∥₁_map c.self.invariant.awaited (λ k. awaited-alike cells c.self.inside.expirations c.args.place y d there refl refl k);
+      live = λ live. c.put_last-2.ensures.kept ∙ c.self.invariant.live live;
+      since = since-gets c.self.inside.since cells new c.args.place d gets (λ held. c.self.invariant.since c.args.place y there held) c.self.invariant.since;
     })
 
 pub returns : goal.returns
@@ -94,10 +97,10 @@ returns g c =
         ← c.self.view_is,
         c.count.ensures,
         c.put_last.ensures.indices,
-        c.put_last-2.ensures.indices,
+        c.put_last-2.ensures.last.indices,
         c.index_of-index.ensures.is,
         list-moved cells new c.self.inside.access.indices c.args.place y d c.self.invariant.kept.apart c.self.invariant.used there gets refl,
-        list-moved cells new c.self.inside.order.indices c.args.place y d c.self.invariant.kept.apart c.self.invariant.written there gets refl,
+        list-moved cells new c.self.inside.order.places.indices c.args.place y d c.self.invariant.kept.apart c.self.invariant.written there gets refl,
         records-set cells c.args.place y d f (λ r. refl) c.self.invariant.kept.apart there refl,
         numbers_of-same cells c.args.place y d there refl,
       ) refl,

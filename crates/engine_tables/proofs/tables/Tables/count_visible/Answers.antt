@@ -13,5 +13,5 @@ returns g c = λ answers covers.
     let cells = inside.cells.slots in
     let eq = g.K.PartialEq.eq in
     subst (λ f. c.count_shown.result ≡ sum_over (shown_part f inside.backlog c.args.now) cells) (sym covers) c.count_shown.ensures
-    ∙ shown-is read_of write_of answers eq c.args.now inside.backlog cells (numbers_in cells inside.access.indices) (numbers_in cells inside.order.indices) inside.next_number g.met.K.Eq.laws.refl c.self.invariant.spotted.single
+    ∙ shown-is read_of write_of answers eq c.args.now inside.backlog cells (numbers_in cells inside.access.indices) (numbers_in cells inside.order.places.indices) inside.next_number g.met.K.Eq.laws.refl c.self.invariant.spotted.single
     ∙ ap (λ t. length (visible_keys answers eq t.state c.args.now)) c.self.view_is

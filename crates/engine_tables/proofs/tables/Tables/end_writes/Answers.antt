@@ -18,4 +18,6 @@ invariant_of-self g c = rw c.end_writes.ensures (record {
   hashed = c.self.invariant.hashed;
   keys = c.self.invariant.keys;
   awaited = c.self.invariant.awaited;
+  live = c.self.invariant.live;
+  since = c.self.invariant.since;
 })

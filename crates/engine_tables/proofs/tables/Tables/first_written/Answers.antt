@@ -15,8 +15,8 @@ returns-clause-first g c =
       ap (λ t. kept_at t i) (sym c.self.view_is) ∙ kept-in cells i c.self.invariant.kept.apart ∙ f.there,
       ap (λ t. slice_get t.state.order 0) (sym c.self.view_is) ∙ f.first,
       f.counts,
-    )) c.place_at.result (fronts cells c.self.inside.order.indices c.place_at.result c.self.invariant.written (c.place_at.ensures ∙ c.first.ensures))
+    )) c.place_at.result (fronts cells c.self.inside.order.places.indices c.place_at.result c.self.invariant.written (c.place_at.ensures ∙ c.first.ensures))
 
 pub returns-clause-none : goal.returns-clause-none
 returns-clause-none g c =
-    none-map _ _ (λ none. ap (λ t. t.state.order) (sym c.self.view_is) ∙ ap (numbers_in c.self.inside.cells.slots) none) c.place_at.result (no-front c.self.inside.order.indices c.place_at.result (c.place_at.ensures ∙ c.first.ensures))
+    none-map _ _ (λ none. ap (λ t. t.state.order) (sym c.self.view_is) ∙ ap (numbers_in c.self.inside.cells.slots) none) c.place_at.result (no-front c.self.inside.order.places.indices c.place_at.result (c.place_at.ensures ∙ c.first.ensures))

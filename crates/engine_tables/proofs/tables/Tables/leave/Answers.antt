@@ -11,6 +11,7 @@ use Rattle.engine_cells.proofs.Spotting.{unholds-lost, spotted-unholds, hashed-u
 use Rattle.engine_cells.proofs.Totals.{tally-has, tally-remove, number-left, places-left}
 use Rattle.std.proofs.Math.Logic.{∥∥₁_map}
 use Rattle.engine_cells.proofs.Awaits.{awaited-loses}
+use Rattle.engine_cells.proofs.Sweeps.{since-loses}
 use Rattle.engine_tables.proofs.tables.Tables.leave.Goals as goal
 
 pub index_of-index-requires : goal.index_of-index-requires
@@ -26,7 +27,7 @@ take_off-requires g c =
 pub take_off-requires-2 : goal.take_off-requires-2
 take_off-requires-2 g c =
     c.is_some-is_queued.ensures ∙ ap (λ o. is_some o) c.counts.ensures
-    ∙ sym (ap (λ k. has_index k c.self.inside.order.indices) c.index_of-index.ensures.is ∙ c.self.invariant.written.listed c.args.place ∙ ap (λ o. has_counts o) c.remove-gone.ensures.value)
+    ∙ sym (ap (λ k. has_index k c.self.inside.order.places.indices) c.index_of-index.ensures.is ∙ c.self.invariant.written.listed c.args.place ∙ ap (λ o. has_counts o) c.remove-gone.ensures.value)
 
 pub invariant_of-self : goal.invariant_of-self
 invariant_of-self g c =
@@ -40,7 +41,7 @@ invariant_of-self g c =
     let long = ap length c.remove-gone.ensures.slots ∙ length-set old c.args.place None in
     let places = places-left c.self.inside.cells c.remove-gone.new.self c.self.inside.tally.number c.without-self-inside.result.number c.self.inside.backlog.reserved c.args.place x in
     let went = subst (λ k. StepsOut k c.self.inside.access c.take_off.new.queue) c.index_of-index.ensures.is c.take_off.ensures in
-    let went_too = subst (λ k. StepsOut k c.self.inside.order c.take_off-2.new.queue) c.index_of-index.ensures.is c.take_off-2.ensures in
+    let went_too = subst (λ k. StepsOut k c.self.inside.order.places c.take_off-2.new.self.places) c.index_of-index.ensures.is c.take_off-2.ensures.out in
     let left = rw (c.is_held-was_held.ensures, c.hash.ensures) at c.take_if.ensures in
     let unholds = unholds-lost g.K.PartialEq.eq old new c.args.place loses in
     let space = space-unholds g.K.PartialEq.eq old new c.self.inside.keys c.take_if.new.keys c.args.place x there unholds left c.self.invariant.spotted in
@@ -50,10 +51,10 @@ invariant_of-self g c =
     record {
       kept = numbered-left old new c.self.inside.next_number c.args.place c.self.invariant.kept loses;
       used = rw went.indices (listed-left old new c.self.inside.access.indices c.args.place c.self.invariant.used loses);
-      written = rw went_too.indices (listed-left old new c.self.inside.order.indices c.args.place c.self.invariant.written loses);
+      written = rw went_too.indices (listed-left old new c.self.inside.order.places.indices c.args.place c.self.invariant.written loses);
       cells = rw told (omega arith);
       access = rw told (places c.self.inside.access c.take_off.new.queue c.self.invariant.access c.self.invariant.used there c.remove-gone.ensures.len long number went);
-      order = rw told (places c.self.inside.order c.take_off-2.new.queue c.self.invariant.order c.self.invariant.written there c.remove-gone.ensures.len long number went_too);
+      order = rw told (places c.self.inside.order.places c.take_off-2.new.self.places c.self.invariant.order c.self.invariant.written there c.remove-gone.ensures.len long number went_too);
       notices = rw told (λ tells. let had = c.self.invariant.notices tells in omega arith);
       tallied = tally-remove old new c.args.place x c.self.inside.tally c.without-self-inside.result there loses c.remove-gone.ensures.slots c.self.invariant.tallied c.without-self-inside.ensures;
       aimed = rw told (pointed-loses old new c.self.inside.next_number c.args.place loses c.self.invariant.aimed);
@@ -64,6 +65,8 @@ invariant_of-self g c =
       hashed = rw told (hashed-unholds g.K.PartialEq.eq old new c.self.inside.keys c.take_if.new.keys c.args.place x there unholds left c.self.invariant.spotted _ c.self.invariant.hashed);
       keys = rw told (omega (arith, space, c.self.invariant.keys));
       awaited = ∥∥₁_map c.self.invariant.awaited (λ k. awaited-loses old new c.self.inside.expirations c.set_changed.new.expirations c.args.place loses c.set_changed.ensures.others c.set_changed.ensures.whole k);
+      live = rw told (λ live. c.take_off-2.ensures.kept ∙ c.self.invariant.live live);
+      since = since-loses c.self.inside.since old new c.args.place loses c.self.invariant.since;
     }
 
 pub returns : goal.returns
@@ -80,10 +83,10 @@ returns g c =
         (rw c.is_held-was_held.ensures at c.tell.ensures) ∙ told-same (x.is_held && c.self.inside.backlog.settings.tells) c.args.cause x.entry c.into_notice.result c.self.inside.backlog c.into_notice.ensures,
         told-parts x.is_held c.self.inside.backlog.settings.tells c.args.cause x.entry c.self.inside.backlog.notices,
         c.take_off.ensures.indices,
-        c.take_off-2.ensures.indices,
+        c.take_off-2.ensures.out.indices,
         c.index_of-index.ensures.is,
         list-left old new c.self.inside.access.indices c.args.place x c.self.invariant.kept.apart c.self.invariant.used there loses,
-        list-left old new c.self.inside.order.indices c.args.place x c.self.invariant.kept.apart c.self.invariant.written there loses,
+        list-left old new c.self.inside.order.places.indices c.args.place x c.self.invariant.kept.apart c.self.invariant.written there loses,
         c.remove-gone.ensures.slots,
         records-remove old c.args.place x c.self.invariant.kept.apart there,
         numbers_of-removed old c.args.place,

@@ -1,4 +1,4 @@
-use Rattle.std.proofs.Common.{◌≡◌, ◌+◌, ◌-◌, ◌≤◌, ap, arith, rules}
+use Rattle.std.proofs.Common.{◌≡◌, ◌+◌, ◌-◌, ◌≤◌, ap, ◌∙◌, arith, rules}
 use Rattle.std.specs.Prelude.{count_by, is_some}
 use Rattle.slab.specs.Slab.{slab_len}
 use Rattle.engine_cells.proofs.Spotting.{spotted-roomier}
@@ -22,7 +22,7 @@ invariant_of-self g c =
       written = rw (slots, grown.order.same) c.self.invariant.written;
       cells = omega (arith, many, grown.cells.capacity, c.self.invariant.cells);
       access = places-gained c.self.inside.cells c.grow-has_grown.new.cells c.self.inside.tally.number c.self.inside.backlog.reserved c.self.inside.access c.grow-has_grown.new.access c.self.invariant.access slots grown.access;
-      order = places-gained c.self.inside.cells c.grow-has_grown.new.cells c.self.inside.tally.number c.self.inside.backlog.reserved c.self.inside.order c.grow-has_grown.new.order c.self.invariant.order slots grown.order;
+      order = places-gained c.self.inside.cells c.grow-has_grown.new.cells c.self.inside.tally.number c.self.inside.backlog.reserved c.self.inside.order.places c.grow-has_grown.new.order.places c.self.invariant.order slots grown.order;
       notices = λ tells. omega (arith, many, c.self.invariant.notices tells);
       tallied = rw slots c.self.invariant.tallied;
       aimed = rw slots c.self.invariant.aimed;
@@ -33,6 +33,8 @@ invariant_of-self g c =
       hashed = rw slots c.self.invariant.hashed;
       keys = omega (arith, grown.keys.space, c.self.invariant.keys);
       awaited = rw slots c.self.invariant.awaited;
+      live = λ live. grown.kept ∙ c.self.invariant.live live;
+      since = rw slots c.self.invariant.since;
     }
 
 pub invariant_of-self-in-Ok : goal.invariant_of-self-in-Ok
@@ -58,7 +60,7 @@ invariant_of-self-in-Ok g c =
       written = rw (slots, grown.order.same) c.self.invariant.written;
       cells = omega (arith, rooms.cells_fit, there);
       access = places-grown c.grow-has_grown.new.cells c.self.inside.tally.number _ _ _ c.grow-has_grown.new.access wait rooms.access_fits rooms.cells_fit rooms.places_fit rooms.access_reaches (omega (arith, there));
-      order = places-grown c.grow-has_grown.new.cells c.self.inside.tally.number _ _ _ c.grow-has_grown.new.order wait rooms.order_fits rooms.cells_fit rooms.places_fit rooms.order_reaches (omega (arith, there));
+      order = places-grown c.grow-has_grown.new.cells c.self.inside.tally.number _ _ _ c.grow-has_grown.new.order.places wait rooms.order_fits rooms.cells_fit rooms.places_fit rooms.order_reaches (omega (arith, there));
       notices = λ tells. omega (arith, enough tells, c.len-2.ensures);
       tallied = rw slots c.self.invariant.tallied;
       aimed = rw slots c.self.invariant.aimed;
@@ -69,6 +71,8 @@ invariant_of-self-in-Ok g c =
       hashed = rw slots c.self.invariant.hashed;
       keys = omega (arith, rooms.keys_fit, there);
       awaited = rw slots c.self.invariant.awaited;
+      live = λ live. grown.kept ∙ c.self.invariant.live live;
+      since = rw slots c.self.invariant.since;
     })
 
 pub invariant_of-self-in-Err : goal.invariant_of-self-in-Err
@@ -87,7 +91,7 @@ invariant_of-self-in-Err g c =
       written = rw (slots, grown.order.same) c.self.invariant.written;
       cells = omega (arith, rooms.cells_fit, there);
       access = places-grown c.grow-has_grown.new.cells c.self.inside.tally.number _ _ _ c.grow-has_grown.new.access wait rooms.access_fits rooms.cells_fit rooms.places_fit rooms.access_reaches (omega (arith, there));
-      order = places-grown c.grow-has_grown.new.cells c.self.inside.tally.number _ _ _ c.grow-has_grown.new.order wait rooms.order_fits rooms.cells_fit rooms.places_fit rooms.order_reaches (omega (arith, there));
+      order = places-grown c.grow-has_grown.new.cells c.self.inside.tally.number _ _ _ c.grow-has_grown.new.order.places wait rooms.order_fits rooms.cells_fit rooms.places_fit rooms.order_reaches (omega (arith, there));
       notices = λ tells. omega (arith, many, c.self.invariant.notices tells);
       tallied = rw slots c.self.invariant.tallied;
       aimed = rw slots c.self.invariant.aimed;
@@ -98,4 +102,6 @@ invariant_of-self-in-Err g c =
       hashed = rw slots c.self.invariant.hashed;
       keys = omega (arith, rooms.keys_fit, there);
       awaited = rw slots c.self.invariant.awaited;
+      live = λ live. grown.kept ∙ c.self.invariant.live live;
+      since = rw slots c.self.invariant.since;
     })

@@ -1,4 +1,4 @@
-use Rattle.std.proofs.Common.{◌≡◌, refl, ap, arith}
+use Rattle.std.proofs.Common.{◌∙◌, ◌≡◌, refl, ap, arith}
 use Rattle.std.specs.Prelude.{count_by, is_some}
 use Rattle.slab.specs.Slab.{slab_len}
 use Rattle.engine_cells.proofs.Spotting.{spotted-roomier}
@@ -17,7 +17,7 @@ invariant_of-self g c =
       written = rw (slots, grown.order.same) c.self.invariant.written;
       cells = omega (arith, many, grown.cells.capacity, c.self.invariant.cells);
       access = places-gained c.self.inside.cells c.grow.new.cells c.self.inside.tally.number c.self.inside.backlog.reserved c.self.inside.access c.grow.new.access c.self.invariant.access slots grown.access;
-      order = places-gained c.self.inside.cells c.grow.new.cells c.self.inside.tally.number c.self.inside.backlog.reserved c.self.inside.order c.grow.new.order c.self.invariant.order slots grown.order;
+      order = places-gained c.self.inside.cells c.grow.new.cells c.self.inside.tally.number c.self.inside.backlog.reserved c.self.inside.order.places c.grow.new.order.places c.self.invariant.order slots grown.order;
       notices = λ tells. omega (arith, many, c.self.invariant.notices tells);
       tallied = rw slots c.self.invariant.tallied;
       aimed = rw slots c.self.invariant.aimed;
@@ -28,6 +28,8 @@ invariant_of-self g c =
       hashed = rw slots c.self.invariant.hashed;
       keys = omega (arith, grown.keys.space, c.self.invariant.keys);
       awaited = rw slots c.self.invariant.awaited;
+      live = λ live. grown.kept ∙ c.self.invariant.live live;
+      since = rw slots c.self.invariant.since;
     }
 
 pub returns : goal.returns

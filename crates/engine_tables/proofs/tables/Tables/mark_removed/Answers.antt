@@ -14,6 +14,7 @@ use Rattle.engine_cells.specs.Noting.{write_of}
 use Rattle.std.proofs.lemmas.List.{length-map}
 use Rattle.std.proofs.Math.Logic.{∥∥₁_map}
 use Rattle.engine_cells.proofs.Awaits.{awaited-gets}
+use Rattle.engine_cells.proofs.Sweeps.{since-gets}
 use Rattle.engine_tables.proofs.tables.Tables.mark_removed.Goals as goal
 
 pub index_mut-cell-requires : goal.index_mut-cell-requires
@@ -46,10 +47,10 @@ invariant_of-self g c =
     rw c.mark_removed.ensures (record {
       kept = kept;
       used = listed-alike cells (slice_set cells c.args.place (Some d)) c.self.inside.access.indices h c.self.invariant.used;
-      written = listed-alike cells (slice_set cells c.args.place (Some d)) c.self.inside.order.indices h c.self.invariant.written;
+      written = listed-alike cells (slice_set cells c.args.place (Some d)) c.self.inside.order.places.indices h c.self.invariant.written;
       cells = rw made (omega arith);
       access = rw made (places c.self.inside.access c.self.invariant.access many long number refl (omega arith));
-      order = rw made (places c.self.inside.order c.self.invariant.order many long number refl (omega arith));
+      order = rw made (places c.self.inside.order.places c.self.invariant.order many long number refl (omega arith));
       notices = rw made (λ tells. let had = c.self.invariant.notices tells in omega arith);
       tallied = tally-unheld cells c.args.place x (x.writes + 1) c.self.inside.tally c.unheld-self-inside.result there c.self.invariant.tallied c.unheld-self-inside.ensures;
       aimed = rw (made, c.removed-write.ensures, c.number-number.ensures)
@@ -63,6 +64,8 @@ invariant_of-self g c =
       hashed = rw made (hashed-unholds g.K.PartialEq.eq cells (slice_set cells c.args.place (Some d)) c.self.inside.keys c.take_if.new.keys c.args.place x there unholds left c.self.invariant.spotted _ c.self.invariant.hashed);
       keys = rw made (omega (arith, space, c.self.invariant.keys));
       awaited = ∥∥₁_map c.self.invariant.awaited (λ k. awaited-gets cells (slice_set cells c.args.place (Some d)) c.self.inside.expirations c.set_changed.new.expirations c.args.place d (gets-set cells c.args.place x d there) c.set_changed.ensures.others c.set_changed.ensures.whole (λ held. absurd (true≢false (sym held))) k);
+      live = rw made c.self.invariant.live;
+      since = since-gets c.self.inside.since cells (slice_set cells c.args.place (Some d)) c.args.place d (gets-set cells c.args.place x d there) (λ held. absurd (true≢false (sym held))) c.self.invariant.since;
     })
 
 pub returns : goal.returns
@@ -80,7 +83,7 @@ returns g c =
         c.mark_removed.ensures,
         records-set cells c.args.place x d f (λ r. refl) c.self.invariant.kept.apart there refl,
         numbers-alike cells (slice_set cells c.args.place (Some d)) h c.self.inside.access.indices,
-        numbers-alike cells (slice_set cells c.args.place (Some d)) h c.self.inside.order.indices,
+        numbers-alike cells (slice_set cells c.args.place (Some d)) h c.self.inside.order.places.indices,
         numbers_of-set cells c.args.place x d there refl,
         c.add_write.ensures,
         c.removed-write.ensures,

@@ -1,4 +1,4 @@
-use Rattle.std.proofs.Common.{◌≡◌, refl, ap, arith, [], length}
+use Rattle.std.proofs.Common.{◌≡◌, refl, sym, ◌∙◌, ap, arith, [], length}
 use Rattle.std.specs.Prelude.{count_by, is_some}
 use Rattle.slab.specs.Slab.{slab_len}
 use Rattle.engine_cells.specs.Cells.{AreNumberedBelow, AreListed}
@@ -40,4 +40,6 @@ invariant_of-result g c =
       hashed = rw c.new-2.ensures (λ i c at held. absurd (cc));
       keys = omega (arith, reserved);
       awaited = rw c.new-2.ensures (∣ (λ i c at held. absurd (cc)) ∣₁);
+      live = λ live. c.new-4.ensures.kept ∙ c.is_some.ensures ∙ ap (λ t. is_some t.live) (sym u.settings_are) ∙ live;
+      since = rw c.new-2.ensures (λ i c at held. absurd (cc));
     }

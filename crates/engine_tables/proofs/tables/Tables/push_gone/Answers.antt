@@ -35,6 +35,8 @@ invariant_of-self g c =
       hashed = c.self.invariant.hashed;
       keys = c.self.invariant.keys;
       awaited = c.self.invariant.awaited;
+      live = c.self.invariant.live;
+      since = c.self.invariant.since;
     })
 
 pub returns : goal.returns

@@ -20,4 +20,6 @@ invariant_of-self g c = rw c.push_read.ensures (record {
   hashed = c.self.invariant.hashed;
   keys = c.self.invariant.keys;
   awaited = c.self.invariant.awaited;
+  live = c.self.invariant.live;
+  since = c.self.invariant.since;
 })

@@ -10,6 +10,7 @@ use Rattle.engine_cells.proofs.Counting.{gets-set}
 use Rattle.engine_cells.proofs.Totals.{tally-set, places-alike}
 use Rattle.std.proofs.Math.Logic.{∥∥₁_map}
 use Rattle.engine_cells.proofs.Awaits.{awaited-alike}
+use Rattle.engine_cells.proofs.Sweeps.{since-gets}
 use Rattle.engine_tables.proofs.tables.Tables.put_off.Goals as goal
 
 pub invariant_of-self : goal.invariant_of-self
@@ -26,10 +27,10 @@ invariant_of-self g c =
     rw c.apply.ensures (record {
       kept = numbered-alike cells new c.self.inside.next_number h c.self.invariant.kept;
       used = listed-alike cells new c.self.inside.access.indices h c.self.invariant.used;
-      written = listed-alike cells new c.self.inside.order.indices h c.self.invariant.written;
+      written = listed-alike cells new c.self.inside.order.places.indices h c.self.invariant.written;
       cells = subst (λ n. n + c.self.inside.backlog.reserved ≤ c.self.inside.cells.capacity) (sym many) c.self.invariant.cells;
       access = places c.self.inside.access c.self.invariant.access many long refl refl (omega arith);
-      order = places c.self.inside.order c.self.invariant.order many long refl refl (omega arith);
+      order = places c.self.inside.order.places c.self.invariant.order many long refl refl (omega arith);
       notices = λ tells. subst (λ n. n + c.self.inside.backlog.reserved ≤ c.self.inside.backlog.notice_room) (sym many) (c.self.invariant.notices tells);
       tallied = tally-set cells c.args.place x d c.self.inside.tally c.self.inside.tally there (record { entry = (c.self.invariant.tallied.light c.args.place x there).entry; counted = (c.self.invariant.tallied.light c.args.place x there).counted }) c.self.invariant.tallied refl refl refl;
       aimed = pointed-alike cells _ c.self.inside.next_number h c.self.invariant.aimed;
@@ -40,6 +41,8 @@ invariant_of-self g c =
       hashed = hashed-gets g.K.PartialEq.eq cells new c.self.inside.keys c.args.place x d there (gets-set cells c.args.place x d there) (record { held = refl; hash = refl; key = λ key. refl }) c.self.invariant.spotted _ refl c.self.invariant.hashed;
       keys = c.self.invariant.keys;
       awaited = ∥∥₁_map c.self.invariant.awaited (λ k. awaited-alike cells c.self.inside.expirations c.args.place x d there refl refl k);
+      live = c.self.invariant.live;
+      since = since-gets c.self.inside.since cells new c.args.place d (gets-set cells c.args.place x d there) (λ held. c.self.invariant.since c.args.place x there held) c.self.invariant.since;
     })
 
 pub returns : goal.returns
@@ -52,7 +55,7 @@ returns g c =
     let h = alike-set cells c.args.place x d there refl in (
       x,
       ap (λ t. kept_at t c.args.place) (sym c.self.view_is) ∙ kept-in cells c.args.place c.self.invariant.kept.apart ∙ there,
-      rw (← c.self.view_is, c.apply.ensures, records-set cells c.args.place x d f (λ r. refl) c.self.invariant.kept.apart there refl, numbers-alike cells (slice_set cells c.args.place (Some d)) h c.self.inside.access.indices, numbers-alike cells (slice_set cells c.args.place (Some d)) h c.self.inside.order.indices, numbers_of-set cells c.args.place x d there refl) refl,
+      rw (← c.self.view_is, c.apply.ensures, records-set cells c.args.place x d f (λ r. refl) c.self.invariant.kept.apart there refl, numbers-alike cells (slice_set cells c.args.place (Some d)) h c.self.inside.access.indices, numbers-alike cells (slice_set cells c.args.place (Some d)) h c.self.inside.order.places.indices, numbers_of-set cells c.args.place x d there refl) refl,
     )
 
 pub index_mut-cell-requires : goal.index_mut-cell-requires

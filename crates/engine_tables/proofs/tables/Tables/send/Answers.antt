@@ -38,6 +38,8 @@ invariant_of-self g c =
       hashed = c.self.invariant.hashed;
       keys = c.self.invariant.keys;
       awaited = c.self.invariant.awaited;
+      live = c.self.invariant.live;
+      since = c.self.invariant.since;
     }))
     (λ (e : c.send.new.self ≡ c.self.inside.backlog). rw e c.self.invariant)
     c.send.result c.send.ensures.ok c.send.ensures.err
@@ -46,26 +48,26 @@ pub returns-clause-ok : goal.returns-clause-ok
 returns-clause-ok g c =
     let cells = c.self.inside.cells.slots in
     rw (← c.self.view_is)
-    (ok-map _ _ (λ (e : c.send.new.self ≡ ticket_sent c.args.ticket c.self.inside.backlog). kept-sent (records_by_number cells) (numbers_in cells c.self.inside.access.indices) (numbers_in cells c.self.inside.order.indices) c.self.inside.next_number (numbers_of cells) c.args.ticket (record c.self.inside.backlog { reserved = c.self.inside.reserved }) (record c.send.new.self { reserved = c.self.inside.reserved }) (seen-sent c.args.ticket c.self.inside.reserved c.self.inside.backlog c.send.new.self e)) c.send.result c.send.ensures.ok)
+    (ok-map _ _ (λ (e : c.send.new.self ≡ ticket_sent c.args.ticket c.self.inside.backlog). kept-sent (records_by_number cells) (numbers_in cells c.self.inside.access.indices) (numbers_in cells c.self.inside.order.places.indices) c.self.inside.next_number (numbers_of cells) c.args.ticket (record c.self.inside.backlog { reserved = c.self.inside.reserved }) (record c.send.new.self { reserved = c.self.inside.reserved }) (seen-sent c.args.ticket c.self.inside.reserved c.self.inside.backlog c.send.new.self e)) c.send.result c.send.ensures.ok)
 
 pub returns-clause-known : goal.returns-clause-known
 returns-clause-known g c =
     let cells = c.self.inside.cells.slots in
-    let agrees = pending_agrees _ _ _ _ _ _ _ read_of write_of (records_by_number cells) (numbers_in cells c.self.inside.access.indices) (numbers_in cells c.self.inside.order.indices) c.self.inside.next_number in
+    let agrees = pending_agrees _ _ _ _ _ _ _ read_of write_of (records_by_number cells) (numbers_in cells c.self.inside.access.indices) (numbers_in cells c.self.inside.order.places.indices) c.self.inside.next_number in
     let seen = ap (λ t. unsent_at t.state.unsent c.args.ticket) (sym c.self.view_is) ∙ agrees.unsent c.args.ticket c.self.inside.backlog in
     ok-map _ _ (λ known. ap is_some seen ∙ some-mapped write_of _ ∙ known) c.send.result c.send.ensures.known
 
 pub returns-clause-unknown : goal.returns-clause-unknown
 returns-clause-unknown g c refused =
     let cells = c.self.inside.cells.slots in
-    let agrees = pending_agrees _ _ _ _ _ _ _ read_of write_of (records_by_number cells) (numbers_in cells c.self.inside.access.indices) (numbers_in cells c.self.inside.order.indices) c.self.inside.next_number in
+    let agrees = pending_agrees _ _ _ _ _ _ _ read_of write_of (records_by_number cells) (numbers_in cells c.self.inside.access.indices) (numbers_in cells c.self.inside.order.places.indices) c.self.inside.next_number in
     let seen = ap (λ t. unsent_at t.state.unsent c.args.ticket) (sym c.self.view_is) ∙ agrees.unsent c.args.ticket c.self.inside.backlog in
     seen ∙ ap (λ o. option_map write_of o) (c.send.ensures.unknown refused)
 
 pub returns-clause-full : goal.returns-clause-full
 returns-clause-full g c refused =
     let cells = c.self.inside.cells.slots in
-    let agrees = pending_agrees _ _ _ _ _ _ _ read_of write_of (records_by_number cells) (numbers_in cells c.self.inside.access.indices) (numbers_in cells c.self.inside.order.indices) c.self.inside.next_number in
+    let agrees = pending_agrees _ _ _ _ _ _ _ read_of write_of (records_by_number cells) (numbers_in cells c.self.inside.access.indices) (numbers_in cells c.self.inside.order.places.indices) c.self.inside.next_number in
     let seen = ap (λ t. unsent_at t.state.unsent c.args.ticket) (sym c.self.view_is) ∙ agrees.unsent c.args.ticket c.self.inside.backlog in
     let f = c.send.ensures.full refused in (
       ap is_some seen ∙ some-mapped write_of _ ∙ f.0,
@@ -75,5 +77,5 @@ returns-clause-full g c refused =
 pub returns-clause-room : goal.returns-clause-room
 returns-clause-room g c =
     let cells = c.self.inside.cells.slots in
-    let agrees = pending_agrees _ _ _ _ _ _ _ read_of write_of (records_by_number cells) (numbers_in cells c.self.inside.access.indices) (numbers_in cells c.self.inside.order.indices) c.self.inside.next_number in
+    let agrees = pending_agrees _ _ _ _ _ _ _ read_of write_of (records_by_number cells) (numbers_in cells c.self.inside.access.indices) (numbers_in cells c.self.inside.order.places.indices) c.self.inside.next_number in
     ok-map _ _ (λ room. ap (λ t. is_full t.state) (sym c.self.view_is) ∙ agrees.full c.self.inside.backlog ∙ lt-leb 128 (length c.self.inside.backlog.writes) room) c.send.result c.send.ensures.room

@@ -17,6 +17,7 @@ use Rattle.std.proofs.lemmas.List.{length-map}
 use Rattle.std.proofs.Math.Logic.{∥∥₁_map}
 use Rattle.engine_pending.specs.Timers.Awaited.{IsSet}
 use Rattle.engine_cells.proofs.Awaits.{awaited-gets}
+use Rattle.engine_cells.proofs.Sweeps.{since-gets, since-less}
 use Rattle.engine_tables.proofs.tables.Tables.write_over.Goals as goal
 
 pub index_mut-cell-requires : goal.index_mut-cell-requires
@@ -55,10 +56,10 @@ invariant_of-self g c =
     rw c.write_over-replaced.ensures.after (record {
       kept = kept;
       used = listed-alike cells (slice_set cells c.args.place (Some d)) c.self.inside.access.indices h c.self.invariant.used;
-      written = listed-alike cells (slice_set cells c.args.place (Some d)) c.self.inside.order.indices h c.self.invariant.written;
+      written = listed-alike cells (slice_set cells c.args.place (Some d)) c.self.inside.order.places.indices h c.self.invariant.written;
       cells = rw (made, told) (omega arith);
       access = rw (made, told) (places c.self.inside.access c.self.invariant.access many long number refl (omega arith));
-      order = rw (made, told) (places c.self.inside.order c.self.invariant.order many long number refl (omega arith));
+      order = rw (made, told) (places c.self.inside.order.places c.self.invariant.order many long number refl (omega arith));
       notices = rw (made, told) (λ tells. let had = c.self.invariant.notices tells in omega arith);
       tallied = tally-rewritten cells c.args.place x c.args.entry (x.writes + 1) c.self.inside.tally tally there (c.requires.fits x seen).0 c.held_with-held.ensures.light c.self.invariant.tallied is_tally;
       aimed = rw (made, told, c.put-write.ensures, c.write_over-replaced.ensures.after)
@@ -73,6 +74,8 @@ invariant_of-self g c =
           (hash-alike g.S.Hasher.Hasher.finish g.S.Hasher.Hasher.write g.S.BuildHasher.build_hasher g.K.Hash.hash_input c.self.inside.backlog.hasher x.entry.key d.entry.key (g.met.K.Hash.respects_eq x.entry.key d.entry.key alike)) c.self.invariant.hashed);
       keys = rw (made, told) (omega arith);
       awaited = ∥∥₁_map c.self.invariant.awaited (λ k. awaited-gets cells (slice_set cells c.args.place (Some d)) c.self.inside.expirations c.set_changed.new.expirations c.args.place d (gets-set cells c.args.place x d there) c.set_changed.ensures.others c.set_changed.ensures.whole (λ held. c.set_changed.ensures.set (subst (λ e. IsSet c.self.inside.expirations c.args.place e) (sym c.expires-before.ensures) (k c.args.place x there held))) k);
+      live = rw (made, told) c.self.invariant.live;
+      since = since-gets c.min-self-inside.result cells (slice_set cells c.args.place (Some d)) c.args.place d (gets-set cells c.args.place x d there) (λ held. omega (arith, c.min-self-inside.ensures)) (since-less c.min-self-inside.result c.self.inside.since cells (omega (arith, c.min-self-inside.ensures)) c.self.invariant.since);
     })
 
 pub returns : goal.returns
@@ -97,7 +100,7 @@ returns g c =
         c.write_over-replaced.ensures.after,
         records,
         numbers-alike cells (slice_set cells c.args.place (Some d)) h c.self.inside.access.indices,
-        numbers-alike cells (slice_set cells c.args.place (Some d)) h c.self.inside.order.indices,
+        numbers-alike cells (slice_set cells c.args.place (Some d)) h c.self.inside.order.places.indices,
         numbers_of-set cells c.args.place x d there refl,
         c.add_write.ensures,
         c.tell.ensures ∙ told-same c.self.inside.backlog.settings.tells c.args.cause c.index_mut-cell.result.now.entry c.write_over-replaced.result c.self.inside.backlog c.write_over-replaced.ensures.before,
