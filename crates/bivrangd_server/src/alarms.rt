@@ -1,6 +1,6 @@
 //! Messages on standard error.
 
-use crate::unix::unix_time;
+use bivrangd_metrics::unix_time;
 use cache_run::{Watched, send};
 use httpdate::HttpDate;
 use std::alloc::{AllocError, Global};

@@ -1,8 +1,10 @@
 //! The program over its words and streams.
 
 use crate::alarms::Alarms;
+use crate::fates::{Counted, Fates, Lamented};
 use crate::house::House;
-use crate::listening::{Opened, announce_all, clear_paths, open_all};
+use crate::listening::{Opened, announce_all, open_all, say_all};
+use crate::paths::Paths;
 use crate::starting::Told;
 use crate::stopping::read_orders;
 use crate::words::{Asked, take_words};
@@ -16,20 +18,39 @@ use std::convert::AsStr;
 use std::io::{ErrorKind, Read, Write};
 use std::net::{Net, TcpListener, TcpStream};
 use std::rt::Files;
+use std::sync::Arc;
 use std::{fs, thread};
 
 const USAGE: &[u8] = b"usage: bivrangd --config FILE | --check FILE | --version | --help\n";
 
-const VERSION: &[u8] = b"bivrangd 0.2.0\n";
+/// The program and its version.
+const VERSION: &str = "bivrangd 0.2.0\n";
+
+/// The version of the program.
+pub fn release() -> &'static str {
+    VERSION.trim_end().split(" ").nth(1).unwrap_or("")
+}
 
 /// The command that lists all that is wrong with a configuration file.
 const CHECK: &str = "bivrangd --check";
+
+/// The status of a server that was told to stop, and lost notices then.
+const LOSS: u8 = 3;
 
 /// So many reports may wait for the program. One that comes then waits for room, and no report needs memory.
 const REPORTS: usize = 64;
 
 /// The two ends of the channel by which threads report to the program.
 pub type Orders = (Sender<Told, Global>, Receiver<Told, Global>);
+
+/// What became of a server that was told to stop.
+#[derive(Clone, Copy, Debug, PartialEq, Eq, Drop)]
+pub struct Stopped {
+    /// Whether all loops ended as they were told, and each namespace has handed its service back.
+    pub is_whole: bool,
+    /// How many notices were not written, as nobody read them in time.
+    pub lost: u64,
+}
 
 /// The text of a fault.
 fn text_of(fault: Fault) -> &'static str {
@@ -44,7 +65,7 @@ fn text_of(fault: Fault) -> &'static str {
 }
 
 /// Runs the program with its arguments and streams. Returns its status: 0 after it was told to stop, 1 after an error, 2 if the
-/// arguments are wrong.
+/// arguments are wrong, 3 if it was told to stop and notices were lost then.
 pub fn bivrangd<S: AsStr, I, O: Write, E: Write + Drop, W: Shown, V: Shown, R>(
     rt: R,
     alloc: Global,
@@ -79,11 +100,11 @@ where
 fn status_of<E: Write + Drop, R: Machine>(
     alloc: Global,
     path: &str,
-    done: Result<(), Ending>,
+    done: Result<u8, Ending>,
     alarms: &mut Alarms<R, E>,
 ) -> u8 {
     match done {
-        Ok(()) => 0,
+        Ok(status) => status,
         Err(ending) => {
             alarms.say(text_of(ending.fault));
             if let Ok(line) = ending.cause.line(alloc, path, CHECK) {
@@ -101,7 +122,7 @@ fn say_cause<E: Write + Drop, R: Machine>(cause: &str, alarms: &mut Alarms<R, E>
     }
 }
 
-/// Does what the words ask for.
+/// Does what the words ask for, and returns the status.
 fn obey<I, O: Write, E: Write + Drop, W: Shown, V: Shown, R>(
     rt: R,
     alloc: Global,
@@ -110,16 +131,24 @@ fn obey<I, O: Write, E: Write + Drop, W: Shown, V: Shown, R>(
     writer: &mut Watched<O>,
     alarms: &mut Alarms<R, E>,
     shown: (W, V),
-) -> Result<(), Ending>
+) -> Result<u8, Ending>
 where
     I: Read + Drop + Send + 'static,
     R: Machine + Files + AllocGlobal,
 {
     match asked {
         Asked::Config(path) => serve_file(rt, alloc, path, input, shown, alarms),
-        Asked::Check(path) => check_file(&rt, alloc, path, writer),
-        Asked::Version => show(VERSION, writer),
-        Asked::Help => show(USAGE, writer),
+        Asked::Check(path) => done(check_file(&rt, alloc, path, writer)),
+        Asked::Version => done(show(VERSION.as_bytes(), writer)),
+        Asked::Help => done(show(USAGE, writer)),
+    }
+}
+
+/// The status of what has no other.
+fn done(outcome: Result<(), Ending>) -> Result<u8, Ending> {
+    match outcome {
+        Ok(()) => Ok(0),
+        Err(ending) => Err(ending),
     }
 }
 
@@ -165,7 +194,7 @@ fn show_each<O: Write>(
     Ok(())
 }
 
-/// Serves what the configuration file at a path says, until a line of the input says `stop`.
+/// Serves what the configuration file at a path says, until a line of the input says `stop`, and returns the status.
 fn serve_file<I, E: Write + Drop, W: Shown, V: Shown, R>(
     rt: R,
     alloc: Global,
@@ -173,7 +202,7 @@ fn serve_file<I, E: Write + Drop, W: Shown, V: Shown, R>(
     input: I,
     shown: (W, V),
     alarms: &mut Alarms<R, E>,
-) -> Result<(), Ending>
+) -> Result<u8, Ending>
 where
     I: Read + Drop + Send + 'static,
     R: Machine + Files + AllocGlobal,
@@ -181,10 +210,18 @@ where
     let text = fs::read_to_string(&rt, path).map_err(Ending::file)?;
     let orders = bounded(alloc, REPORTS)?;
     start_reading(rt, input, &orders.0)?;
-    if !serve_text(rt, alloc, text.as_str(), shown, alarms, orders)? {
+    match serve_text(rt, alloc, text.as_str(), shown, alarms, orders) {
+        Ok(stopped) => Ok(status_after(stopped, alarms)),
+        Err(ending) => Err(ending),
+    }
+}
+
+/// The status of a server that was told to stop.
+fn status_after<E: Write + Drop, R: Machine>(stopped: Stopped, alarms: &mut Alarms<R, E>) -> u8 {
+    if !stopped.is_whole {
         alarms.say("a service was not handed back");
     }
-    Ok(())
+    if stopped.lost > 0 { LOSS } else { 0 }
 }
 
 /// Starts to read orders from the input. Nobody waits for the thread that does: it may wait for a line when the program ends.
@@ -199,8 +236,8 @@ where
     Ok(())
 }
 
-/// Serves what the text of a configuration file says, until it is told to stop. Returns whether each namespace has handed its service back,
-/// or, as an error, why the server ends, if the file is not accepted or something fails.
+/// Serves what the text of a configuration file says, until it is told to stop. Returns what became of it, or, as an error, why the server
+/// ends, if the file is not accepted or something fails. The paths that it listened at are removed, unless another server listens there.
 pub fn serve_text<E: Write + Drop, W: Shown, V: Shown, R: Machine + Files>(
     rt: R,
     alloc: Global,
@@ -208,12 +245,51 @@ pub fn serve_text<E: Write + Drop, W: Shown, V: Shown, R: Machine + Files>(
     shown: (W, V),
     alarms: &mut Alarms<R, E>,
     orders: Orders,
-) -> Result<bool, Ending> {
-    let opened = open_all(&rt, alloc, text)?;
+) -> Result<Stopped, Ending> {
+    let mut paths = Paths::new(alloc);
+    let served = serve_at(rt, alloc, text, shown, alarms, orders, &mut paths);
+    paths.clear(&rt);
+    served
+}
+
+/// Serves what the text of a configuration file says, until it is told to stop. The paths that it listens at are added to others.
+fn serve_at<E: Write + Drop, W: Shown, V: Shown, R: Machine + Files>(
+    rt: R,
+    alloc: Global,
+    text: &str,
+    shown: (W, V),
+    alarms: &mut Alarms<R, E>,
+    orders: Orders,
+    paths: &mut Paths,
+) -> Result<Stopped, Ending> {
+    let opened = open_all(&rt, alloc, text, paths)?;
+    say_all(alloc, &opened, alarms)?;
+    let fates = Fates::new(alloc)?;
+    let scribe = scribe_for(alloc, &opened, shown, &fates)?;
+    serve_opened(rt, alloc, opened, (scribe, fates), orders, alarms)
+}
+
+/// A scribe that counts what becomes of notices.
+type CountingScribe<W, V> = Scribe<Counted<W>, Lamented<V>>;
+
+/// Announces where namespaces are served, and returns the writer of their notices.
+fn scribe_for<W: Shown, V: Shown>(
+    alloc: Global,
+    opened: &Opened,
+    shown: (W, V),
+    fates: &Arc<Fates>,
+) -> Result<CountingScribe<W, V>, Ending> {
     let (shown, troubles) = shown;
-    let lines = announce_all(alloc, &opened, shown)?;
-    let scribe = Scribe::new(alloc, b"bivrangd", lines, troubles)?;
-    serve_opened(rt, alloc, opened, scribe, orders, alarms)
+    let counted = Counted {
+        inner: shown,
+        fates: Arc::try_clone(fates)?,
+    };
+    let lamented = Lamented {
+        inner: troubles,
+        fates: Arc::try_clone(fates)?,
+    };
+    let lines = announce_all(alloc, opened, counted)?;
+    Ok(Scribe::new(alloc, b"bivrangd", lines, lamented)?)
 }
 
 /// Serves namespaces at their listeners, until it is told to stop.
@@ -221,10 +297,10 @@ fn serve_opened<E: Write + Drop, W: Shown, V: Shown, R: Machine + Files>(
     rt: R,
     alloc: Global,
     opened: Opened,
-    scribe: Scribe<W, V>,
+    writer: (CountingScribe<W, V>, Arc<Fates>),
     orders: Orders,
     alarms: &mut Alarms<R, E>,
-) -> Result<bool, Ending> {
+) -> Result<Stopped, Ending> {
     let Opened {
         spaces,
         hostings,
@@ -232,10 +308,22 @@ fn serve_opened<E: Write + Drop, W: Shown, V: Shown, R: Machine + Files>(
         metrics,
     } = opened;
     let (sender, told) = orders;
-    let house = House::new(rt, alloc, sender)?;
+    let (scribe, fates) = writer;
+    fates.begin();
+    let house = House::new(rt, alloc, sender, fates)?;
     let writing = Writing::start(rt, alloc, scribe, &house.outlet)?;
     let served = house.serve(spaces, &hostings, listeners, metrics, &told, alarms);
-    clear_paths(&rt, &hostings);
-    writing.end(&rt, &house.outlet);
-    served
+    let lost = writing.end(&rt, &house.outlet, &house.fates, &told);
+    say_lost(lost, alarms);
+    match served {
+        Ok(is_whole) => Ok(Stopped { is_whole, lost }),
+        Err(ending) => Err(ending),
+    }
+}
+
+/// Says how many notices were lost, if some were.
+fn say_lost<E: Write + Drop, R: Machine>(lost: u64, alarms: &mut Alarms<R, E>) {
+    if lost > 0 {
+        alarms.say(format_args!("{lost} notices lost: nobody read them in time"));
+    }
 }

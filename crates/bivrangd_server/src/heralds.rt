@@ -1,8 +1,9 @@
 //! What leaves a namespace.
 
+use crate::fates::Fates;
 use audit_model::{Note, Seq};
 use cache_loop::Departures;
-use cache_serve::Teller;
+use cache_service::Teller;
 use cached_config::Notices;
 use cached_server::Site;
 use std::alloc::{AllocError, Global};
@@ -20,6 +21,8 @@ pub struct Herald<R: Clock + Wait + Copy> {
     pub notices: Notices,
     /// What was counted.
     pub departures: Arc<Mutex<Departures>>,
+    /// What becomes of notices.
+    pub fates: Arc<Fates>,
 }
 
 impl<R: Clock + Wait + Copy> Herald<R> {
@@ -27,6 +30,7 @@ impl<R: Clock + Wait + Copy> Herald<R> {
     fn tell_keys<Q: Wait>(&mut self, rt: &Q, notes: &[Note]) {
         for note in notes {
             if let Ok(bare) = without_value(self.alloc, note) {
+                self.fates.tell(1);
                 self.site.tell(rt, &[bare]);
             }
         }
@@ -59,7 +63,10 @@ impl<R: Clock + Wait + Copy> Teller for Herald<R> {
     fn tell<Q: Wait>(&mut self, rt: &Q, notes: &[Note]) {
         count_all(&mut self.departures.lock(rt), notes);
         match self.notices {
-            Notices::Values => self.site.tell(rt, notes),
+            Notices::Values => {
+                self.fates.tell(notes.len());
+                self.site.tell(rt, notes);
+            }
             Notices::Keys => self.tell_keys(rt, notes),
             Notices::Off => {}
         }

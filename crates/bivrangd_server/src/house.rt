@@ -4,14 +4,15 @@ ghost use Rattle.cache_shared.specs.Recordings.{bare_spaces, no_journals};
 ghost use Rattle.cache_shared.specs.Events.{StandsAfter};
 
 use crate::alarms::Alarms;
-use crate::http::Metrics;
+use crate::daemon::release;
+use crate::fates::Fates;
 use crate::listening::Listener;
 use crate::memcache::{MemcacheSteward, make_items, spawn_items};
 use crate::serving::Report;
-use crate::sources::Source;
 use crate::starting::{Loops, Start, Told};
 use crate::watch::Watch;
 use audit_model::Config;
+use bivrangd_metrics::{Facts, Metrics, Resources, Source, unix_time};
 use cache_link::Room;
 use cache_loop::Rules;
 use cache_shared::{Seating, Shareable, SharedService};
@@ -22,10 +23,11 @@ use crossbeam_channel::{Receiver, Sender};
 use memcache_service as items;
 use memcache_service::Shelf;
 use mio::Waker;
+use mio::net::TcpListener;
 use std::alloc::{AllocError, Global};
 use std::io::Write;
 use std::marker::Brand;
-use std::net::TcpListener;
+use std::rt::Files;
 use std::sync::ledger::Blank;
 use std::sync::{Arc, Wait};
 use std::{thread, time};
@@ -39,6 +41,9 @@ const ACCEPTS: usize = 64;
 /// A millisecond has so many nanoseconds.
 const NANOS: u64 = 1_000_000;
 
+/// Where nothing else is said, an idle connection is closed after so many seconds, a day.
+const IDLE: u64 = 86_400;
+
 /// Where nothing else is said, a namespace has at most so many loops.
 const LOOPS: usize = 2;
 
@@ -51,12 +56,19 @@ pub struct House<R> {
     ending: Sender<Told, Global>,
     /// Where notes go.
     pub outlet: Arc<Outlet>,
+    /// What becomes of notices.
+    pub fates: Arc<Fates>,
 }
 
 impl<R: Machine> House<R> {
     /// Creates a house without namespaces, whose clock begins now. Returns an error if the clock cannot be read or there is not enough
     /// memory.
-    pub fn new(rt: R, alloc: Global, ending: Sender<Told, Global>) -> Result<House<R>, Ending> {
+    pub fn new(
+        rt: R,
+        alloc: Global,
+        ending: Sender<Told, Global>,
+        fates: Arc<Fates>,
+    ) -> Result<House<R>, Ending> {
         let begun = match time::Instant::now(&rt) {
             Ok(begun) => begun,
             Err(error) => return Err(Ending::machine("the clock", error)),
@@ -67,6 +79,7 @@ impl<R: Machine> House<R> {
             begun,
             ending,
             outlet: Outlet::new(alloc)?,
+            fates,
         })
     }
 
@@ -77,18 +90,21 @@ impl<R: Machine> House<R> {
         spaces: Vec<HostedNamespace>,
         hostings: &[Hosting],
         listeners: Vec<Listener>,
-        metrics: Option<(u16, TcpListener)>,
+        metrics: Option<TcpListener>,
         told: &Receiver<Told, Global>,
         alarms: &mut Alarms<R, E>,
-    ) -> Result<bool, Ending> {
+    ) -> Result<bool, Ending>
+    where
+        R: Files,
+    {
         let Loops {
             threads,
             stoppers,
             sources,
         } = self.start_all(spaces, hostings, listeners)?;
-        let sources = Arc::new(self.alloc, sources)?;
-        let page = self.start_metrics(metrics, &sources)?;
-        let waited = self.wait(told, &stoppers, &sources, alarms);
+        let facts = self.facts(sources)?;
+        let page = self.start_metrics(metrics, &facts)?;
+        let waited = self.wait(told, &stoppers, &facts, alarms);
         if let Some(page) = page {
             page.end(&self.rt);
         }
@@ -131,18 +147,30 @@ impl<R: Machine> House<R> {
         share.max(1).min(LOOPS)
     }
 
+    /// What the numbers of namespaces are read from.
+    fn facts(&self, sources: Vec<Source>) -> Result<Facts, AllocError> {
+        Ok(Facts {
+            version: release(),
+            sources: Arc::new(self.alloc, sources)?,
+            resources: Arc::new(self.alloc, Resources::new())?,
+            begun: unix_time(&self.rt).map(|since| since.as_secs()),
+        })
+    }
+
     /// Starts to serve the metrics, if there is a listener for them.
     fn start_metrics(
         &self,
-        metrics: Option<(u16, TcpListener)>,
-        sources: &Arc<Vec<Source>>,
-    ) -> Result<Option<Metrics>, AllocError> {
-        let Some((port, listener)) = metrics else {
+        metrics: Option<TcpListener>,
+        facts: &Facts,
+    ) -> Result<Option<Metrics>, Ending> {
+        let Some(listener) = metrics else {
             return Ok(None);
         };
-        let sources = Arc::try_clone(sources)?;
-        let page = Metrics::start(self.rt, self.alloc, port, listener, sources)?;
-        Ok(Some(page))
+        let facts = facts.share()?;
+        match Metrics::start(self.rt, self.alloc, listener, facts) {
+            Ok(page) => Ok(Some(page)),
+            Err(ending) => Err(ending),
+        }
     }
 
     /// Starts the loops of a namespace.
@@ -208,7 +236,7 @@ impl<R: Machine> House<R> {
             rules: Rules {
                 accepts: if loops == 1 { ACCEPTS } else { 1 },
                 connections: hosting.connections,
-                idle: hosting.idle,
+                idle: Some(hosting.idle.unwrap_or(IDLE)),
             },
             site: Site {
                 rt: self.rt,
@@ -243,6 +271,7 @@ impl<R: Machine> House<R> {
             notices: plan.notices,
             limit: plan.limit,
             departures: Arc::try_clone(&plan.source.departures)?,
+            fates: Arc::try_clone(&self.fates)?,
             report: Report {
                 ending: Sender::clone(&self.ending)?,
                 number: all.sources.len(),
@@ -259,10 +288,15 @@ impl<R: Machine> House<R> {
         &self,
         told: &Receiver<Told, Global>,
         stoppers: &[Waker],
-        sources: &[Source],
+        facts: &Facts,
         alarms: &mut Alarms<R, E>,
-    ) -> Result<(), Ending> {
+    ) -> Result<(), Ending>
+    where
+        R: Files,
+    {
+        let sources = facts.sources.as_slice();
         let mut watch = Watch::new(self.alloc, stoppers.len(), sources)?;
+        facts.resources.read(&self.rt);
         let second = time::Duration::from_secs(1);
         for _told in self.rt.forever() {
             if watch.running == 0 {
@@ -273,7 +307,7 @@ impl<R: Machine> House<R> {
                 Ok(Told::Failed(number)) => return Err(failed(self.alloc, sources, number)),
                 Ok(Told::Starved) => return Err(Ending::from(Fault::OutOfMemory)),
                 Ok(Told::Stop) => watch.stop(stoppers, alarms),
-                Err(_) => watch.count_second(&self.rt, stoppers, sources, alarms),
+                Err(_) => watch.count_second(&self.rt, stoppers, facts, alarms),
             }
         }
         unreachable!()

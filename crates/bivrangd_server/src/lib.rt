@@ -3,24 +3,21 @@
 
 mod alarms;
 mod daemon;
+mod fates;
 mod heralds;
-mod holdings;
 mod house;
-mod http;
 mod listening;
 mod memcache;
-mod metrics;
+mod paths;
 mod serving;
-mod sources;
 mod starting;
 mod stopping;
-mod unix;
 mod watch;
 mod words;
 mod writing;
 
 pub use alarms::Alarms;
-pub use daemon::{Orders, bivrangd, serve_text};
+pub use daemon::{Orders, Stopped, bivrangd, serve_text};
 pub use serving::{Handed, LineLoop, Report, SeatMissing, serve_namespace};
 pub use starting::Told;
 pub use words::{Asked, take_words};

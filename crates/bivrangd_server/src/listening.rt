@@ -1,13 +1,15 @@
 //! Where namespaces are served.
 
-use crate::http::listen_for_metrics;
+use crate::alarms::Alarms;
+use crate::paths::Paths;
+use bivrangd_metrics::listen_for_metrics;
 use cache_loop::Doorway;
 use cached_config::{Hosted, HostedNamespace, Hosting, read_hosted};
 use cached_server::{Cause, Ending, Fault, Lines, Machine, Shown};
 use mio::net::{TcpListener, UnixListener};
 use std::alloc::{AllocError, Global};
 use std::fs::{Files, Permissions};
-use std::io::ErrorKind;
+use std::io::{ErrorKind, Write};
 use std::net::{IpAddr, SocketAddr};
 use std::os::unix::fs::{FileTypeExt, PermissionsExt};
 use std::os::unix::net::{UnixListener as StdUnixListener, UnixStream};
@@ -45,20 +47,25 @@ pub struct Opened {
     pub hostings: Vec<Hosting>,
     /// The listener of each namespace, in the same order.
     pub listeners: Vec<Listener>,
-    /// The port of the metrics and their listener, or `None` if they are not served.
-    pub metrics: Option<(u16, net::TcpListener)>,
+    /// The listener of the metrics, or `None` if they are not served.
+    pub metrics: Option<TcpListener>,
 }
 
-/// Reads the text of a configuration file, and listens where it says. Returns an error if the file is not accepted, a listener cannot be
-/// had, or there is not enough memory.
-pub fn open_all<R: Machine + Files>(rt: &R, alloc: Global, text: &str) -> Result<Opened, Ending> {
+/// Reads the text of a configuration file, and listens where it says. The paths at which it made sockets are added to others, also if it
+/// fails. Returns an error if the file is not accepted, a listener cannot be had, or there is not enough memory.
+pub fn open_all<R: Machine + Files>(
+    rt: &R,
+    alloc: Global,
+    text: &str,
+    paths: &mut Paths,
+) -> Result<Opened, Ending> {
     let Hosted {
         spaces,
         hostings,
         metrics,
     } = read_hosted(alloc, text)?;
-    let listeners = listen_all(rt, alloc, &spaces, &hostings)?;
-    let metrics = listen_for(rt, metrics)?;
+    let listeners = listen_all(rt, alloc, &spaces, &hostings, paths)?;
+    let metrics = listen_for(rt, alloc, metrics)?;
     Ok(Opened {
         spaces,
         hostings,
@@ -73,10 +80,11 @@ fn listen_all<R: Machine + Files>(
     alloc: Global,
     spaces: &[HostedNamespace],
     hostings: &[Hosting],
+    paths: &mut Paths,
 ) -> Result<Vec<Listener>, Ending> {
     let mut listeners = Vec::with_capacity(alloc, spaces.len())?;
     for (space, hosting) in spaces.iter().zip(hostings) {
-        match listen(rt, space, hosting) {
+        match listen(rt, space, hosting, paths) {
             Ok(listener) => listeners.push(listener)?,
             Err(error) => return Err(refused(alloc, space, hosting, &error)),
         }
@@ -87,20 +95,28 @@ fn listen_all<R: Machine + Files>(
 /// A listener for the metrics, if there is a port for them.
 fn listen_for<R: Machine>(
     rt: &R,
+    alloc: Global,
     port: Option<u16>,
-) -> Result<Option<(u16, net::TcpListener)>, Ending> {
+) -> Result<Option<TcpListener>, Ending> {
     let Some(port) = port else {
         return Ok(None);
     };
     match listen_for_metrics(rt, port) {
-        Ok(listener) => Ok(Some((port, listener))),
-        Err(error) => Err(Ending::port(port, error)),
+        Ok(listener) => Ok(Some(listener)),
+        Err(error) => Err(unlistened(format!(in alloc;
+            "metrics {port}: cannot listen at 127.0.0.1: {error}\n"
+        ))),
     }
 }
 
 /// Why a namespace cannot be served.
 fn refused(alloc: Global, space: &HostedNamespace, hosting: &Hosting, error: &io::Error) -> Ending {
-    match refusal_line(alloc, space, hosting, error) {
+    unlistened(refusal_line(alloc, space, hosting, error))
+}
+
+/// Why the program ends that cannot listen, with the line that says so, unless there was no memory for that.
+fn unlistened(line: Result<String, AllocError>) -> Ending {
+    match line {
         Ok(line) => Ending {
             fault: Fault::CannotListen,
             cause: Cause::Said(line),
@@ -144,6 +160,20 @@ pub fn announce_all<W: Shown>(
     Ok(lines)
 }
 
+/// Says where the namespaces are served, as messages. Returns an error if there is not enough memory.
+pub fn say_all<E: Write + Drop, R: Machine>(
+    alloc: Global,
+    opened: &Opened,
+    alarms: &mut Alarms<R, E>,
+) -> Result<(), AllocError> {
+    for (space, hosting) in opened.spaces.iter().zip(&opened.hostings) {
+        let line = announcement(alloc, space, hosting)?;
+        let line = String::from_utf8_lossy(alloc, line.as_slice())?;
+        alarms.say(line.as_str().trim_end());
+    }
+    Ok(())
+}
+
 /// The line that says where a namespace is served.
 fn announcement(
     alloc: Global,
@@ -161,42 +191,45 @@ fn announcement(
     Ok(line)
 }
 
-/// Removes the paths at which namespaces were served.
-pub fn clear_paths<R: Files>(rt: &R, hostings: &[Hosting]) {
-    for hosting in hostings {
-        if hosting.bind.as_str().starts_with("/") {
-            let _ = fs::remove_file(rt, hosting.bind.as_str());
-        }
-    }
-}
-
 /// A listener for a namespace, which does not block.
 fn listen<R: Machine + Files>(
     rt: &R,
     space: &HostedNamespace,
     hosting: &Hosting,
+    paths: &mut Paths,
 ) -> io::Result<Listener> {
     match address_of(space, hosting) {
         Some(address) => {
             let listener = TcpListener::bind(rt, address)?;
             Ok(Listener::Tcp(net::TcpListener::from(listener)))
         }
-        None => listen_at(rt, hosting.bind.as_str(), hosting.mode),
+        None => listen_at(rt, hosting, paths),
     }
 }
 
-/// A listener at a path with these permissions, which does not block. A socket there at which nobody listens is removed.
-fn listen_at<R: Machine + Files>(rt: &R, path: &str, mode: u32) -> io::Result<Listener> {
-    let listener = match StdUnixListener::bind(rt, path) {
-        Err(error) if error.kind() == ErrorKind::AddrInUse && is_left(rt, path) => {
-            fs::remove_file(rt, path)?;
-            StdUnixListener::bind(rt, path)?
-        }
-        bound => bound?,
-    };
-    fs::set_permissions(rt, path, Permissions::from_mode(mode))?;
+/// A listener at a path, which does not block. The path is added to others.
+fn listen_at<R: Machine + Files>(
+    rt: &R,
+    hosting: &Hosting,
+    paths: &mut Paths,
+) -> io::Result<Listener> {
+    let path = hosting.bind.as_str();
+    let listener = bind_at(rt, path)?;
+    paths.add(rt, path)?;
+    fs::set_permissions(rt, path, Permissions::from_mode(hosting.mode))?;
     listener.set_nonblocking(true)?;
     Ok(Listener::Unix(listener))
+}
+
+/// A listener at a path. A socket there at which nobody listens is removed.
+fn bind_at<R: Machine + Files>(rt: &R, path: &str) -> io::Result<StdUnixListener> {
+    match StdUnixListener::bind(rt, path) {
+        Err(error) if error.kind() == ErrorKind::AddrInUse && is_left(rt, path) => {
+            fs::remove_file(rt, path)?;
+            StdUnixListener::bind(rt, path)
+        }
+        bound => bound,
+    }
 }
 
 /// Whether there is a socket at a path at which nobody listens.

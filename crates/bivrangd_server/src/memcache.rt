@@ -2,8 +2,8 @@
 ghost use Rattle.std.specs.Prelude.{◌<◌, ◌^◌};
 
 use crate::starting::{Gear, Told, told_by};
-use crate::unix::unix_time;
 use audit_model::EvictionPolicy as Policy;
+use bivrangd_metrics::unix_time;
 use cache_front::KeyedHasher;
 use cache_link::{Next, Patient, Room};
 use cache_loop::{Counts, Found, Steward, serve_by};
@@ -11,8 +11,7 @@ use cache_run::RunError;
 use cached_config::ItemLimits;
 use cached_server::{Ending, Fault, Machine};
 use crossbeam_channel::Sender;
-use memcache_cache::LentShelf;
-use memcache_link::MemcacheLink;
+use memcache_cache::{LentShelf, MemcacheLink};
 use memcache_service::{Service, Setup, Shelf, Tally};
 use moka::EvictionPolicy;
 use std::alloc::Global;

@@ -5,7 +5,7 @@ ghost use Rattle.cache_shared.specs.Events.{StandsAfter};
 use crate::heralds::Herald;
 use crate::starting::{Gear, Told, told_by};
 use cache_loop::{Here, LineSteward, serve_by};
-use cache_serve::Sitting;
+use cache_service::Sitting;
 use cache_shared::{Finished, Seat, Seating, Shareable, SharedService};
 use cached_server::{ListLoader, Machine, StartClock};
 use crossbeam_channel::Sender;

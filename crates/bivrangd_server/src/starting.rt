@@ -1,12 +1,13 @@
 //! The threads of a namespace.
 ghost use Rattle.std.specs.Prelude.{◌≡◌};
 
+use crate::fates::Fates;
 use crate::heralds::Herald;
 use crate::listening::Listener;
 use crate::serving::{LineLoop, Report, serve_namespace};
-use crate::sources::Source;
+use bivrangd_metrics::Source;
 use cache_loop::{Crew, Departures, Doorway, LOADED, Rules, STOP};
-use cache_serve::Devices;
+use cache_service::Devices;
 use cache_shared::{Seating, Shareable, SharedService};
 use cached_config::Notices;
 use cached_server::{Ending, Fault, Machine, Site};
@@ -173,6 +174,8 @@ pub struct Start<L: Seating, C: Shareable, R: Machine> {
     pub limit: Option<u64>,
     /// How many values have left, by cause.
     pub departures: Arc<Mutex<Departures>>,
+    /// What becomes of notices.
+    pub fates: Arc<Fates>,
     /// Where the loops report that they have ended.
     pub report: Report,
 }
@@ -207,6 +210,7 @@ where
             alloc: self.alloc,
             notices: self.notices,
             departures: Arc::try_clone(&self.departures)?,
+            fates: Arc::try_clone(&self.fates)?,
         };
         Ok(LineLoop {
             seat,

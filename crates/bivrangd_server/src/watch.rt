@@ -1,15 +1,30 @@
 //! What the program knows of its loops while it waits for them.
 
 use crate::alarms::Alarms;
-use crate::sources::Source;
+use bivrangd_metrics::{Facts, Source};
 use cache_loop::Counts;
 use cached_server::Machine;
 use mio::Waker;
 use std::alloc::{AllocError, Global};
 use std::io::Write;
+use std::rt::Files;
 
 /// After it was told to stop, the server waits about so many seconds for replies to be taken.
 const PATIENCE: u64 = 10;
+
+/// Of so many looks at the numbers, a minute's, one says that memory was lacking.
+const LOOKS: u64 = 6;
+
+/// What was seen of a namespace.
+#[derive(Drop)]
+struct Seen {
+    // what was counted when it was looked at last
+    counts: Counts,
+    // how many connections were known to have lacked memory when that was said last
+    lacking: u64,
+    // how often it was looked at since
+    looks: u64,
+}
 
 /// What the program knows of its loops while it waits for them.
 #[derive(Drop)]
@@ -19,8 +34,8 @@ pub struct Watch {
     is_stopping: bool,
     // seconds since it was told to stop last, or since it has looked at the numbers
     seconds: u64,
-    // what was counted in each namespace when it looked last
-    seen: Vec<Counts>,
+    // what was seen of each namespace
+    seen: Vec<Seen>,
 }
 
 impl Watch {
@@ -30,7 +45,7 @@ impl Watch {
             running,
             is_stopping: false,
             seconds: 0,
-            seen: sources.iter().map(|_| Counts::new()).collect(alloc)?,
+            seen: sources.iter().map(|_| Seen::new()).collect(alloc)?,
         })
     }
 
@@ -53,11 +68,11 @@ impl Watch {
     }
 
     /// Notes that about a second has passed.
-    pub fn count_second<E: Write + Drop, R: Machine>(
+    pub fn count_second<E: Write + Drop, R: Machine + Files>(
         &mut self,
         rt: &R,
         stoppers: &[Waker],
-        sources: &[Source],
+        facts: &Facts,
         alarms: &mut Alarms<R, E>,
     ) {
         self.seconds = self.seconds.saturating_add(1);
@@ -68,7 +83,8 @@ impl Watch {
         if self.is_stopping {
             self.stop(stoppers, alarms);
         } else {
-            self.look(rt, sources, alarms);
+            facts.resources.read(rt);
+            self.look(rt, &facts.sources, alarms);
         }
     }
 
@@ -81,9 +97,48 @@ impl Watch {
     ) {
         for (source, seen) in sources.iter().zip(self.seen.iter_mut()) {
             let counts = source.counts(rt);
-            say_unserved(source, seen, &counts, alarms);
-            *seen = counts;
+            say_unserved(source, &seen.counts, &counts, alarms);
+            let lacking = seen.note(counts);
+            say_lacking(source, lacking, alarms);
         }
+    }
+}
+
+impl Seen {
+    /// Nothing was seen, and nothing said.
+    fn new() -> Seen {
+        Seen {
+            counts: Counts::new(),
+            lacking: 0,
+            looks: LOOKS,
+        }
+    }
+
+    /// Notes what was counted. Returns how many connections lacked memory of which to say so now: once a minute at most.
+    fn note(&mut self, counts: Counts) -> u64 {
+        self.counts = counts;
+        self.looks = self.looks.saturating_add(1);
+        let lacking = counts.lacking.saturating_sub(self.lacking);
+        if lacking == 0 || self.looks < LOOKS {
+            return 0;
+        }
+        self.lacking = counts.lacking;
+        self.looks = 0;
+        lacking
+    }
+}
+
+/// Says how many connections of a namespace were closed for lack of memory, if some were.
+fn say_lacking<E: Write + Drop, R: Machine>(
+    source: &Source,
+    lacking: u64,
+    alarms: &mut Alarms<R, E>,
+) {
+    let (name, port) = (&source.name, source.port);
+    if lacking > 0 {
+        alarms.say(format_args!(
+            "{name} {port}: {lacking} connections were closed for lack of memory"
+        ));
     }
 }
 

@@ -13,7 +13,7 @@ use Rattle.audit_model.specs.declared.config.Config.{Config}
 use Rattle.audit_model.specs.declared.transcript.Note.{Note}
 use Rattle.cache_commands.specs.Right.{RepliesRightly}
 use Rattle.cache_commands.specs.Sums.{sum_of_bytes}
-use Rattle.cache_store.specs.Promises.{Frame, Done, no_deed, using, accepting, value_for}
+use Rattle.cache_commands.specs.Promises.{Frame, Done, no_deed, using, accepting, value_for}
 use Rattle.audit_model.specs.declared.command.Command.TheVariants as says
 use Rattle.cache_commands.proofs.Answering.{said, undropped}
 

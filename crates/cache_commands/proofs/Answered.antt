@@ -23,17 +23,17 @@ use Rattle.cache_commands.specs.Found.{found_text}
 use Rattle.cache_commands.specs.Order.{MovesOrder}
 use Rattle.cache_commands.specs.Right.{RepliesRightly, KeepsFrame, DoesRight, step_saying}
 use Rattle.cache_commands.specs.Sums.{sum_of_bytes}
-use Rattle.cache_store.specs.Handing.{AppendsNotes}
-use Rattle.cache_store.specs.Promises.{Done, Frame, accepting, covering, deleting, syncing, using, value_for, no_deed}
-use Rattle.cache_store.specs.Values.{AcceptsValue, AreLive, DrawsBy, Does, HandsBy, IsLive, IsSettled, IsSoundStore, LacksIdentifiers, Values, covers_prefix}
-use Rattle.cache_store.specs.Running.{is_timely}
+use Rattle.cache_commands.specs.Handing.{AppendsNotes}
+use Rattle.cache_commands.specs.Promises.{Done, Frame, accepting, covering, deleting, syncing, using, value_for, no_deed}
+use Rattle.cache_commands.specs.Values.{AcceptsValue, AreLive, DrawsBy, Does, HandsBy, IsLive, IsSettled, IsSoundStore, LacksIdentifiers, Values, covers_prefix}
+use Rattle.cache_commands.specs.Running.{is_timely}
 use Rattle.audit_model.specs.declared.command.Command.TheVariants as says
 use Rattle.audit_model.specs.declared.event.Outcome.TheVariants as came
 use Rattle.cache_commands.proofs.Adding.{answers-add, answers-add-error, answers-add-off, sum-found}
 use Rattle.cache_commands.proofs.Answering.{found-load, stores-nothing, stores-off, stores-value, answers-get, answers-refused, none_succeeded, said, answers-set, answers-sync, keys-written, no-found, undropped, yes-found}
 use Rattle.cache_commands.proofs.Ordering.{moves-add, moves-del, moves-drop, moves-fault, moves-get, moves-has, moves-keys, moves-off, moves-quit, moves-set, moves-sync}
 use Rattle.cache_commands.proofs.Drawn.{draws-alone, draws-kept, draws-none, draws-registers}
-use Rattle.cache_store.proofs.Few.{few}
+use Rattle.cache_commands.proofs.Few.{few}
 
 -- ---- what each call leaves
 

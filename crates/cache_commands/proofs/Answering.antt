@@ -16,10 +16,10 @@ use Rattle.audit_model.specs.View.{Candidate}
 use Rattle.audit_model.specs.declared.config.Config.{Config}
 use Rattle.audit_model.specs.declared.event.Outcome.{Outcome}
 use Rattle.audit_model.specs.declared.transcript.Note.{Note}
-use Rattle.cache_store.proofs.Keys.{same_from_equal}
-pub use Rattle.cache_store.proofs.Keys.{same-refl}
-use Rattle.cache_store.specs.Handing.{AppendsNotes}
-use Rattle.cache_store.specs.Promises.{Frame, no_deed, accepting, syncing, value_for, Done, using}
+use Rattle.cache_commands.proofs.SameKeys.{same_from_equal}
+pub use Rattle.cache_commands.proofs.SameKeys.{same-refl}
+use Rattle.cache_commands.specs.Handing.{AppendsNotes}
+use Rattle.cache_commands.specs.Promises.{Frame, no_deed, accepting, syncing, value_for, Done, using}
 use Rattle.cache_commands.specs.Loading.{SaysRightly, Stores, Waits}
 use Rattle.cache_commands.specs.Right.{RepliesRightly}
 use Rattle.audit_model.specs.declared.command.Command.TheVariants as says

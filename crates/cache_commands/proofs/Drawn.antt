@@ -4,7 +4,7 @@ use Rattle.std.proofs.lemmas.Bool.{lt-ltb, or_left}
 use Rattle.audit_model.specs.Bytewise.{same}
 use Rattle.cache_commands.specs.Drawing.{DrawsForParts}
 use Rattle.rand_core.specs.Stream.{Stream}
-use Rattle.cache_store.specs.Identifiers.{Registers, DrawsAlone, Register, KeepsIdentifiers, identifier_after}
+use Rattle.cache_commands.specs.Identifiers.{Registers, DrawsAlone, Register, KeepsIdentifiers, identifier_after}
 
 or-and : (a b c : Bool) → b ≡ true → (a || c) ≡ true → (a || (b && c)) ≡ true
 or-and a b c e h = ap (λ t. a || (t && c)) e ∙ h

@@ -1,3 +1,10 @@
+pub mod Few
+pub mod SameKeys
+pub mod Held
+pub mod Weights
+pub mod Steps
+pub mod Live
+pub mod LiveKeys
 pub mod Answering
 pub mod Adding
 pub mod Drawn

@@ -11,7 +11,7 @@ use Rattle.cache_commands.specs.Order.{Order, Settled, Used, Unknown, AgreesWith
 use Rattle.audit_model.specs.Recency.{recency_after, keys_without}
 use Rattle.audit_model.specs.declared.command.Command.{Command}
 use Rattle.audit_model.specs.declared.command.Command.TheVariants as says
-use Rattle.cache_store.specs.Recency.{IsPlainLru, KeepsRecency, put_first, used_first}
+use Rattle.cache_commands.specs.Recency.{IsPlainLru, KeepsRecency, put_first, used_first}
 
 abbrev Recency : Type 1
 Recency = Bool → List (List ℕ) → Type 0

@@ -11,11 +11,11 @@ use Rattle.audit_model.specs.Steps.{action_by}
 use Rattle.audit_model.specs.declared.config.Config.{Config}
 use Rattle.audit_model.specs.declared.event.Outcome.{Outcome}
 use Rattle.audit_model.specs.declared.transcript.Accepted.{Accepted}
-use Rattle.cache_store.specs.Identifiers.{AreUsedUp, KeepsIdentifiers}
-use Rattle.cache_store.specs.Values.{Values}
+use Rattle.cache_commands.specs.Identifiers.{AreUsedUp, KeepsIdentifiers}
+use Rattle.cache_commands.specs.Values.{Values}
 use Rattle.audit_model.specs.declared.command.Command.TheVariants as says
-use Rattle.cache_store.specs.Handing.{AppendsNotes}
-use Rattle.cache_store.specs.Running.{is_timely}
+use Rattle.cache_commands.specs.Handing.{AppendsNotes}
+use Rattle.cache_commands.specs.Running.{is_timely}
 use Rattle.cache_commands.specs.Drawing.{DrawsForParts}
 use Rattle.cache_commands.specs.Loading.{Stores}
 use Rattle.cache_commands.specs.Order.{MovesOrder}

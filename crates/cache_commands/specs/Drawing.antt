@@ -1,7 +1,7 @@
 -- The identifiers that a step draws and registers.
 use Rattle.std.specs.Prelude.{◌≡◌, ℕ, ◌&&◌, ◌||◌, nat_lt, List, IsTrue}
 use Rattle.audit_model.specs.Bytewise.{same}
-use Rattle.cache_store.specs.Identifiers.{Register, stream_left, identifier_after}
+use Rattle.cache_commands.specs.Identifiers.{Register, stream_left, identifier_after}
 use Rattle.rand_core.specs.Stream.{Stream}
 
 -- this many identifiers are drawn, and each part registers one of them at most

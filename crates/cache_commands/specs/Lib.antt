@@ -1,3 +1,11 @@
+pub mod Promises
+pub mod Handing
+pub mod Running
+pub mod Recency
+pub mod Identifiers
+pub mod Values
+pub mod Held
+pub mod Among
 pub mod Loads
 pub mod Drawing
 pub mod Loading

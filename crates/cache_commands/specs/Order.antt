@@ -5,7 +5,7 @@ use Rattle.audit_model.specs.declared.config.Config.{Config}
 use Rattle.audit_model.specs.Recency.{recency_after}
 use Rattle.audit_model.specs.declared.command.Command.{Command}
 use Rattle.audit_model.specs.declared.command.Command.TheVariants as says
-use Rattle.cache_store.specs.Recency.{IsPlainLru}
+use Rattle.cache_commands.specs.Recency.{IsPlainLru}
 
 -- What is known of the keys held: exactly these, since the last line was a `SYNC`, or none ran yet; exactly these once a `SYNC` runs next;
 -- or nothing.

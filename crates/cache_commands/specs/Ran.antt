@@ -3,7 +3,7 @@ use Rattle.std.specs.Prelude.{◌≡◌, ℕ, Bool, true, false, List, None, Ok}
 use Rattle.audit_lines.specs.Request.{IsOwn}
 use Rattle.audit_model.specs.Grammar.{Reading}
 use Rattle.audit_model.specs.declared.config.Config.{Config}
-use Rattle.cache_store.specs.Values.{IsLive, Values}
+use Rattle.cache_commands.specs.Values.{IsLive, Values}
 use Rattle.audit_model.specs.declared.command.Command.TheVariants as says
 use Rattle.audit_lines.specs.declared.request.Request.{Request}
 use Rattle.audit_lines.specs.declared.request.Request.TheVariants.{Set, Get, Has, Load, Del, Add, Clear, DropIf, Keys, Sync, Quit, Fault}

@@ -9,7 +9,7 @@ use Rattle.audit_model.specs.declared.transcript.Accepted.{Accepted}
 use Rattle.audit_model.specs.declared.transcript.Note.{Note}
 use Rattle.audit_model.specs.declared.transcript.Step.{Step}
 use Rattle.audit_model.specs.Changes.{left_held, all_held_after}
-use Rattle.cache_store.specs.Promises.{Frame}
+use Rattle.cache_commands.specs.Promises.{Frame}
 
 -- a step with a reply, of this connection and line
 abbrev pub step_saying : ℕ → List ℕ → List ℕ → Option Accepted → List Note → Step

@@ -2,12 +2,12 @@
 ghost use Rattle.std.specs.Prelude.{◌≡◌, ◌≤◌, ◌+◌, ◌++◌, ℕ, OnOk, OnErr, None, Ok, codes, decimal, vec_len, vec_capacity};
 ghost use Rattle.audit_model.specs.declared.command.Command.TheVariants as says;
 ghost use Rattle.cache_commands.specs.Answered.{IsAnswered};
-ghost use Rattle.cache_store.specs.Values.{IsMoment};
+ghost use Rattle.cache_commands.specs.Values.{IsMoment};
 
 use crate::commands::{SHORT, write_short};
+use crate::store::Store;
 use crate::writing::write_line;
 use audit_model::Key;
-use cache_store::Store;
 use itoa::Buffer;
 use std::alloc::AllocError;
 

@@ -6,11 +6,12 @@ ghost use Rattle.audit_model.specs.Replies.{fault_text};
 ghost use Rattle.audit_model.specs.declared.command.Command.TheVariants as says;
 ghost use Rattle.cache_commands.specs.Answered.{IsAnswered, IsTakable};
 ghost use Rattle.cache_commands.specs.Found.{found_text};
-ghost use Rattle.cache_store.specs.Values.{IsMoment, IsSpent};
+ghost use Rattle.cache_commands.specs.Values.{IsMoment, IsSpent};
 
+use crate::error::StoreError;
+use crate::store::{Counts, Store};
 use crate::writing::{write, write_line};
 use audit_model::{Accepted, Key, LineError};
-use cache_store::{Counts, Store, StoreError};
 use itoa::Buffer;
 use std::alloc::AllocError;
 

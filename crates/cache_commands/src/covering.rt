@@ -3,11 +3,12 @@ ghost use Rattle.std.specs.Prelude.{◌≡◌, OnOk, OnErr, None, Ok};
 ghost use Rattle.std.specs.Result.{IsErrOf};
 ghost use Rattle.audit_model.specs.declared.command.Command.TheVariants as says;
 ghost use Rattle.cache_commands.specs.Answered.{IsAnswered};
-ghost use Rattle.cache_store.specs.Values.{IsMoment, IsSpent};
+ghost use Rattle.cache_commands.specs.Values.{IsMoment, IsSpent};
 
 use crate::commands::SHORT;
+use crate::error::StoreError;
+use crate::store::Store;
 use crate::writing::write;
-use cache_store::{Store, StoreError};
 
 /// Runs a `CLEAR`, and appends its reply to `output`. Returns `OutOfMemory` if there is not enough memory, and `UsedUp` if a 64-bit number
 /// is used up; then nothing has changed.

@@ -5,11 +5,11 @@ ghost use Rattle.audit_lines.specs.Request.{said};
 ghost use Rattle.audit_model.specs.Belongs.{refusal_of_outcome};
 ghost use Rattle.cache_commands.specs.Answered.{IsStored};
 ghost use Rattle.cache_commands.specs.Ran.{FitsStore, RunsRequest, rests};
-ghost use Rattle.cache_store.specs.Handing.{TakesFirstNote};
-ghost use Rattle.cache_store.specs.Values.{GivesNote, IsMoment, IsSoundStore, IsSpent};
+ghost use Rattle.cache_commands.specs.Handing.{TakesFirstNote};
+ghost use Rattle.cache_commands.specs.Values.{GivesNote, IsMoment, IsSoundStore, IsSpent};
 
+use crate::store::Store;
 use audit_model::{Key, Note};
-use cache_store::Store;
 use std::alloc::{AllocError, Global};
 use std::marker::Model;
 

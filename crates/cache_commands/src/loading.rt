@@ -6,13 +6,14 @@ ghost use Rattle.audit_model.specs.Replies.{outcome_text};
 ghost use Rattle.audit_model.specs.declared.command.Command.TheVariants as says;
 ghost use Rattle.cache_commands.specs.Answered.{IsAnswered, IsStored};
 ghost use Rattle.cache_commands.specs.Found.{found_text};
-ghost use Rattle.cache_store.specs.Values.{IsLive, IsMoment, IsSpent};
+ghost use Rattle.cache_commands.specs.Values.{IsLive, IsMoment, IsSpent};
 
 use crate::commands::{accepts, write_value};
+use crate::error::StoreError;
 use crate::keyed::Keyed;
+use crate::store::Store;
 use crate::writing::{write, write_line};
 use audit_model::{Accepted, Key, Outcome};
-use cache_store::{Store, StoreError};
 use std::alloc::AllocError;
 
 /// Runs a `LOAD` if it finds a live value, which is a use of the value: appends its reply to `output`, and returns true. If it finds none,

@@ -4,17 +4,18 @@ ghost use Rattle.std.specs.Option.{option_map_or};
 ghost use Rattle.std.specs.Result.{IsErrOf};
 ghost use Rattle.audit_lines.specs.Request.{said};
 ghost use Rattle.cache_commands.specs.Ran.{RunsRequest, FitsStore, rests};
-ghost use Rattle.cache_store.specs.Values.{IsMoment, IsSpent};
+ghost use Rattle.cache_commands.specs.Values.{IsMoment, IsSpent};
 
 use crate::asking::{has, keys, quit};
 use crate::commands::{del, fault, get, set, sync};
 use crate::covering::{clear, drop_prefix};
+use crate::error::StoreError;
 use crate::keyed::Keyed;
 use crate::loading::load;
+use crate::store::Store;
 use crate::sums::add;
 use audit_lines::Request;
 use audit_model::Accepted;
-use cache_store::{Store, StoreError};
 
 /// What a line did besides its reply.
 #[derive(Clone, Copy, Drop)]

@@ -6,13 +6,14 @@ ghost use Rattle.audit_model.specs.declared.command.Command.TheVariants as says;
 ghost use Rattle.audit_lines.specs.Request.{IsOwn};
 ghost use Rattle.cache_commands.specs.Sums.{sum_of_bytes};
 ghost use Rattle.cache_commands.specs.Answered.{IsAnswered};
-ghost use Rattle.cache_store.specs.Values.{AcceptsValue, IsMoment, IsSpent};
+ghost use Rattle.cache_commands.specs.Values.{AcceptsValue, IsMoment, IsSpent};
 
 use crate::commands::{SHORT, accepts, write_short};
+use crate::error::StoreError;
+use crate::store::Store;
 use crate::writing::write_line;
 use audit_lines::number;
 use audit_model::{Accepted, Key};
-use cache_store::{Store, StoreError};
 use itoa::Buffer;
 
 /// Runs an `ADD`, appends its reply to `output`, and returns the part that took the sum, or `None` at capacity 0 and if there is no sum.

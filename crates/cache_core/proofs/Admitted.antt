@@ -15,8 +15,8 @@ use Rattle.audit_model.specs.declared.input.ServiceError.{ServiceError}
 use Rattle.audit_model.specs.declared.transcript.Accepted.{Accepted}
 use Rattle.audit_model.specs.declared.transcript.Note.{Note}
 use Rattle.audit_laws.proofs.waiting.Records.{settled-tidy}
-use Rattle.cache_store.specs.Promises.{Frame}
-use Rattle.cache_store.specs.Values.{GivesNote, Values}
+use Rattle.cache_commands.specs.Promises.{Frame}
+use Rattle.cache_commands.specs.Values.{GivesNote, Values}
 use Rattle.cache_commands.specs.Loads.Pending.{load_numbered, loads_pending, sent_of}
 use Rattle.cache_commands.specs.declared.loads.loads.Loads.{Loads}
 use Rattle.cache_lines.specs.Tape.Taped.{Taped, started, IsAtRest, between_records}

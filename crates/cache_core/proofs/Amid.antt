@@ -10,8 +10,8 @@ use Rattle.audit_model.specs.Steps.{Task, RunAgain, RunLines}
 use Rattle.audit_model.specs.declared.config.Config.{Config}
 use Rattle.audit_model.specs.declared.transcript.Step.{Step}
 use Rattle.audit_laws.specs.Waiting.Tidy.{times_in}
-use Rattle.cache_store.specs.Promises.{Frame}
-use Rattle.cache_store.specs.Values.{Values, IsSoundStore}
+use Rattle.cache_commands.specs.Promises.{Frame}
+use Rattle.cache_commands.specs.Values.{Values, IsSoundStore}
 use Rattle.cache_commands.proofs.Taking.{taken-same}
 use Rattle.cache_commands.specs.Loads.Pending.{SameTaken}
 use Rattle.cache_commands.specs.Right.{KeepsFrame}

@@ -39,9 +39,9 @@ use Rattle.cache_lines.specs.Making.{Making, making_of}
 use Rattle.cache_lines.specs.Tape.Taped.{IsAtRest, Taped, finishes}
 use Rattle.cache_lines.specs.Waiting.{UnderWay, under_way}
 use Rattle.cache_lines.specs.declared.base.Base.{Base}
-use Rattle.cache_store.specs.Promises.{Frame}
-use Rattle.cache_store.specs.Running.{is_bounded}
-use Rattle.cache_store.specs.Values.{IsSoundStore, Values}
+use Rattle.cache_commands.specs.Promises.{Frame}
+use Rattle.cache_commands.specs.Running.{is_bounded}
+use Rattle.cache_commands.specs.Values.{IsSoundStore, Values}
 use Rattle.audit_model.specs.Situation as model
 use Rattle.audit_model.specs.declared.event.Outcome.TheVariants as came
 use Rattle.cache_core.proofs.Sending.{sends-behind}

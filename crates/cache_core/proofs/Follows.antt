@@ -17,9 +17,9 @@ use Rattle.audit_model.specs.declared.transcript.Record.{Record}
 use Rattle.audit_model.specs.declared.transcript.Step.{Step}
 use Rattle.audit_laws.specs.Leading.{is_parted}
 use Rattle.audit_laws.specs.Placing.{placed_steps_in}
-use Rattle.cache_store.specs.Promises.{Frame}
-use Rattle.cache_store.specs.Running.{is_bounded}
-use Rattle.cache_store.specs.Values.{IsSoundStore, Values}
+use Rattle.cache_commands.specs.Promises.{Frame}
+use Rattle.cache_commands.specs.Running.{is_bounded}
+use Rattle.cache_commands.specs.Values.{IsSoundStore, Values}
 use Rattle.cache_commands.proofs.Taking.{taken-on}
 use Rattle.cache_commands.specs.Loads.Pending.{SameTaken}
 use Rattle.cache_commands.specs.Loads.Standings.{holds_line, waits_for_load}

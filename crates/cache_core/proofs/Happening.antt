@@ -34,9 +34,9 @@ use Rattle.cache_lines.specs.Making.{making_of}
 use Rattle.cache_lines.specs.Tape.Taped.{IsAtRest, Taped, finishes, started, with_entry}
 use Rattle.cache_lines.specs.Waiting.{UnderWay, under_way}
 use Rattle.cache_lines.specs.declared.base.Base.{Base}
-use Rattle.cache_store.specs.Promises.{Frame}
-use Rattle.cache_store.specs.Running.{is_bounded}
-use Rattle.cache_store.specs.Values.{IsSoundStore, Values}
+use Rattle.cache_commands.specs.Promises.{Frame}
+use Rattle.cache_commands.specs.Running.{is_bounded}
+use Rattle.cache_commands.specs.Values.{IsSoundStore, Values}
 use Rattle.audit_model.specs.Situation as model
 use Rattle.audit_model.specs.declared.input.ServiceError.TheVariants as error
 use Rattle.cache_commands.specs.declared.loads.standing.Standing.TheVariants as now_is

@@ -12,7 +12,7 @@ use Rattle.audit_model.specs.declared.command.Closing.{Closing}
 use Rattle.audit_model.specs.declared.config.Config.{Config}
 use Rattle.audit_model.specs.declared.event.Event.{Event}
 use Rattle.audit_model.specs.declared.transcript.Record.{Record}
-use Rattle.cache_store.specs.Values.{IsSoundStore, Values}
+use Rattle.cache_commands.specs.Values.{IsSoundStore, Values}
 use Rattle.cache_commands.proofs.Taking.{taken-same}
 use Rattle.cache_commands.specs.Loads.Pending.{SameTaken, loads_pending, sent_of}
 use Rattle.cache_commands.specs.declared.loads.loads.Loads.{Loads}

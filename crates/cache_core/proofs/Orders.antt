@@ -15,9 +15,9 @@ use Rattle.audit_model.specs.declared.transcript.Note.{Note}
 use Rattle.audit_model.specs.declared.transcript.Record.{Record}
 use Rattle.audit_laws.proofs.waiting.Records.{records as records-tidy}
 use Rattle.audit_laws.specs.Waiting.Tidy.{Tidy}
-use Rattle.cache_store.specs.Handing.{TakesFirstNote}
-use Rattle.cache_store.specs.Promises.{Frame}
-use Rattle.cache_store.specs.Values.{Values, GivesNote}
+use Rattle.cache_commands.specs.Handing.{TakesFirstNote}
+use Rattle.cache_commands.specs.Promises.{Frame}
+use Rattle.cache_commands.specs.Values.{Values, GivesNote}
 use Rattle.cache_commands.specs.Loads.Pending.{loads_pending, namespace_of_loads, outgoing_loads, sent_of}
 use Rattle.cache_commands.specs.Loads.Standings.{waits_for_load, holds_line}
 use Rattle.cache_lines.proofs.leads.Waits.{records-wait}

@@ -24,7 +24,7 @@ use Rattle.audit_model.specs.declared.transcript.Record.{Record}
 use Rattle.audit_model.specs.declared.transcript.Step.{Step}
 use Rattle.audit_laws.proofs.Following.{Passed, passed}
 use Rattle.audit_laws.proofs.waiting.Keys.{Sends, sends-right}
-use Rattle.cache_store.specs.Values.{Values}
+use Rattle.cache_commands.specs.Values.{Values}
 use Rattle.cache_commands.specs.Loads.Keys.{agrees_on, are_in_turn, has_its_key, have_their_keys}
 use Rattle.cache_commands.specs.Loads.Pending.{SameTaken, load_numbered, outgoing_loads}
 use Rattle.cache_lines.specs.Tape.Taped.{Taped}

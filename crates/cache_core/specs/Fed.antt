@@ -9,7 +9,7 @@ use Rattle.cache_lines.specs.Gathered.{HasNothingOutside, gathered, stage}
 use Rattle.cache_lines.specs.Tape.Taped.{IsAtRest, Taped, finishes, started}
 use Rattle.cache_lines.specs.Waiting.{under_way}
 use Rattle.cache_lines.specs.declared.base.Base.{Base}
-use Rattle.cache_store.specs.Values.{IsMoment, Values}
+use Rattle.cache_commands.specs.Values.{IsMoment, Values}
 use Rattle.audit_model.specs.declared.event.Event.TheVariants as event
 use Rattle.audit_model.specs.declared.input.ServiceError.TheVariants as error
 use Rattle.cache_core.specs.declared.connection.connection.Connection.{Connection}

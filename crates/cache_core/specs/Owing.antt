@@ -3,7 +3,7 @@ use Rattle.std.specs.Prelude.{◌≡◌, ℕ, ◌-◌, Bool, List, [], Option, N
 use Rattle.std.specs.Option.{option_map}
 use Rattle.audit_model.specs.declared.input.LoadId.{LoadId}
 use Rattle.cache_commands.specs.Loads.Keys.{are_in_turn, have_their_keys}
-use Rattle.cache_store.specs.Values.{Values}
+use Rattle.cache_commands.specs.Values.{Values}
 use Rattle.cache_core.specs.State.{NamespaceState, closing_in, loads_taken_of, output_in, situation_with}
 use Rattle.cache_core.specs.Turned.{is_waiting_in}
 use Rattle.cache_core.specs.declared.connection.taking.Taken.{Taken}

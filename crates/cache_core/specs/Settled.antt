@@ -18,7 +18,7 @@ use Rattle.cache_lines.specs.Making.{Making, making_of}
 use Rattle.cache_lines.specs.Tape.Taped.{Taped}
 use Rattle.cache_lines.specs.Waiting.{UnderWay, under_way}
 use Rattle.cache_lines.specs.declared.base.Base.{Base}
-use Rattle.cache_store.specs.Values.{IsMoment, Values}
+use Rattle.cache_commands.specs.Values.{IsMoment, Values}
 use Rattle.audit_model.specs.declared.command.Closing.TheVariants as by
 use Rattle.cache_commands.specs.declared.loads.standing.Standing.TheVariants as now_is
 use Rattle.cache_core.specs.Connection.Fed.{EndsCalm, closing_by}

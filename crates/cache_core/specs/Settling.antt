@@ -21,7 +21,7 @@ use Rattle.cache_commands.specs.declared.loads.standing.Standing.{Standing}
 use Rattle.cache_lines.specs.Tape.Taped.{IsAtRest, Taped, started}
 use Rattle.cache_lines.specs.Waiting.{UnderWay, under_way}
 use Rattle.cache_lines.specs.declared.base.Base.{Base}
-use Rattle.cache_store.specs.Values.{GivesNote, IsMoment, Values}
+use Rattle.cache_commands.specs.Values.{GivesNote, IsMoment, Values}
 use Rattle.audit_model.specs.declared.event.Event.TheVariants as event
 use Rattle.cache_core.specs.Connection.Fed.{AwaitsLoad, FedRan, LooksAsBefore}
 use Rattle.cache_core.specs.declared.connection.connection.Connection.{Connection}

@@ -11,7 +11,7 @@ use Rattle.cache_commands.specs.Loads.Keys.{were_sent}
 use Rattle.cache_commands.specs.Loads.Pending.{loads_pending, namespace_of_loads, outgoing_loads, sent_of}
 use Rattle.cache_lines.specs.Tape.Taped.{IsAtRest, Taped}
 use Rattle.cache_lines.specs.declared.base.Base.{Base}
-use Rattle.cache_store.specs.Values.{Values}
+use Rattle.cache_commands.specs.Values.{Values}
 use Rattle.audit_model.specs.Situation as model
 use Rattle.cache_lines.specs.Leads.Waiters.{WaitForLoads}
 use Rattle.cache_core.specs.Connections.Presence.{Presence, closing_of_presence, open_from, reply_text_of}

@@ -25,11 +25,11 @@ use Rattle.cache_lines.specs.Gathered.{reply_in}
 use Rattle.cache_lines.specs.Lines.{are_timely, ends_quit}
 use Rattle.cache_lines.specs.Ordered.{OrdersSteps}
 use Rattle.cache_lines.specs.Tape.Taped.{Taped, with_entry}
-use Rattle.cache_store.specs.Values.{Values}
+use Rattle.cache_commands.specs.Values.{Values}
 use Rattle.audit_model.specs.declared.command.Closing.TheVariants as by
 use Rattle.audit_model.specs.declared.event.Event.TheVariants as event
 use Rattle.audit_model.specs.declared.input.ServiceError.TheVariants as error
-use Rattle.cache_store.specs.Running.{is_bounded}
+use Rattle.cache_commands.specs.Running.{is_bounded}
 use Rattle.cache_core.specs.Connection.Fed.{closing_by}
 use Rattle.cache_core.specs.State.{NamespaceState, StateStandsFor, closing_in, known_of_state, loads_taken_of, output_in}
 

@@ -9,14 +9,13 @@ ghost use Rattle.cache_core.specs.Settled.{IsAmid};
 ghost use Rattle.cache_core.specs.Settling.{AllLookAsBefore, AreWaiting, BeginsAnswer, CanSettle, HandsOut, HaveReplyRoom, StoresNoted, waiting_on};
 ghost use Rattle.cache_lines.specs.Waiting.{under_way};
 ghost use Rattle.cache_commands.specs.Loads.Pending.{SameTaken, load_numbered, loads_pending};
-ghost use Rattle.cache_store.specs.Values.{IsMoment};
+ghost use Rattle.cache_commands.specs.Values.{IsMoment};
 
 use crate::interior::Interior;
 use crate::reserving::reserve_all;
 use audit_model::{Accepted, Note, Outcome};
-use cache_commands::Keyed;
+use cache_commands::{Keyed, Store};
 use cache_lines::{Tape, drain, most_notes};
-use cache_store::Store;
 use std::alloc::{AllocError, Global};
 
 /// What an answer's own step did.

@@ -10,8 +10,8 @@ ghost use Rattle.cache_commands.specs.Loads.Pending.{SameTaken, load_numbered, l
 ghost use Rattle.cache_lines.specs.Tape.Taped.{IsAtRest, started};
 
 use crate::interior::Interior;
+use cache_commands::Store;
 use cache_lines::{Base, Tape};
-use cache_store::Store;
 use std::alloc::AllocError;
 
 /// Begins the record of a give-up, with room to answer each `LOAD` that waits for good, and to hold back a line behind it. Returns an error

@@ -1,7 +1,7 @@
 //! The inside of a namespace.
 use crate::connections::Connections;
+use cache_commands::Store;
 use cache_lines::{Base, Tape};
-use cache_store::Store;
 
 /// The connections of a namespace, and what their lines run over.
 #[derive(Drop)]

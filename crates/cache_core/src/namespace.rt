@@ -9,8 +9,8 @@ ghost use Rattle.cache_core.specs.Settling.{Happens, answering, giving_up};
 ghost use Rattle.cache_core.specs.State.{IsBetweenEvents, StateStandsFor, SuitsItself, closing_in, known_of_state, loads_taken_of, new_state, output_in, situation_with, was_opened_in};
 ghost use Rattle.cache_core.specs.Turned.{RefusesBy, ContinuesBy, feeding, is_waiting_in};
 ghost use Rattle.cache_commands.specs.Loads.Keys.{are_in_turn, have_their_keys};
-ghost use Rattle.cache_store.specs.Handing.{TakesFirstNote};
-ghost use Rattle.cache_store.specs.Values.{GivesNote};
+ghost use Rattle.cache_commands.specs.Handing.{TakesFirstNote};
+ghost use Rattle.cache_commands.specs.Values.{GivesNote};
 ghost use Rattle.cache_lines.specs.Tape.Taped.{IsAtRest};
 
 use crate::answering::Stored;
@@ -22,9 +22,8 @@ use crate::owing::Owed;
 use crate::places::{close_at, find_open, find_opened, leave_closed, take_at, waits_at_place};
 use crate::refusing::MAX_MOMENT;
 use audit_model::{Bytes, Closing, Event, Instant, LoadId, Note, Outcome, Seq, ServiceError};
-use cache_commands::{Keyed, Loads};
+use cache_commands::{Keyed, Loads, Store};
 use cache_lines::{Base, Tape};
-use cache_store::Store;
 use std::alloc::{AllocError, Global};
 use std::marker::Model;
 

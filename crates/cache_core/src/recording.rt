@@ -14,8 +14,8 @@ use crate::connection::{Connection, feed_connection};
 use crate::interior::Interior;
 use crate::places::number_at;
 use audit_model::{Bytes, Event, Instant, Seq, ServiceError};
+use cache_commands::Store;
 use cache_lines::{Base, Tape};
-use cache_store::Store;
 use std::alloc::{AllocError, Global};
 
 /// A copy of a piece, if records are kept.

@@ -7,8 +7,8 @@ ghost use Rattle.cache_commands.specs.Loads.Pending.{loads_pending};
 
 use crate::interior::Interior;
 use audit_model::{Config, Outcome, ServiceError};
+use cache_commands::Store;
 use cache_lines::Tape;
-use cache_store::Store;
 
 /// The latest moment that may be handed in, in nanoseconds.
 pub const MAX_MOMENT: u64 = (1 << 63) - 1;

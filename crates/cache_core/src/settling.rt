@@ -16,9 +16,8 @@ use crate::connections::Connections;
 use crate::interior::Interior;
 use crate::places::{leave_closed, number_at};
 use audit_model::Outcome;
-use cache_commands::Standing;
+use cache_commands::{Standing, Store};
 use cache_lines::Tape;
-use cache_store::Store;
 
 /// Whether the connection at a place is open and runs lines.
 fn runs_there(connections: &Connections, index: usize) -> bool

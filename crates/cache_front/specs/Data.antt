@@ -12,7 +12,7 @@ use Rattle.cache_front.specs.declared.entries.hasher.WordHasher.{WordHasher}
 use Rattle.cache_front.specs.State.{hash_by, store_of}
 use Rattle.cache_front.specs.Parts.{Part, Stored, service_answers}
 use Rattle.cache_front.specs.View.{StoreOfParts, view}
-use Rattle.cache_store.specs.Values.{Values}
+use Rattle.cache_commands.specs.Values.{Values}
 use Rattle.front_reference.specs.Fronts.{CallsPart, Front}
 use Rattle.front_reference.specs.Parts.{Inserts, TakesOut}
 use Rattle.front_state.specs.Covering.{CoversAll}

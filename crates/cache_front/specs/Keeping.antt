@@ -3,7 +3,7 @@ use Rattle.std.specs.Prelude.{◌≡◌, ℕ, ◌<◌, ◌≤◌, ◌^◌, ◌==
 use Rattle.std.proofs.Common.{◌||◌}
 use Rattle.audit_model.specs.Bytewise.{same}
 use Rattle.audit_model.specs.History.{part_count}
-use Rattle.cache_store.specs.Promises.{Frame}
+use Rattle.cache_commands.specs.Promises.{Frame}
 use Rattle.engine_reference.specs.declared.data.Record.{Record}
 use Rattle.engine_reference.specs.Soundness.{Each}
 use Rattle.audit_model.specs.declared.config.Weight.{Weight}

@@ -4,7 +4,7 @@ use Rattle.rand_core.specs.Stream.{Stream}
 use Rattle.audit_model.specs.History.{part_count}
 use Rattle.audit_model.specs.declared.config.Config.{Config}
 use Rattle.cache_front.specs.Parts.{part_settings}
-use Rattle.cache_store.specs.Values.{Values}
+use Rattle.cache_commands.specs.Values.{Values}
 use Rattle.engine_reference.specs.declared.data.Settings.{Settings}
 use Rattle.front_reference.specs.Fronts.{part_of}
 

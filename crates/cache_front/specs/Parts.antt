@@ -26,8 +26,8 @@ use Rattle.engine_reference.specs.Records.{record_at, held_at, held_entries}
 use Rattle.engine_reference.specs.State.{State, Answers}
 use Rattle.engine_reference.specs.Visible.{is_covered}
 use Rattle.engine_reference.specs.RunLaws.Points.{HasPoint}
-use Rattle.cache_store.specs.Held.{value_at, Corresponds}
-use Rattle.cache_store.specs.Promises.{Frame}
+use Rattle.cache_commands.specs.Held.{value_at, Corresponds}
+use Rattle.cache_commands.specs.Promises.{Frame}
 
 -- ---- what a part keeps, and by which rules
 

@@ -4,7 +4,7 @@ use Rattle.std.specs.List.{filter_map}
 use Rattle.audit_model.specs.Bytewise.{same}
 use Rattle.audit_model.specs.declared.config.Weight.TheVariants.{One}
 use Rattle.audit_model.specs.declared.config.Config.{Config}
-use Rattle.cache_store.specs.Recency.{IsPlainLru, AreKeysOf}
+use Rattle.cache_commands.specs.Recency.{IsPlainLru, AreKeysOf}
 use Rattle.engine_reference.specs.declared.rules.settings.EvictionPolicy.TheVariants.{Lru}
 use Rattle.engine_reference.specs.declared.data.Record.{Record}
 use Rattle.engine_reference.specs.declared.data.Registered.{Registered}

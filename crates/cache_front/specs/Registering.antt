@@ -3,7 +3,7 @@ use Rattle.std.specs.Prelude.{◌≡◌, ℕ, ◌==◌, ◌&&◌, nat_lt, Bool, 
 use Rattle.std.specs.Int.{from_be_bytes, w128}
 use Rattle.std.specs.List.{list_all}
 use Rattle.std.specs.Option.{option_map_or}
-use Rattle.cache_store.specs.Identifiers.{Register}
+use Rattle.cache_commands.specs.Identifiers.{Register}
 use Rattle.engine_reference.specs.declared.data.Registered.{Registered}
 use Rattle.engine_reference.specs.Identifiers.Drawing.{is_registered}
 use Rattle.cache_front.specs.Parts.{Part}

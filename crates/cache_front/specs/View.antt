@@ -5,8 +5,8 @@ use Rattle.rand_core.specs.Stream.{Stream}
 use Rattle.audit_model.specs.declared.config.Config.{Config}
 use Rattle.audit_model.specs.declared.config.Weight.{Weight}
 use Rattle.audit_model.specs.declared.transcript.Note.{Note}
-use Rattle.cache_store.specs.Promises.{Frame}
-use Rattle.cache_store.specs.Values.{Values, IsMoment}
+use Rattle.cache_commands.specs.Promises.{Frame}
+use Rattle.cache_commands.specs.Values.{Values, IsMoment}
 use Rattle.front_reference.specs.Fronts.{Front, part_of}
 use Rattle.cache_front.specs.Parts.{Stored, Part, Stands, items_of, note_from, drained}
 use Rattle.cache_front.specs.Recent.{IsRecentOver}

@@ -15,10 +15,10 @@ use Rattle.audit_model.specs.declared.transcript.Accepted.{Accepted}
 use Rattle.audit_model.specs.declared.transcript.Note.{Note}
 use Rattle.audit_model.specs.declared.transcript.Step.{Step}
 use Rattle.audit_laws.specs.Leading.{is_parted}
-use Rattle.cache_store.specs.Promises.{Frame}
-use Rattle.cache_store.specs.Recency.{AreKeysOf}
-use Rattle.cache_store.specs.Running.{is_timely}
-use Rattle.cache_store.specs.Values.{GivesNote, IsSoundStore, Values}
+use Rattle.cache_commands.specs.Promises.{Frame}
+use Rattle.cache_commands.specs.Recency.{AreKeysOf}
+use Rattle.cache_commands.specs.Running.{is_timely}
+use Rattle.cache_commands.specs.Values.{GivesNote, IsSoundStore, Values}
 use Rattle.cache_commands.proofs.Ordering.{agrees-kept}
 use Rattle.cache_commands.specs.Answered.{key_written, IsAnswered}
 use Rattle.cache_commands.specs.Loading.{step_silent}

@@ -16,7 +16,7 @@ use Rattle.cache_lines.specs.Drawing.{Identifiers, Spends, StepDraws, StepsDraw}
 use Rattle.cache_lines.specs.Tape.Taped.{step_held}
 use Rattle.std.proofs.lemmas.Slice.Eq.{bytes_eq-Decides}
 use Rattle.rand_core.specs.Stream.{Stream}
-use Rattle.cache_store.specs.Identifiers.{next_drawn, stream_left, Register, KeepsIdentifiers, AreUsedUp}
+use Rattle.cache_commands.specs.Identifiers.{next_drawn, stream_left, Register, KeepsIdentifiers, AreUsedUp}
 
 pub keeps-more : (a b c : Stream) (x y z : Register) → KeepsIdentifiers a b x y → KeepsIdentifiers b c y z → KeepsIdentifiers a c x z
 keeps-more a b c x y z k l = record { stream = l.stream ∙ k.stream; registered = λ part id h. k.registered part id (l.registered part id h) }

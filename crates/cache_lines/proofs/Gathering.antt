@@ -7,7 +7,7 @@ use Rattle.cache_commands.specs.Loads.Pending.{SameLoads}
 use Rattle.cache_lines.specs.Gathered.{Gathered, gather, gathered, spare_in, stage}
 use Rattle.cache_lines.specs.Tape.Taped.{HasSpare, Taped, drafts, ends, spends, step_held}
 use Rattle.cache_lines.specs.Waiting.{under_way}
-use Rattle.cache_store.specs.Values.{Values}
+use Rattle.cache_commands.specs.Values.{Values}
 use Rattle.cache_commands.specs.declared.loads.loads.Loads.{Loads}
 
 -- a line that was held back

@@ -26,7 +26,7 @@ use Rattle.cache_lines.specs.Ran.{RanOne}
 use Rattle.cache_lines.specs.Tape.Taped.{Taped}
 use Rattle.cache_lines.specs.Waiting.{waiting_with, with_under_way}
 use Rattle.cache_lines.specs.Whole.{held_line}
-use Rattle.cache_store.specs.Promises.{no_deed}
+use Rattle.cache_commands.specs.Promises.{no_deed}
 use Rattle.audit_model.specs.declared.command.Command.TheVariants as says
 use Rattle.cache_lines.proofs.LineRuns.{after-held, gather-more, has-ended, right-in-turn, stops-quit, timely-ended}
 use Rattle.cache_lines.proofs.ReadyEnds.{after-waits, left_waiting, step_waits, stops-waiting, turn-right, waits-draws, waits-left, waits-order, waits-right}

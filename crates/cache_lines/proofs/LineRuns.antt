@@ -20,10 +20,10 @@ use Rattle.audit_model.specs.declared.transcript.Note.{Note}
 use Rattle.audit_model.specs.declared.transcript.Step.{Step}
 use Rattle.audit_lines.proofs.Lines.{IsLine-first_line, IsLine-behind_lines, IsLine-not_long, IsPartial-first_line, IsPartial-not_long}
 use Rattle.audit_lines.specs.Next.{IsLine, IsPartial}
-use Rattle.cache_store.specs.Promises.{Frame, no_deed}
-use Rattle.cache_store.specs.Recency.{IsPlainLru}
-use Rattle.cache_store.specs.Running.{is_timely}
-use Rattle.cache_store.specs.Values.{Values}
+use Rattle.cache_commands.specs.Promises.{Frame, no_deed}
+use Rattle.cache_commands.specs.Recency.{IsPlainLru}
+use Rattle.cache_commands.specs.Running.{is_timely}
+use Rattle.cache_commands.specs.Values.{Values}
 use Rattle.cache_commands.proofs.Answering.{same-refl, none_succeeded}
 use Rattle.cache_commands.specs.Answered.{Agrees}
 use Rattle.cache_commands.specs.Order.{AgreesWith, Order, order_by}

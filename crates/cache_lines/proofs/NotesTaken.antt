@@ -1,7 +1,7 @@
 -- Notes taken one after another come out in the order in which they were told.
 use Rattle.std.proofs.Common.{sym, ap, ◌∙◌, arith, append_assoc, refl, ◌≡◌, ◌+◌, List, [], ◌∷◌, ◌++◌, length}
 use Rattle.audit_model.specs.declared.transcript.Note.{Note}
-use Rattle.cache_store.specs.Values.{GivesNote, Values}
+use Rattle.cache_commands.specs.Values.{GivesNote, Values}
 use Rattle.cache_lines.proofs.Drawn.{keeps-more}
 
 -- a note taken, with those that stay

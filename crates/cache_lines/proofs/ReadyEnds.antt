@@ -16,9 +16,9 @@ use Rattle.audit_model.specs.declared.config.Config.{Config}
 use Rattle.audit_model.specs.declared.transcript.Step.{Step}
 use Rattle.audit_lines.proofs.Lines.{IsLine-first_line, long_from}
 use Rattle.audit_lines.specs.Next.{IsLine}
-use Rattle.cache_store.specs.Promises.{no_deed, Frame}
-use Rattle.cache_store.specs.Recency.{IsPlainLru}
-use Rattle.cache_store.specs.Values.{IsSoundStore, Values}
+use Rattle.cache_commands.specs.Promises.{no_deed, Frame}
+use Rattle.cache_commands.specs.Recency.{IsPlainLru}
+use Rattle.cache_commands.specs.Values.{IsSoundStore, Values}
 use Rattle.cache_commands.proofs.Answering.{same-refl}
 use Rattle.cache_commands.proofs.Drawn.{draws-none}
 use Rattle.cache_commands.specs.Answered.{says_drop, Agrees}

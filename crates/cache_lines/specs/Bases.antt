@@ -1,7 +1,7 @@
 -- What a connection's lines run over, as contracts see it.
 use Rattle.std.specs.Prelude.{◌≡◌, ℕ, Option}
 use Rattle.cache_commands.specs.Loads.Pending.{SameLoads}
-use Rattle.cache_store.specs.Values.{IsMoment, Values}
+use Rattle.cache_commands.specs.Values.{IsMoment, Values}
 use Rattle.cache_lines.specs.Tape.Taped.{HasSpare, Taped}
 use Rattle.cache_lines.specs.Gathered.{HasNothingOutside, LineStage, gathered, stage}
 use Rattle.cache_lines.specs.Waiting.{UnderWay, under_way}

@@ -7,9 +7,9 @@ use Rattle.audit_model.specs.History.{part_count}
 use Rattle.audit_model.specs.declared.config.Config.{Config}
 use Rattle.audit_model.specs.declared.transcript.Step.{Step}
 use Rattle.cache_commands.specs.Answered.{says_drop}
-use Rattle.cache_store.specs.Values.{Values}
+use Rattle.cache_commands.specs.Values.{Values}
 use Rattle.rand_core.specs.Stream.{Stream}
-use Rattle.cache_store.specs.Identifiers.{DrawsAlone, Register, AreUsedUp}
+use Rattle.cache_commands.specs.Identifiers.{DrawsAlone, Register, AreUsedUp}
 use Rattle.cache_commands.specs.Drawing.{DrawsForParts}
 
 -- what a generator of identifiers will give, and which of them are registered in each part

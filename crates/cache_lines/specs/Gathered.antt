@@ -4,7 +4,7 @@ use Rattle.std.specs.List.{flat_map}
 use Rattle.std.specs.Option.{option_map}
 use Rattle.audit_model.specs.declared.transcript.Note.{Note}
 use Rattle.audit_model.specs.declared.transcript.Step.{Step}
-use Rattle.cache_store.specs.Values.{Values}
+use Rattle.cache_commands.specs.Values.{Values}
 use Rattle.cache_lines.specs.Tape.Taped.{Taped}
 
 -- what a line changes: the values, the replies written and not taken, and the tape

@@ -9,8 +9,8 @@ use Rattle.audit_model.specs.Steps.{Task, is_right}
 use Rattle.audit_model.specs.declared.config.Config.{Config}
 use Rattle.audit_model.specs.declared.transcript.Step.{Step}
 use Rattle.cache_commands.specs.Order.{Order, AgreesWith}
-use Rattle.cache_store.specs.Recency.{IsPlainLru}
-use Rattle.cache_store.specs.Values.{Values}
+use Rattle.cache_commands.specs.Recency.{IsPlainLru}
+use Rattle.cache_commands.specs.Values.{Values}
 use Rattle.cache_lines.specs.Drawing.{Identifiers, StepDraws, identifiers_in}
 use Rattle.cache_lines.specs.Lines.{has_its_part, is_timely_after}
 use Rattle.cache_lines.specs.Making.{Making}

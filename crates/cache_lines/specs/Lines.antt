@@ -14,7 +14,7 @@ use Rattle.audit_model.specs.Steps.{Task}
 use Rattle.audit_model.specs.Stream.{is_held}
 use Rattle.audit_model.specs.declared.config.Config.{Config}
 use Rattle.audit_model.specs.declared.transcript.Step.{Step}
-use Rattle.cache_store.specs.Running.{is_timely}
+use Rattle.cache_commands.specs.Running.{is_timely}
 use Rattle.audit_model.specs.declared.command.Command.TheVariants as says
 
 -- a connection that runs lines, with these bytes unread

@@ -1,7 +1,7 @@
 -- How a store was created.
 use Rattle.std.specs.Prelude.{ℕ, List}
 use Rattle.audit_model.specs.declared.config.Config.{Config}
-use Rattle.cache_store.specs.Promises.{Frame}
+use Rattle.cache_commands.specs.Promises.{Frame}
 
 -- the configuration, the part of each key, and the moment of creation
 pub record Making : Type 0 where

@@ -9,7 +9,7 @@ use Rattle.audit_model.specs.Steps.{Task}
 use Rattle.audit_model.specs.declared.config.Config.{Config}
 use Rattle.audit_model.specs.declared.transcript.Step.{Step}
 use Rattle.cache_commands.specs.Order.{Order, Settled, Unknown, AgreesWith, order_by}
-use Rattle.cache_store.specs.Recency.{AreKeysOf, IsPlainLru}
+use Rattle.cache_commands.specs.Recency.{AreKeysOf, IsPlainLru}
 
 -- a step ran; nothing is known behind one that is held back
 abbrev pub order_behind_step : Config → ℕ → Order → Step → Order

@@ -12,8 +12,8 @@ use Rattle.cache_commands.specs.Answered.{Agrees}
 use Rattle.cache_commands.specs.Loading.{step_silent}
 use Rattle.cache_commands.specs.Order.{Order, AgreesWith, order_by}
 use Rattle.cache_commands.specs.Right.{DoesRight, KeepsFrame, step_saying, held_when_run, dropped_when_run}
-use Rattle.cache_store.specs.Recency.{IsPlainLru}
-use Rattle.cache_store.specs.Running.{is_timely}
+use Rattle.cache_commands.specs.Recency.{IsPlainLru}
+use Rattle.cache_commands.specs.Running.{is_timely}
 use Rattle.audit_model.specs.declared.command.Command.TheVariants as says
 use Rattle.cache_lines.specs.Bases.{Seen}
 use Rattle.cache_lines.specs.Drawing.{StepDraws, identifiers_in}

@@ -1,8 +1,7 @@
 //! What a connection's lines run over.
 
 use crate::tape::Tape;
-use cache_commands::{Keyed, Loads};
-use cache_store::Store;
+use cache_commands::{Keyed, Loads, Store};
 
 /// What a connection's lines run over: the store, the loads under way, and the tape of the record under way.
 #[derive(Drop)]

@@ -2,13 +2,12 @@
 ghost use Rattle.std.specs.Prelude.{◌≡◌, ◌+◌, ◌<◌, ◌≤◌, ◌++◌, ◌∷◌, [], true, is_some, length, vec_len, vec_capacity, if◌then◌else◌};
 ghost use Rattle.std.specs.Option.{option_map};
 ghost use Rattle.cache_commands.specs.Right.{step_saying};
-ghost use Rattle.cache_store.specs.Values.{GivesNote};
+ghost use Rattle.cache_commands.specs.Values.{GivesNote};
 ghost use Rattle.cache_lines.specs.Tape.Taped.{IsDrafted, ends, text_left};
 
 use crate::tape::Tape;
 use audit_model::{Accepted, Note};
-use cache_commands::{Keyed, push_within};
-use cache_store::Store;
+use cache_commands::{Keyed, Store, push_within};
 
 /// Returns how many notes a line or an answer reports at most.
 pub fn most_notes<S: Store>(store: &Keyed<S>) -> usize

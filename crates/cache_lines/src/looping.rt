@@ -11,7 +11,7 @@ use crate::output::ReplyBuffer;
 use crate::running::{LineOutcome, run_line};
 use crate::tape::Tape;
 use audit_lines::{Next, next_in, without_return};
-use cache_store::Store;
+use cache_commands::Store;
 
 /// How a connection's lines end.
 #[derive(Clone, Copy, PartialEq, Eq, Drop)]

@@ -10,7 +10,7 @@ use crate::looping::{End, behind, run_bytes};
 use crate::output::ReplyBuffer;
 use crate::tape::Tape;
 use audit_lines::Buffer;
-use cache_store::Store;
+use cache_commands::Store;
 
 /// Drops the first `used` bytes.
 fn drop_used(unread: &mut Buffer, used: usize)

@@ -3,7 +3,7 @@ ghost use Rattle.std.specs.Prelude.{◌≡◌, ◌≤◌, Ok, length, true, IfOk
 ghost use Rattle.audit_lines.specs.Request.{said};
 ghost use Rattle.audit_model.specs.declared.command.Command.TheVariants as says;
 ghost use Rattle.cache_commands.specs.Loads.Pending.{SameTaken};
-ghost use Rattle.cache_store.specs.Values.{IsMoment};
+ghost use Rattle.cache_commands.specs.Values.{IsMoment};
 ghost use Rattle.cache_lines.specs.Bases.{IsClear, LooksSame, seen_on};
 ghost use Rattle.cache_lines.specs.Gathered.{spare_in};
 ghost use Rattle.cache_lines.specs.Lines.{says_quit};
@@ -17,8 +17,7 @@ use crate::joining::join_load;
 use crate::output::ReplyBuffer;
 use crate::tape::Tape;
 use audit_lines::{Request, read_line};
-use cache_commands::Ran;
-use cache_store::Store;
+use cache_commands::{Ran, Store};
 use std::alloc::AllocError;
 
 /// What a line did.

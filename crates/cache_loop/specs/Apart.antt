@@ -1,5 +1,5 @@
 -- What a connection is given that leaves the loads of its namespace to others.
-use Rattle.std.specs.Prelude.{◌≡◌, ℕ, List, Option, None}
+use Rattle.std.specs.Prelude.{◌≡◌, Option, None}
 use Rattle.audit_model.specs.declared.input.Conn.{Conn}
 use Rattle.cache_run.specs.Driver.Exchanges.{Exchange, Outs}
 use Rattle.cache_run.specs.declared.driver.host.Given.{Given}

@@ -2,7 +2,7 @@
 ghost use Rattle.std.specs.Prelude.{◌≡◌, ◌++◌, [], false, None, IfOk, OnErr};
 ghost use Rattle.cache_run.specs.Driver.Exchanges.{Outs};
 ghost use Rattle.cache_loop.specs.Apart.{ComesApart, IsGivenApart};
-ghost use Rattle.cache_loop.specs.Loads.{GivesUpOne, GivesUpEach, SettlesOne, numbers_out, outs_in};
+ghost use Rattle.cache_loop.specs.Loads.{GivesUpOne, GivesUpEach, KeepsOf, SettlesOne, numbers_out, outs_in};
 
 use audit_model::{Bytes, Conn, LoadId, Outcome};
 use cache_run::{Given, Host, Loader, Owed, RunError};
@@ -38,8 +38,7 @@ impl<'a, H: Host> Apart<'a, H> {
 
     /// Keeps loads that went out. Those for which there is no memory are returned.
     fn keep(&mut self, loads: Vec<(LoadId, Bytes)>) -> Option<Vec<(LoadId, Bytes)>>
-        ensures { (kept : Outs) × (loads.items ≡ kept ++ outs_in result)
-            × (self.new.loads.items ≡ self.old.loads.items ++ kept) }
+        ensures { KeepsOf loads.items (outs_in result) self.old.loads.items self.new.loads.items }
     {
         if self.loads.is_empty() {
             self.loads = loads;
@@ -64,7 +63,7 @@ impl<'a, H: Host> Apart<'a, H> {
     ) -> Result<Option<Vec<(LoadId, Bytes)>>, RunError>
         requires known { H.knows conn place.old }
         ensures settled { IfOk result (λ left. (kept : Outs)
-            × SettlesOne H.came conn load said place.old (kept ++ outs_in left) place.new
+            × SettlesOne H.came conn load moment said place.old (kept ++ outs_in left) place.new
             × (self.new.loads.items ≡ self.old.loads.items ++ kept)) }
         ensures refused { OnErr result (H.rests place.old place.new
             × (self.new.loads.items ≡ self.old.loads.items)) }
@@ -100,7 +99,9 @@ impl<'a, H: Host> Apart<'a, H> {
 
     /// Gives a connection what it is given, but for the loads, unless there is no memory to keep them.
     fn set_apart(&mut self, given: Given) -> Given
-        ensures { IsGivenApart given result }
+        ensures given { IsGivenApart given result }
+        ensures kept { KeepsOf (outs_in given.owed.loads) (outs_in result.owed.loads)
+            self.old.loads.items self.new.loads.items }
     {
         let Given { held, owed } = given;
         let Owed {

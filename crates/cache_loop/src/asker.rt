@@ -1,4 +1,9 @@
 //! Whoever is asked for loads: on the spot, or by threads of their own.
+ghost use Rattle.std.specs.Prelude.{◌≡◌, ℕ, List, Option};
+ghost use Rattle.audit_model.specs.declared.event.Outcome.{Outcome};
+ghost use Rattle.audit_model.specs.declared.input.LoadId.{LoadId};
+ghost use Rattle.cache_loop.specs.declared.asker.Asked.{Asked};
+ghost use Rattle.cache_loop.specs.declared.asker.Asked.TheVariants.{Now};
 
 use audit_model::{Bytes, LoadId, Outcome};
 use cache_run::Loader;
@@ -21,8 +26,12 @@ pub enum Asked {
 
 /// Whoever is asked for the loads of a loop.
 pub trait Asker: Drop {
+    /// In one state this may come of asking for a load by its key, and leads to another state.
+    ghost asks: { Self → LoadId → List ℕ → Asked → Self → Type 0 };
+
     /// Asks for a load by its key. The call does not wait for a loader that is slow.
-    fn ask(&mut self, load: LoadId, key: Bytes) -> Asked;
+    fn ask(&mut self, load: LoadId, key: Bytes) -> Asked
+        ensures { asks self.old load key result self.new };
 
     /// Returns a load that was answered later, with its outcome, or without one if the load is given up. Returns `None` if no answer has
     /// come.
@@ -40,6 +49,9 @@ pub struct Here<D: Loader + Drop> {
 }
 
 impl<D: Loader + Drop> Asker for Here<D> {
+    ghost asks = { λ p load key asked q. (answer : Option Outcome) × (asked ≡ Now answer)
+        × D.loads p.loader key answer q.loader };
+
     fn ask(&mut self, load: LoadId, key: Bytes) -> Asked {
         let _load = load;
         Asked::Now(self.loader.load(key.as_slice()))
@@ -146,6 +158,8 @@ fn answer_all<D: Loader + Drop, R: Wait>(
 }
 
 impl<R: Wait + Drop> Asker for Pool<R> {
+    ghost asks = { λ p load key asked q. Unit {0} };
+
     fn ask(&mut self, load: LoadId, key: Bytes) -> Asked {
         match self.questions.send(&self.rt, (load, key)) {
             Ok(()) => Asked::Later,

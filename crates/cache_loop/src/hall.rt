@@ -40,6 +40,8 @@ pub struct Hall<S: Steward> {
     // those that have more to do since their last turn: they come after the others
     again: Vec<usize>,
     spare: Vec<usize>,
+    // those that wait for a load, or did, each once
+    waiting: Vec<usize>,
     // where connections come in; none if nobody is accepted any more
     doorway: Option<Doorway>,
     door: Door,
@@ -74,6 +76,7 @@ impl<S: Steward> Hall<S> {
             queue: Vec::new(alloc),
             again: Vec::new(alloc),
             spare: Vec::new(alloc),
+            waiting: Vec::new(alloc),
             doorway: Some(doorway),
             door: Door::Idle,
             shut: Stopwatch::new(),
@@ -194,11 +197,22 @@ impl<S: Steward> Hall<S> {
             return;
         }
         self.is_loaded = false;
-        for key in 0..self.served.capacity() {
-            let waits = self.served.get(key).is_some_and(|served| served.is_waiting);
-            if waits {
-                self.enqueue(key);
+        for index in 0..self.waiting.len() {
+            if let Some(key) = self.waiting.get(index).copied() {
+                self.wake_one(key);
             }
+        }
+        self.waiting.clear();
+    }
+
+    /// Queues a connection that was listed, if it waits for a load.
+    fn wake_one(&mut self, key: usize) {
+        let Some(served) = self.served.get_mut(key) else {
+            return;
+        };
+        served.is_listed = false;
+        if served.is_waiting {
+            self.enqueue(key);
         }
     }
 
@@ -298,6 +312,7 @@ impl<S: Steward> Hall<S> {
         self.queue.reserve(room).ok()?;
         self.again.reserve(room).ok()?;
         self.spare.reserve(room).ok()?;
+        self.waiting.reserve(room).ok()?;
         let mut stream = stream;
         let key = self.served.vacant_key();
         stream.register(round.registry, Token(key)).ok()?;
@@ -347,7 +362,12 @@ impl<S: Steward> Hall<S> {
 
     /// Notes what a connection waits for.
     fn note_next(&mut self, registry: &Registry, key: usize, next: Next) {
-        let Hall { served, spare, .. } = self;
+        let Hall {
+            served,
+            spare,
+            waiting,
+            ..
+        } = self;
         let Some(served) = served.get_mut(key) else {
             return;
         };
@@ -357,7 +377,13 @@ impl<S: Steward> Hall<S> {
                 served.is_queued = true;
                 let _ = spare.push(key);
             }
-            Next::Load => served.is_waiting = true,
+            Next::Load => {
+                served.is_waiting = true;
+                if !served.is_listed {
+                    served.is_listed = true;
+                    let _ = waiting.push(key);
+                }
+            }
             Next::Room => {
                 if !served.tells_room {
                     served.tells_room = true;
@@ -408,7 +434,15 @@ impl<S: Steward> Hall<S> {
     ) -> Option<Stream>
         requires { S.rests_on }
     {
-        let Served { stream, link, .. } = self.served.try_remove(key)?;
+        let Served {
+            stream,
+            link,
+            is_listed,
+            ..
+        } = self.served.try_remove(key)?;
+        if is_listed {
+            forget(&mut self.waiting, key);
+        }
         steward.close(link, outcome);
         crew.open.fetch_sub(1, Ordering::SeqCst);
         Some(stream)
@@ -459,5 +493,14 @@ impl<S: Steward> Hall<S> {
                 let _dropped = stream.drop_input();
             }
         }
+    }
+}
+
+/// Forgets a key among others, each of which stands there once.
+fn forget(keys: &mut Vec<usize>, key: usize) {
+    let place = keys.iter().position(|one| *one == key);
+    let place = place.unwrap_or(keys.len());
+    if place < keys.len() {
+        let _key = keys.remove(place);
     }
 }

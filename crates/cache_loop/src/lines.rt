@@ -59,16 +59,17 @@ impl<'h, 'p, H: Host, K: Clock + Drop, A: Asker> LineSteward<'h, 'p, H, K, A> {
         })
     }
 
-    /// Gives up the loads that were asked for and not settled. Returns whoever was asked.
+    /// Gives up the loads that went out and were not settled. Returns whoever was asked.
     pub fn end(self) -> A
         requires known { (conn : Conn) → (place : H.Place) → H.knows conn place }
     {
         let LineSteward {
             mut host,
             place,
-            loading,
+            mut loading,
             ..
         } = self;
+        loading.give_up_out(&mut host, place);
         loading.end(&mut host, place)
     }
 }
@@ -78,7 +79,8 @@ impl<H: Host, K: Clock + Drop, A: Asker> Steward for LineSteward<'_, '_, H, K, A
 
     ghost rests_on = { (conn : Conn) → (place : H.Place) → H.knows conn place };
 
-    ghost is_settled = { λ steward. steward.loading.pending.items ≡ [] };
+    ghost is_settled = { λ steward. (steward.loading.pending.items ≡ [])
+        × (steward.host.loads.items ≡ []) };
 
     fn refusal(&self) -> &'static [u8] {
         b"ERR connections\n"
@@ -135,6 +137,7 @@ impl<H: Host, K: Clock + Drop, A: Asker> Steward for LineSteward<'_, '_, H, K, A
     }
 
     fn give_up_loads(&mut self) -> u64 {
+        self.loading.give_up_out(&mut self.host, self.place);
         self.loading.give_up_pending(&mut self.host, self.place);
         self.loading.take_settled()
     }

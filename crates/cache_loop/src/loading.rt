@@ -3,7 +3,7 @@ ghost use Rattle.std.specs.Prelude.{◌≡◌, ℕ, ◌+◌, ◌-◌, ◌<◌, �
 ghost use Rattle.audit_model.specs.declared.input.Conn.{Conn};
 ghost use Rattle.cache_run.specs.Driver.Exchanges.{Outs};
 ghost use Rattle.cache_run.specs.Driver.Hosting.{Stops};
-ghost use Rattle.cache_loop.specs.Loads.{GivesUpEach, Resolves, SettlesEach, held, held_in_hand, held_one, is_overdue, numbers_pending, once, times_pending};
+ghost use Rattle.cache_loop.specs.Loads.{AsksFor, GivesUpEach, Resolves, SettlesBehind, SettlesEach, held, held_in_hand, held_one, is_overdue, numbers_out, numbers_pending, once, times_pending};
 
 use crate::apart::Apart;
 use crate::asker::{Asked, Asker};
@@ -70,14 +70,15 @@ impl<A: Asker> Loading<A> {
 
     /// Returns how many loads were settled since the last call.
     pub fn take_settled(&mut self) -> u64
-        ensures { self.new.pending ≡ self.old.pending }
+        ensures { (self.new.pending ≡ self.old.pending) × (self.new.conn ≡ self.old.conn) }
     {
         let settled = self.settled;
         self.settled = 0;
         settled
     }
 
-    /// Asks for the loads that went out, and settles those that are answered on the spot, until none is left.
+    /// Asks for the loads that went out, and settles those that are answered on the spot. Those that go out meanwhile are left for the next
+    /// call.
     pub fn ask_all<H: Host, K: Clock>(
         &mut self,
         host: &mut Apart<'_, H>,
@@ -85,18 +86,13 @@ impl<A: Asker> Loading<A> {
         clock: &mut K,
     )
         requires known { (conn : Conn) → (place : H.Place) → H.knows conn place }
-        ensures each { SettlesEach H.came H.rests self.old.conn
+        ensures each { SettlesBehind H.came H.rests self.old.conn
             (held host.old.loads.items self.old.pending.items) place.old
-            (held host.new.loads.items self.new.pending.items) place.new }
+            (held host.new.loads.items self.new.pending.items) place.new [] host.new.loads.items }
         ensures conn { self.new.conn ≡ self.old.conn }
     {
-        for _turn in 0..u64::MAX {
-            let loads = host.take_loads();
-            if loads.is_empty() {
-                return;
-            }
-            self.ask_each(host, place, clock, loads);
-        }
+        let out = host.take_loads();
+        self.ask_each(host, place, clock, out);
     }
 
     /// Asks for loads, and settles those that are answered on the spot.
@@ -108,9 +104,10 @@ impl<A: Asker> Loading<A> {
         loads: Vec<(LoadId, Bytes)>,
     )
         requires known { (conn : Conn) → (place : H.Place) → H.knows conn place }
-        ensures each { SettlesEach H.came H.rests self.old.conn
+        ensures each { SettlesBehind H.came H.rests self.old.conn
             (held_in_hand loads.items host.old.loads.items self.old.pending.items) place.old
-            (held host.new.loads.items self.new.pending.items) place.new }
+            (held host.new.loads.items self.new.pending.items) place.new host.old.loads.items
+            host.new.loads.items }
         ensures conn { self.new.conn ≡ self.old.conn }
     {
         for (load, key) in loads {
@@ -128,9 +125,12 @@ impl<A: Asker> Loading<A> {
         key: Bytes,
     )
         requires known { (conn : Conn) → (place : H.Place) → H.knows conn place }
-        ensures each { SettlesEach H.came H.rests self.old.conn
+        ensures each { SettlesBehind H.came H.rests self.old.conn
             (held_one load.number host.old.loads.items self.old.pending.items) place.old
-            (held host.new.loads.items self.new.pending.items) place.new }
+            (held host.new.loads.items self.new.pending.items) place.new host.old.loads.items
+            host.new.loads.items }
+        ensures said { (moment : ℕ) × (kept : Outs) × AsksFor H.came H.rests self.old.conn A.asks
+            load key moment self.old.asker self.new.asker place.old kept place.new }
         ensures conn { self.new.conn ≡ self.old.conn }
     {
         let number = load.number;
@@ -296,10 +296,11 @@ impl<A: Asker> Loading<A> {
     )
         requires known { (conn : Conn) → (place : H.Place) → H.knows conn place }
         ensures told { (kept : Outs)
-            × Resolves H.came H.rests self.old.conn number said place.old kept place.new
+            × Resolves H.came H.rests self.old.conn number moment said place.old kept place.new
             × (host.new.loads.items ≡ host.old.loads.items ++ kept) }
         ensures same { (self.new.conn ≡ self.old.conn)
-            × (self.new.pending.items ≡ self.old.pending.items) }
+            × (self.new.pending.items ≡ self.old.pending.items)
+            × (self.new.asker ≡ self.old.asker) }
     {
         self.settled = self.settled.saturating_add(1);
         match host.settle_load(place, self.conn, number, said, moment) {
@@ -323,6 +324,19 @@ impl<A: Asker> Loading<A> {
             self.settled = self.settled.saturating_add(1);
             host.give_up(place, conn, load.number);
         }
+    }
+
+    /// Gives up the loads that went out and were not asked for.
+    pub fn give_up_out<H: Host>(&mut self, host: &mut Apart<'_, H>, place: &mut H::Place)
+        requires known { (conn : Conn) → (place : H.Place) → H.knows conn place }
+        ensures each { GivesUpEach H.came H.rests self.old.conn place.old
+            (numbers_out host.old.loads.items) place.new }
+        ensures none { host.new.loads.items ≡ [] }
+        ensures same { self.new ≡ record self.old { settled = self.new.settled } }
+    {
+        let loads = host.take_loads();
+        self.settled = self.settled.saturating_add(loads.len() as u64);
+        host.give_up_all(place, self.conn, loads);
     }
 
     /// Gives up the loads that were asked for and not settled, and closes the connection. Returns whoever was asked.

@@ -18,6 +18,8 @@ pub struct Served<L: Drop> {
     pub is_queued: bool,
     /// Whether the connection waits for a load that is requested from another connection's loader.
     pub is_waiting: bool,
+    /// Whether the connection's key is among those that wait for a load, or did.
+    pub is_listed: bool,
     /// Whether the connection's socket reports room to write.
     pub tells_room: bool,
     /// Whether a read of the connection's socket may stop before all that has come.
@@ -35,6 +37,7 @@ impl<L: Drop> Served<L> {
             link,
             is_queued: false,
             is_waiting: false,
+            is_listed: false,
             tells_room: false,
             stops_short,
             quiet: 0,

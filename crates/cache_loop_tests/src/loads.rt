@@ -9,7 +9,7 @@ use audit_model::{Config, EvictionPolicy, Instant, Outcome, Seq, Weight};
 use bivrangd_server::Told;
 use cache_loop::{Counts, Crew, Doorway, LOADED, LineSteward, Pool, Rules, STOP, serve_by};
 use cache_run::{Clock, Loader};
-use cache_serve::{Sitting, Untold};
+use cache_service::{Sitting, Untold};
 use cache_shared::{Seating, Shareable, SharedService};
 use cache_spaces::Service;
 use cached_server::Machine;
@@ -105,6 +105,31 @@ const CASES: &[Case] = &[
             Step::Stop,
             Step::Read(0, b"VAL k\n", 1),
             Step::Read(1, b"VAL k\nVAL k\n", 1),
+        ],
+        asks: 1,
+    },
+    // Of two that wait for the load of a third, one goes. Another one comes, and waits too.
+    Case {
+        loops: 1,
+        loaders: 1,
+        limit: None,
+        steps: &[
+            Step::Connect,
+            Step::Send(0, b"LOAD k\n", 1),
+            Step::Pause(100),
+            Step::Connect,
+            Step::Send(1, b"LOAD k\n", 1),
+            Step::Connect,
+            Step::Send(2, b"LOAD k\nGET k\n", 1),
+            Step::Pause(100),
+            Step::Leave(1),
+            Step::Connect,
+            Step::Send(3, b"LOAD k\n", 1),
+            Step::Pause(100),
+            Step::Stop,
+            Step::Read(0, b"VAL k\n", 1),
+            Step::Read(2, b"VAL k\nVAL k\n", 1),
+            Step::Read(3, b"VAL k\n", 1),
         ],
         asks: 1,
     },

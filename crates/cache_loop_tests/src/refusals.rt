@@ -6,7 +6,7 @@ use crate::loads::make_service;
 use audit_model::{Bytes, LoadId, Outcome};
 use cache_loop::{Asked, Asker, LineSteward, Steward};
 use cache_run::Clock;
-use cache_serve::{Sitting, Untold};
+use cache_service::{Sitting, Untold};
 use cache_shared::{Seating, Shareable, SharedService};
 use cache_spaces::Service;
 use std::alloc::Global;
@@ -41,6 +41,8 @@ struct Slow {
 }
 
 impl Asker for Slow {
+    ghost asks = { λ p load key asked q. Unit {0} };
+
     fn ask(&mut self, load: LoadId, key: Bytes) -> Asked {
         self.answer = Some((load, key));
         Asked::Later

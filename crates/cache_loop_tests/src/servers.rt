@@ -1,7 +1,7 @@
 //! Servers with clients.
 use crate::clients::free_port;
 use crate::scenes::{Players, Step};
-use bivrangd_server::{Alarms, Orders, Told, serve_text};
+use bivrangd_server::{Alarms, Orders, Stopped, Told, serve_text};
 use cached_server::Machine;
 use crossbeam_channel::{Sender, unbounded};
 use std::alloc::{AllocError, Global};
@@ -20,14 +20,20 @@ struct Scene {
     steps: &'static [Step],
 }
 
-/// Serves a text, and tells nobody. Whether it ends well, and the service is handed back.
+/// What becomes of a server that ends well: the service is handed back, and no notice is lost.
+const WELL: Stopped = Stopped {
+    is_whole: true,
+    lost: 0,
+};
+
+/// Serves a text, and tells nobody. Whether it ends well.
 fn serve<R: Machine + Files>(rt: R, alloc: Global, text: &str, orders: Orders) -> bool {
     let mut alarms = Alarms::new(rt, alloc, Vec::new(alloc));
     let shown = (Vec::new(alloc), Vec::new(alloc));
-    matches!(
-        serve_text(rt, alloc, text, shown, &mut alarms, orders),
-        Ok(true)
-    )
+    match serve_text(rt, alloc, text, shown, &mut alarms, orders) {
+        Ok(stopped) => stopped == WELL,
+        Err(_) => false,
+    }
 }
 
 /// What each namespace of lines has beside.
@@ -128,6 +134,43 @@ const SCENES: &[Scene] = &[
             Step::Visit,
             Step::Send(5, b"\x01", 1),
             Step::Find(5, b"HTTP/1.1 400 Bad Request\r\n"),
+        ],
+    },
+    // Other methods, the head alone, and what stands behind a question mark; a client that says nothing holds up no other.
+    Scene {
+        keys: "max_connections = 2",
+        steps: &[
+            Step::Visit,
+            Step::Send(0, b"GET /he", 1),
+            Step::Visit,
+            Step::Send(1, b"HEAD /healthz?full HTTP/1.1\r\n\r\n", 1),
+            Step::Find(1, b"\r\nContent-Length: 3\r\nConnection: close\r\n\r\n"),
+            Step::Visit,
+            Step::Send(
+                2,
+                b"POST /metrics HTTP/1.1\r\nContent-Length: 2\r\n\r\na\n",
+                1,
+            ),
+            Step::Find(
+                2,
+                b"HTTP/1.1 405 Method Not Allowed\r\nAllow: GET, HEAD\r\n",
+            ),
+            Step::Connect,
+            Step::Connect,
+            Step::Send(3, b"GET z\n", 1),
+            Step::Read(3, b"NONE\n", 1),
+            Step::Send(4, b"GET z\n", 1),
+            Step::Read(4, b"NONE\n", 1),
+            Step::Visit,
+            Step::Send(5, b"GET /metrics?a=b HTTP/1.1\r\n\r\n", 1),
+            Step::Find(5, b"\nbivrangd_max_connections{namespace=\"m\"} 2\n"),
+            Step::Visit,
+            Step::Send(6, b"GET /metrics HTTP/1.1\r\n\r\n", 1),
+            Step::Find(
+                6,
+                b"\nbivrangd_connections_refused_total{namespace=\"m\"} 0\n",
+            ),
+            Step::AtEnd(0),
         ],
     },
     // Values that are told, and replies that there is none, are counted; a key in a reply to `KEYS` is neither.

@@ -1,7 +1,7 @@
 //! Devices for tests.
 use audit_model::{Note, Outcome};
 use cache_run::{Clock, Loader};
-use cache_serve::{Devices, Teller};
+use cache_service::{Devices, Teller};
 use std::alloc::Global;
 use std::sync::atomic::{AtomicU64, Ordering};
 use std::sync::{Arc, Wait};

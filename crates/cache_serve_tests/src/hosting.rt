@@ -4,7 +4,7 @@ ghost use Rattle.std.specs.Prelude.{◌≡◌, ◌<◌, length};
 use crate::devices::Plain;
 use crate::meetings::Meeting;
 use crate::steps::finish;
-use cache_serve::{Hosted, host};
+use cache_service::{Hosted, host};
 use cache_shared::{Seat, Seating, Shareable, SharedService};
 use std::alloc::Global;
 use std::io::{Read, Write};

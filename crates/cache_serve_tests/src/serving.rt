@@ -7,7 +7,7 @@ use crate::loaders::{Held, Hold, News, Page};
 use crate::steps::has_one_journal;
 use audit_model::{Closing, Transcript};
 use cache_run::{RunError, Watched};
-use cache_serve::serve;
+use cache_service::serve;
 use cache_shared::{Finished, Seat, Seating, Shareable, SharedService};
 use cache_spaces::Service;
 use moka_audit::{Verdict, audit};

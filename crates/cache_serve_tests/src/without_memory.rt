@@ -7,7 +7,7 @@ use crate::steps::opens;
 use crate::tests::is_so;
 use audit_model::Conn;
 use cache_run::Host;
-use cache_serve::{Sitting, Untold};
+use cache_service::{Sitting, Untold};
 use cache_shared::{Seat, Seating, Shareable, SharedService};
 use std::alloc::Global;
 use std::sync::Wait;

@@ -5,14 +5,24 @@
 //! `next_notice` returns, is the `Note` of a transcript.
 #![tactic(auto)]
 
+mod cutting;
+mod devices;
+mod hosting;
 pub mod model;
+mod pausing;
+mod serving;
+mod sitting;
+mod workers;
 
 pub use audit_laws::Receipt;
 pub use audit_model::{Conn, LoadId, Note as Notice, ServiceError};
 pub use cache_run::{Clock, Loader, RunError, Watched, run};
-pub use cache_serve::{Devices, Hosted, Teller, Untold, host, serve, serve_and_tell};
 pub use cache_shared::{Finished, Intake, IntakeError, Seat, Seating, Shareable, SharedService};
 pub use cache_spaces::{
     AnswerError, Core, Fed, LentReplies, Output, Owed, RecordedService, Refusal, Service,
     copy_note, play,
 };
+pub use devices::{Devices, Teller, Untold};
+pub use hosting::{Hosted, host};
+pub use serving::{serve, serve_and_tell};
+pub use sitting::Sitting;

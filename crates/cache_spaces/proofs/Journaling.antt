@@ -27,8 +27,8 @@ use Rattle.audit_laws.proofs.Journals.{leads_by-more, obeys-led}
 use Rattle.audit_laws.specs.Leading.{LeadsBy, is_parted}
 use Rattle.audit_laws.specs.Placing.{accepted_in}
 use Rattle.audit_laws.specs.declared.receipts.output.Output.{Output}
-use Rattle.cache_store.specs.Recency.{IsPlainLru}
-use Rattle.cache_store.specs.Running.{is_bounded}
+use Rattle.cache_commands.specs.Recency.{IsPlainLru}
+use Rattle.cache_commands.specs.Running.{is_bounded}
 use Rattle.cache_commands.specs.Order.{AgreesWith, Settled}
 use Rattle.cache_lines.specs.Ordered.{OrdersSteps}
 use Rattle.cache_lines.specs.Tape.Taped.{Taped, with_entry}

@@ -21,7 +21,7 @@ use Rattle.audit_laws.specs.Leading.{LeadsBy, LeadsTo}
 use Rattle.audit_laws.specs.Receipts.Answers.{last_is_held, output_with}
 use Rattle.audit_laws.specs.declared.receipts.output.Output.{Output}
 use Rattle.audit_laws.specs.declared.receipts.output.Output.TheVariants.{All, Held}
-use Rattle.cache_store.specs.Values.{GivesNote}
+use Rattle.cache_commands.specs.Values.{GivesNote}
 use Rattle.cache_lines.specs.Ended.{ends_held}
 use Rattle.cache_lines.specs.Tape.Taped.{Taped}
 use Rattle.cache_core.proofs.connections.Getting.{at-mapped, found-at, set-same}

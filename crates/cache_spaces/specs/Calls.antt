@@ -13,8 +13,8 @@ use Rattle.audit_model.specs.declared.transcript.Note.{Note}
 use Rattle.audit_model.specs.declared.transcript.Record.{Record}
 use Rattle.audit_laws.specs.Receipts.Answers.{output_of}
 use Rattle.audit_laws.specs.declared.receipts.output.Output.{Output}
-use Rattle.cache_store.specs.Handing.{TakesFirstNote}
-use Rattle.cache_store.specs.Values.{GivesNote}
+use Rattle.cache_commands.specs.Handing.{TakesFirstNote}
+use Rattle.cache_commands.specs.Values.{GivesNote}
 use Rattle.cache_commands.specs.Loads.Keys.{are_in_turn, have_their_keys}
 use Rattle.cache_lines.specs.Tape.Taped.{Taped}
 use Rattle.cache_core.specs.Settling.{Happens}

@@ -6,7 +6,7 @@ use Rattle.audit_model.specs.Obeys.{Obeys}
 use Rattle.audit_model.specs.Situation.{Situation}
 use Rattle.audit_model.specs.declared.transcript.Transcript.{Transcript}
 use Rattle.audit_laws.specs.Leading.{LeadsTo, LeadsBy}
-use Rattle.cache_store.specs.Recency.{IsPlainLru}
+use Rattle.cache_commands.specs.Recency.{IsPlainLru}
 use Rattle.cache_lines.specs.Tape.Taped.{Taped}
 use Rattle.cache_spaces.specs.Played.{journal_of, KeepsList}
 use Rattle.cache_spaces.specs.Spaces.{Space, StandsFor, config_of, part_in}

@@ -17,7 +17,7 @@ use Rattle.audit_model.specs.declared.transcript.Record.{Record}
 use Rattle.audit_model.specs.declared.transcript.Step.{Step}
 use Rattle.audit_model.specs.declared.transcript.Transcript.{Transcript}
 use Rattle.audit_laws.specs.Leading.{LeadsBy, LeadsTo}
-use Rattle.cache_store.specs.Recency.{AreKeysOf, IsPlainLru}
+use Rattle.cache_commands.specs.Recency.{AreKeysOf, IsPlainLru}
 use Rattle.cache_commands.specs.Order.{AgreesWith, Settled}
 use Rattle.cache_lines.specs.Tape.Taped.{Taped}
 use Rattle.cache_spaces.specs.Services.{is_served}

@@ -10,7 +10,7 @@ use Rattle.audit_model.specs.declared.command.Closing.{Closing}
 use Rattle.audit_model.specs.declared.config.Config.{Config}
 use Rattle.audit_model.specs.declared.input.LoadId.{LoadId}
 use Rattle.audit_model.specs.declared.transcript.Note.{Note}
-use Rattle.cache_store.specs.Values.{Values}
+use Rattle.cache_commands.specs.Values.{Values}
 use Rattle.cache_lines.specs.Drawing.{Identifiers, identifiers_in}
 use Rattle.cache_lines.specs.Tape.Taped.{Taped}
 use Rattle.cache_core.specs.State.{NamespaceState}

@@ -10,7 +10,7 @@ use Rattle.audit_model.specs.declared.transcript.Transcript.{Transcript}
 use Rattle.cache_lines.specs.Lines.{are_timely}
 use Rattle.cache_lines.specs.Ordered.{HaveKeys, order_behind}
 use Rattle.cache_commands.specs.Order.{Order, Settled}
-use Rattle.cache_store.specs.Running.{is_bounded}
+use Rattle.cache_commands.specs.Running.{is_bounded}
 
 -- these records follow one another from a situation on, and the fact is true of each, of the situation before it and of the one to which it
 -- leads

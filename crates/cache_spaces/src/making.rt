@@ -6,9 +6,9 @@ ghost use Rattle.cache_spaces.specs.Services.{is_served, AreNewSpaces, IsNewName
 use crate::service::SpaceStore;
 use crate::tapes::NewTape;
 use audit_model::{Config, Instant};
+use cache_commands::Store;
 use cache_core::Namespace;
 use cache_front::{FrontStore, KeyedHasher};
-use cache_store::Store;
 use rand_core::{Rng, SeedableRng};
 use rand_xoshiro::Xoshiro256PlusPlus;
 use std::alloc::{AllocError, Global};

@@ -1,7 +1,7 @@
 -- What an accepting leaves of a store, whether it is refused or not.
 use Rattle.std.proofs.Common.{◌≡◌, ◌≤◌, ap, arith, ℕ, Bool, false, List, Option, Result, Ok, Err, IfOk, OnErr}
-use Rattle.cache_store.specs.Promises.{Frame}
-use Rattle.cache_store.specs.Values.{AcceptsValue, Values}
+use Rattle.cache_commands.specs.Promises.{Frame}
+use Rattle.cache_commands.specs.Values.{AcceptsValue, Values}
 
 -- the configuration stays
 pub accepted-config : {S E : Type 0} (view : S → Values) (now : ℕ) (key bytes : List ℕ) (ms : Option ℕ) (was is : S) (r : Result ℕ E) → IfOk r (λ part. (looked_up : Bool) → AcceptsValue now key bytes ms looked_up part (view was) (view is)) → OnErr r (is ≡ was) → (view is).frame.config ≡ (view was).frame.config

@@ -14,11 +14,11 @@ use crate::rows::{Case, Row};
 use audit_model::{
     Bytes, Closing, Config, Conn, Input, Instant, LoadId, Note, Outcome, ServiceError,
 };
+use cache_commands::Store;
 use cache_core::Namespace;
 use cache_front::FrontStore;
 use cache_lines::Bare;
 use cache_spaces::{Output, Refusal};
-use cache_store::Store;
 use rand_core::Rng;
 use std::alloc::Global;
 use std::hash::BuildHasher;

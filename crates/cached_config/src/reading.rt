@@ -110,7 +110,7 @@ pub fn read_config(alloc: Global, text: &str) -> Result<Vec<HostedNamespace>, Co
 
 /// Like `read_config`, for `bivrangd`. In addition a namespace may have `bind` (an IP address, by default 127.0.0.1, or the path of a Unix
 /// socket, of at most 107 bytes), `mode` (the permissions of that socket, by default `"660"`), `loops` (1 to 64), `max_connections` (1 to
-/// 1,000,000, by default 10,000), `idle_s` (1 to 86,400,000; by default idle connections stay), `notices` (`"values"`, the default,
+/// 1,000,000, by default 10,000), `idle_s` (1 to 86,400,000; by default as the server has it), `notices` (`"values"`, the default,
 /// `"keys"` or `"off"`), `load_ms` (1 to 86,400,000; by default no load is given up for its time) and `protocol` (`"lines"`, the default, or
 /// `"memcache"`), and the file may have a table `metrics` with a `port`, which is no namespace's. No two namespaces have the same path.
 ///

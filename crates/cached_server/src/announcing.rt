@@ -5,7 +5,7 @@ use crate::devices::{ListLoader, StartClock};
 use crate::lines::Lines;
 use crate::outbox::{Outbox, ROOM};
 use audit_model::Note;
-use cache_serve::{Devices, Teller};
+use cache_service::{Devices, Teller};
 use cached_config::HostedNamespace;
 use std::alloc::{AllocError, Global};
 use std::io::Write;

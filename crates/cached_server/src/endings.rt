@@ -12,7 +12,7 @@ use std::io;
 use std::io::Write;
 
 /// The command that lists all that is wrong with a configuration file.
-const CHECK: &str = "cached_check";
+const CHECK: &str = "bivrangd --check";
 
 /// What there is to say of a fault in addition to its text.
 #[derive(Debug, Drop)]

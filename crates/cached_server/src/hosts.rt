@@ -8,7 +8,7 @@ use crate::endings::Ending;
 use crate::machine::{Machine, Shown};
 use crate::script::Fault;
 use crate::services::make_service;
-use cache_serve::host;
+use cache_service::host;
 use cache_shared::{Seating, SharedService};
 use cache_spaces::Service;
 use cached_config::HostedNamespace;

@@ -147,7 +147,7 @@ where
 /// What the program says of a bad file at a path, whose first fault this is.
 fn told_of(alloc: Global, path: &str, fault: &str) -> Result<String, AllocError> {
     let told = "cached: bad configuration\n";
-    Ok(format!(in alloc; "{told}{path}:{fault} (`cached_check {path}` lists all)\n")?)
+    Ok(format!(in alloc; "{told}{path}:{fault} (`bivrangd --check {path}` lists all)\n")?)
 }
 
 /// What the program says of a file at a path that is not UTF-8.

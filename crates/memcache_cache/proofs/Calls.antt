@@ -28,7 +28,7 @@ use Rattle.front_reference.specs.Parts.{Inserts, TakesOut, takes_nothing}
 use Rattle.front_reference.specs.Wholes.{first_or, next_told, taken_or, without_told}
 use Rattle.memcache_cache.proofs.Parts.{Left, bare-seen, clears, inserts, looked, passes, takes_out}
 use Rattle.memcache_cache.specs.Rules.{item_answers}
-use Rattle.memcache_cache.specs.Showing.{shelved_by}
+use Rattle.memcache_cache.specs.Showing.{AreTold, shelved_by}
 use Rattle.memcache_cache.specs.declared.rules.ItemRules.{ItemRules}
 use Rattle.std.specs.Str.{bytes_eq}
 use Rattle.memcache_model.specs.Items.{Item, Items, nothing, unexpired, with_item}
@@ -266,3 +266,7 @@ module _ {K V P S R : Type 0} where
           → waiting (taken_or notices (without_notice s ∷ ss) (s ∷ without_told ss)) < waiting (s ∷ ss)
       go [] is told later = let less = later told in omega arith
       go (n ∷ ns) is told later = omega (arith, ap length is, ap (λ (x : List (Notice K V)). length (drop 1 x)) is)
+
+-- one notice more was taken
+pub told_more : {P S R : Type 0} (old mid new : Front (List ℕ) Item P S R) → AreTold old mid → new ≡ record mid { parts = without_told mid.parts } → AreTold old new
+told_more old mid new told is = (suc told.0, is ∙ ap (λ (f : Front (List ℕ) Item _ _ _). record f { parts = without_told f.parts }) told.1)

@@ -1,21 +1,25 @@
 //! Items in a lent cache.
-ghost use Rattle.std.specs.Prelude.{◌≡◌, ◌*◌, ◌<◌, ◌≤◌, ◌^◌, Ok, IfOk, is_some, nat_lt, option_map};
+ghost use Rattle.std.specs.Prelude.{◌≡◌, ◌*◌, ◌<◌, ◌≤◌, ◌^◌, [], IfOk, None, OnErr, OnOk, Some, nat_lt, option_map};
 ghost use Rattle.memcache_cache.specs.Rules.{item_weight};
 ghost use Rattle.memcache_cache.specs.Showing.{shelved_by};
 ghost use Rattle.memcache_cache.specs.Weights.{IsItemCache};
-ghost use Rattle.memcache_model.specs.Items.{unexpired};
-ghost use Rattle.memcache_service.specs.Shelves.{MayComeAt, ShowsNothing};
-ghost use Rattle.front_parts.specs.Places.Calls.{hash_in};
+ghost use Rattle.memcache_model.specs.Items.{unexpired, with_item};
+ghost use Rattle.memcache_model.specs.Outcomes.{new_item};
+ghost use Rattle.memcache_service.specs.Shelves.{Becomes, MayComeAt, SeesLive, ShowsNothing};
 
 use crate::rules::ItemRules;
 use audit_model::Key;
+use engine_reference::Rules;
+use front_parts::{EvictionPolicy, HasWays, Notice, RemovalCause, Settings};
+use front_reference::{At, ClonedKey, Shared};
+use front_state::{LentState, Single};
 use memcache_service::{Counters, Shelf, StoredItem, Tally};
-use moka::{
-    At, EvictionPolicy, HasWays, Instant, LentState, Notice, RemovalCause, Rules, Settings, Shared,
-    Single,
-};
+use policy_base::Instant;
 use std::alloc::{AllocError, Global};
 use std::hash::BuildHasher;
+
+/// An item of more bytes is emptied before it is removed, so that a removal needs no memory for a copy of it.
+const MOST_COPIED: usize = 4096;
 
 /// A lent cache of one part.
 type Cache<S> = LentState<Key, StoredItem, S, ItemRules, Single>;
@@ -85,15 +89,35 @@ impl<S: BuildHasher + Drop> LentShelf<S> {
         capacity < u64::from(ItemRules.weight(key, item))
     }
 
-    /// The key that an item is kept under: the one that is held already, or a copy.
-    fn kept_key(&self, key: &Key, hash: u64) -> Result<Shared<Key>, AllocError>
-        requires { hash ≡ hash_in ⟦<ItemRules as HasWays<Key, StoredItem, S>>⟧.ways
-            self.now.cache key.now }
-        ensures { IfOk result (λ kept. kept ≡ key.now) }
+    /// Whether the item of a key is too large to be copied for the notice of its removal.
+    fn is_large(&self, key: &Key, moment: u64) -> bool
+        requires { moment < 2 ^ 43 }
     {
-        match self.cache.held_key(key, hash)? {
-            Some(held) => Ok(held),
-            None => Shared::new(self.alloc, key.clone()?),
+        match self.cache.peek(key, instant(moment)) {
+            Some(item) => item.bytes.len() > MOST_COPIED,
+            None => false,
+        }
+    }
+
+    /// Takes the item of a key out, of which the cache makes a copy for its notice. Returns an error if there is not enough memory; then
+    /// nothing has changed.
+    fn take_out(&mut self, key: &Key, moment: u64) -> Result<(), AllocError>
+        requires { MayComeAt (shelved_by ⟦<ItemRules as HasWays<Key, StoredItem, S>>⟧.ways
+            self.old.cache) moment }
+        ensures removes { OnOk result (Becomes moment (with_item key.now None
+            ((shelved_by ⟦<ItemRules as HasWays<Key, StoredItem, S>>⟧.ways self.old.cache).items
+            moment)) (shelved_by ⟦<ItemRules as HasWays<Key, StoredItem, S>>⟧.ways
+            self.new.cache)) }
+        ensures capacity { (shelved_by ⟦<ItemRules as HasWays<Key, StoredItem, S>>⟧.ways
+            self.new.cache).capacity ≡ (shelved_by
+            ⟦<ItemRules as HasWays<Key, StoredItem, S>>⟧.ways self.old.cache).capacity }
+        ensures unchanged { OnErr result (self.new ≡ self.old) }
+    {
+        self.cache.keeps();
+        let at = self.at(moment);
+        match self.cache.invalidate(key, at) {
+            Ok(()) => Ok(()),
+            Err(_) => Err(AllocError),
         }
     }
 }
@@ -131,22 +155,49 @@ fn unexpired(found: Option<&StoredItem>, moment: u64) -> Option<&StoredItem>
     }
 }
 
-/// Counts an item that left by itself.
+/// Passes an item, unless it has expired, and what is behind `output`, to `see`, and returns what `see` returns, also if that is an error.
+fn show_live<O, X, E, F: FnOnce(Option<&StoredItem>, &mut O) -> Result<X, E> + Drop>(
+    found: Option<&StoredItem>,
+    moment: u64,
+    output: &mut O,
+    see: F,
+) -> Result<X, E>
+    requires { F.IsAlwaysCallable see }
+    ensures { SeesLive F.FnOnce see
+        (unexpired moment (option_map (λ item. item.now) found.entry)) output.old result
+        output.new }
+{
+    see(unexpired(found, moment), output)
+}
+
+/// What stands in the place of a large item that is removed: it has expired, and no unique.
+fn emptied(alloc: Global, moment: u64) -> StoredItem
+    ensures { result ≡ new_item [] 0 (Some moment) }
+{
+    StoredItem::new(Vec::new(alloc), 0, Some(moment))
+}
+
+/// Counts an item that left by itself; one without a unique was removed.
 fn count_removal(counters: &mut Counters, notice: &Notice<Shared<Key>, StoredItem>) {
     match notice.cause {
         RemovalCause::Size => counters.up(Tally::Evictions),
-        RemovalCause::Expired => counters.up(Tally::Expired),
+        RemovalCause::Expired if notice.value.unique != 0 => counters.up(Tally::Expired),
         _ => {}
     }
 }
 
 impl<S: BuildHasher + Drop> Shelf for LentShelf<S> {
     ghost use Rattle.memcache_cache.specs.Rules.{item_weight};
-    ghost use Rattle.memcache_cache.specs.Showing.{shelved_by};
+    ghost use Rattle.memcache_cache.specs.Showing.{AreTold, looks_up_by, shelved_by};
 
     ghost view = { λ s. shelved_by ⟦<ItemRules as HasWays<Key, StoredItem, S>>⟧.ways s.cache };
 
     ghost weigh = { item_weight };
+
+    ghost uses = { λ moment key old new. looks_up_by
+        ⟦<ItemRules as HasWays<Key, StoredItem, S>>⟧.ways moment key old.cache new.cache };
+
+    ghost counts = { λ old new. AreTold old.cache new.cache };
 
     fn pass(&self) {}
 
@@ -158,21 +209,21 @@ impl<S: BuildHasher + Drop> Shelf for LentShelf<S> {
         unexpired(self.cache.peek(key, instant(moment)), moment)
     }
 
-    fn note_use(&mut self, key: &Key, moment: u64) -> bool {
+    fn look<O, X, E, F: FnOnce(Option<&StoredItem>, &mut O) -> Result<X, E> + Drop>(
+        &mut self,
+        key: &Key,
+        moment: u64,
+        output: &mut O,
+        see: F,
+    ) -> Result<X, E> {
         self.cache.keeps();
-        let mut nothing = ();
-        let looked = self.cache.look_up(
-            key,
-            instant(moment),
-            &mut nothing,
-            |found: Option<&StoredItem>, _: &mut ()| -> Result<bool, AllocError>
-                ensures { result ≡ Ok (is_some
-                    (unexpired moment (option_map (λ item. item.now) found.entry))) }
-            { Ok(unexpired(found, moment).is_some()) },
-        );
-        match looked {
-            Ok(is_found) => is_found,
-            Err(AllocError) => false,
+        match self
+            .cache
+            .look_up(key, instant(moment), output, |found, output| {
+                show_live(found, moment, output, see)
+            }) {
+            Ok(answer) => Ok(answer),
+            Err(error) => Err(error),
         }
     }
 
@@ -183,20 +234,24 @@ impl<S: BuildHasher + Drop> Shelf for LentShelf<S> {
         self.cache.keeps();
         let hash = self.cache.hash(key);
         let at = self.at(moment);
-        let kept = self.kept_key(key, hash)?;
-        match self.cache.insert_with_hash(kept, hash, item, at) {
+        let alloc = self.alloc;
+        match self
+            .cache
+            .insert_named(ClonedKey { key, alloc }, hash, item, at)
+        {
             Ok(()) => Ok(()),
             Err(_) => Err(AllocError),
         }
     }
 
     fn remove(&mut self, key: &Key, moment: u64) -> Result<(), AllocError> {
-        self.cache.keeps();
-        let at = self.at(moment);
-        match self.cache.invalidate(key, at) {
-            Ok(()) => Ok(()),
-            Err(_) => Err(AllocError),
+        if !self.is_large(key, moment) {
+            return self.take_out(key, moment);
         }
+        self.put(key, emptied(self.alloc, moment), moment)?;
+        // (nothing is live under the key any more, also if the empty item cannot be taken out yet)
+        let _taken = self.take_out(key, moment);
+        Ok(())
     }
 
     fn clear(&mut self, moment: u64) -> Result<(), AllocError> {

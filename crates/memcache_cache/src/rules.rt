@@ -4,8 +4,9 @@ ghost use Rattle.std.specs.Duration.{as_nanos};
 ghost use Rattle.memcache_cache.specs.Rules.{item_answers, left_of, left_until};
 
 use audit_model::Key;
+use engine_reference::{Expiration, Rules};
 use memcache_service::StoredItem;
-use moka::{Expiration, Instant, Rules};
+use policy_base::Instant;
 use std::time::Duration;
 
 /// What an item costs beside its key and its bytes, in bytes of memory: as measured of 400,000 items of 48 bytes.

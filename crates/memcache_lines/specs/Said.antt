@@ -1,4 +1,5 @@
 -- What requests and lines say.
+use Rattle.std.specs.Prelude.{[], ◌∷◌}
 use Rattle.memcache_model.specs.Bytes.{tokens}
 use Rattle.memcache_model.specs.Commands as model
 use Rattle.memcache_model.specs.Grammar.{RequestLine, whole, head, meta_head}
@@ -6,13 +7,14 @@ use Rattle.memcache_model.specs.Grammar as model-of
 use Rattle.memcache_lines.specs.declared.arrival.Arrived as arrival
 use Rattle.memcache_lines.specs.declared.arrival.Arrived.TheVariants.{Part, Request}
 use Rattle.memcache_lines.specs.declared.line.Command.{Command}
-use Rattle.memcache_lines.specs.declared.line.Command.TheVariants.{Get, Gat, Store, Oversize, Delete, Arithmetic, Touch, FlushAll, Stats, Version, Verbosity, Quit, Meta, MetaSet, MetaOversize, MetaNoOp, Malformed}
+use Rattle.memcache_lines.specs.declared.line.Command.TheVariants.{Get, GetOne, Gat, Store, Oversize, Delete, Arithmetic, Touch, FlushAll, Stats, Version, Verbosity, Quit, Meta, MetaSet, MetaOversize, MetaNoOp, Malformed}
 use Rattle.memcache_lines.specs.declared.line.Line.{Line}
 use Rattle.memcache_lines.specs.declared.line.Line.TheVariants.{Whole, Head, MetaHead}
 
 -- what a command asks for
 abbrev pub asks : Command → model.Command
 asks (Get uniques keys) = model.get uniques (tokens keys.now)
+asks (GetOne uniques key) = model.get uniques (key.now ∷ [])
 asks (Gat uniques exptime keys) = model.gat uniques exptime (tokens keys.now)
 asks (Store storage key flags exptime block) = model.store storage key.now flags exptime block.now
 asks (Oversize storage key) = model.oversize storage key.now

@@ -1,5 +1,5 @@
 //! What a line says, with its words as they are in it.
-ghost use Rattle.std.specs.Prelude.{◌≡◌, codes, bytes_eq};
+ghost use Rattle.std.specs.Prelude.{◌≡◌, ◌∷◌, codes, bytes_eq};
 ghost use Rattle.memcache_model.specs.Bytes.{tokens};
 ghost use Rattle.memcache_model.specs.Grammar.{request_line, whole, faulty, keys_fault, read_get, read_gat, read_delete, delete_quiet, delete_word, delete_words, on_key, read_arithmetic, read_touch, read_flush, timed, read_verbosity, read_meta, read_arguments, stranger, verb_named, rare_verb_in, server_verb_in, meta_verb_in, quiet_in, exptime_in};
 ghost use Rattle.memcache_model.specs.Commands.{flush_all};
@@ -18,6 +18,11 @@ pub enum Command<'a> {
     Get {
         uniques: bool,
         keys: &'a [u8],
+    },
+    /// The same of one key.
+    GetOne {
+        uniques: bool,
+        key: &'a [u8],
     },
     /// `gat`, and `gats` if uniques are told.
     Gat {
@@ -250,7 +255,13 @@ fn read_behind<'a>(verb: Verb, rest: &'a [u8]) -> Line<'a>
 fn read_get<'a>(uniques: bool, keys: &'a [u8]) -> Line<'a>
     ensures { said_by result ≡ read_get uniques (tokens keys.now) }
 {
-    match check_keys(keys) {
+    let Some((key, more)) = next_token(keys) else {
+        return fault(ProtocolError::Unknown);
+    };
+    if !has_token(more) {
+        return on_key(key, Command::GetOne { uniques, key }, false);
+    }
+    match check_behind(key, more) {
         None => all_of(Command::Get { uniques, keys }, false),
         Some(error) => fault(error),
     }
@@ -260,9 +271,17 @@ fn read_get<'a>(uniques: bool, keys: &'a [u8]) -> Line<'a>
 fn check_keys(keys: &[u8]) -> Option<ProtocolError>
     ensures { result ≡ keys_fault (tokens keys.now) }
 {
-    if !has_token(keys) {
-        Some(ProtocolError::Unknown)
-    } else if are_keys(keys) {
+    match next_token(keys) {
+        Some((key, more)) => check_behind(key, more),
+        None => Some(ProtocolError::Unknown),
+    }
+}
+
+/// The same of a key and those behind it.
+fn check_behind(key: &[u8], more: &[u8]) -> Option<ProtocolError>
+    ensures { result ≡ keys_fault (key.now ∷ tokens more.now) }
+{
+    if key_fits(key) && are_keys(more) {
         None
     } else {
         Some(ProtocolError::Format)

@@ -5,4 +5,5 @@ mod Feeding
 mod Finding
 mod Keeping
 mod Parting
+mod Placing
 mod Touching

@@ -6,7 +6,7 @@ use Rattle.std.proofs.lemmas.List.{drop-drop, length-drop, take_all}
 use Rattle.memcache_model.specs.Commands.{Request}
 use Rattle.memcache_model.specs.Grammar.{Arrived, arrived, part, request}
 use Rattle.memcache_service.specs.Serving.{AreServed, HasLacked, IsRequestServed, ends_behind, one_more}
-use Rattle.memcache_service.specs.Shelves.{Shelved}
+use Rattle.memcache_service.specs.declared.shelf.Shelf.{Ghosts}
 use Rattle.memcache_service.specs.Stocks.{Spares}
 use Rattle.memcache_service.specs.declared.stock.Stock.{Stock}
 
@@ -29,14 +29,14 @@ drop-there bytes start used there within is = ⊎_elim
     (cases_lt used (length bytes - start))
 
 -- one more request was served
-pub served_one : {T : Type 0} (view : T → Shelved) (moment most : ℕ) (first : Stock T) (bytes : List ℕ) (skipped : ℕ) (before : List ℕ) (mid new : Stock T) (r : Request) (used skip start there : ℕ) (between after : List ℕ)
-    → start ≤ length bytes → there ≡ min used (length bytes - start) → AreServed view moment most first bytes skipped before mid (drop start bytes) skip between false
-    → arrived most (drop start bytes) ≡ request r used → IsRequestServed view moment r mid new between after → AreServed view moment most first bytes skipped before new (drop (start + there) bytes) (used - there) after (ends_behind r.command)
-served_one view moment most first bytes skipped before mid new r used skip start there between after within is were arrives served =
+pub served_one : {T : Type 0} (shelf : Ghosts T) (moment most : ℕ) (first : Stock T) (bytes : List ℕ) (skipped : ℕ) (before : List ℕ) (mid new : Stock T) (r : Request) (used skip start there : ℕ) (between after : List ℕ)
+    → start ≤ length bytes → there ≡ min used (length bytes - start) → AreServed shelf moment most first bytes skipped before mid (drop start bytes) skip between false
+    → arrived most (drop start bytes) ≡ request r used → IsRequestServed shelf moment r mid new between after → AreServed shelf moment most first bytes skipped before new (drop (start + there) bytes) (used - there) after (ends_behind r.command)
+served_one shelf moment most first bytes skipped before mid new r used skip start there between after within is were arrives served =
     let left = drop start bytes in
     let same : used - length left ≡ used - there = omega (arith, is, length-drop start bytes) in
-    subst (λ (l : List ℕ). AreServed view moment most first bytes skipped before new l (used - there) after (ends_behind r.command)) (drop-there bytes start used there within is)
-    (subst (λ (n : ℕ). AreServed view moment most first bytes skipped before new (drop used left) n after (ends_behind r.command)) same
+    subst (λ (l : List ℕ). AreServed shelf moment most first bytes skipped before new l (used - there) after (ends_behind r.command)) (drop-there bytes start used there within is)
+    (subst (λ (n : ℕ). AreServed shelf moment most first bytes skipped before new (drop used left) n after (ends_behind r.command)) same
     (one_more mid new r used skip left between after were arrives served))
 
 -- what stands at the front of the bytes from a place on
@@ -45,12 +45,12 @@ arrived-from most now bytes start a is same =
     sym (is ∙ ap (λ (n : ℕ). arrived n (take (length bytes - start) (drop start bytes))) same ∙ ap (arrived most) (take_all (length bytes - start) (drop start bytes) (omega (arith, length-drop start bytes))))
 
 -- there was no memory for one more
-pub lacked : {T : Type 0} (view : T → Shelved) (moment most : ℕ) (first : Stock T) (bytes : List ℕ) (skipped : ℕ) (before : List ℕ) (last new : Stock T) (left : List ℕ) (skip : ℕ) (between after : List ℕ) (ends : Bool)
-    → ends ≡ false → AreServed view moment most first bytes skipped before last left skip between ends → Spares last new → after ≡ between → HasLacked view moment most first bytes skipped before new after
-lacked view moment most first bytes skipped before last new left skip between after ends still were spared same = record {
+pub lacked : {T : Type 0} (shelf : Ghosts T) (moment most : ℕ) (first : Stock T) (bytes : List ℕ) (skipped : ℕ) (before : List ℕ) (last new : Stock T) (left : List ℕ) (skip : ℕ) (between after : List ℕ) (ends : Bool)
+    → ends ≡ false → AreServed shelf moment most first bytes skipped before last left skip between ends → Spares last new → after ≡ between → HasLacked shelf moment most first bytes skipped before new after
+lacked shelf moment most first bytes skipped before last new left skip between after ends still were spared same = record {
   last = last;
   left = left;
   skip = skip;
-  served = subst (λ (said : List ℕ). AreServed view moment most first bytes skipped before last left skip said false) (sym same) (subst (λ (e : Bool). AreServed view moment most first bytes skipped before last left skip between e) still were);
+  served = subst (λ (said : List ℕ). AreServed shelf moment most first bytes skipped before last left skip said false) (sym same) (subst (λ (e : Bool). AreServed shelf moment most first bytes skipped before last left skip between e) still were);
   spared = spared;
 }

@@ -5,9 +5,9 @@ use Rattle.memcache_model.specs.Commands.{Command, Request, malformed, quit}
 use Rattle.memcache_model.specs.Grammar.{arrived, part, request}
 use Rattle.memcache_model.specs.Items.{live_stock}
 use Rattle.memcache_model.specs.declared.fault.ProtocolError.TheVariants.{Foreign, TooLong}
-use Rattle.memcache_service.specs.Shelves.{Shelved}
 use Rattle.memcache_service.specs.Stocks.{WritesReply, Spares, kept_until}
 use Rattle.memcache_service.specs.declared.connection.Connection.{Connection}
+use Rattle.memcache_service.specs.declared.shelf.Shelf.{Ghosts}
 use Rattle.memcache_service.specs.declared.counters.Counters.{Counters}
 use Rattle.memcache_service.specs.declared.stock.Stock.{Stock}
 
@@ -18,11 +18,12 @@ ends_behind (malformed TooLong) = true
 ends_behind (malformed Foreign) = true
 ends_behind command = false
 
-module _ {T : Type 0} (view : T → Shelved) (moment : ℕ) where
+module _ {T : Type 0} (shelf : Ghosts T) (moment : ℕ) where
   -- a request is served as the definitions say, behind a flush that was due
   abbrev pub IsRequestServed : Request → (old new : Stock T) → (before after : List ℕ) → Type 0
   IsRequestServed r old new before after =
-      WritesReply view moment (live_stock moment (kept_until view moment old)) r old new before after
+      WritesReply shelf moment (live_stock moment (kept_until shelf.view moment old)) r old new before
+      after
 
   -- Requests were served, each that at the front of what the one before it left of the bytes, and their replies stand behind what stood
   -- before them. What is left of the bytes, how many bytes to come belong to the last request, and whether the connection ends behind it
@@ -70,11 +71,11 @@ module _ {T : Type 0} (view : T → Shelved) (moment : ℕ) where
       × (after.is_closed ≡ true)
 
 -- requests that were served of bytes are served alike with more bytes behind them
-abbrev pub AreServedAlike : {T : Type 0} → (view : T → Shelved) → Type 0
-AreServedAlike {T} view =
+abbrev pub AreServedAlike : {T : Type 0} → Ghosts T → Type 0
+AreServedAlike {T} shelf =
     (moment most : ℕ) (first new : Stock T) (bytes more left before after : List ℕ) (ends : Bool)
-    → AreServed view moment most first bytes 0 before new left 0 after ends
-    → AreServed view moment most first (bytes ++ more) 0 before new (left ++ more) 0 after ends
+    → AreServed shelf moment most first bytes 0 before new left 0 after ends
+    → AreServed shelf moment most first (bytes ++ more) 0 before new (left ++ more) 0 after ends
 
 -- something was done for one of some connections, over the stock, in which it was counted. The other connections stay as they were
 pub record IsDoneFor {T : Type 0} (conn : ℕ)
@@ -88,9 +89,9 @@ pub record IsDoneFor {T : Type 0} (conn : ℕ)
   pub done : does before after (record stock { counters = counted }) then
 
 -- a connection that had not ended was fed a piece, and goes on or not; one that had ended stays as it was
-abbrev pub HasFed : {T : Type 0} → (T → Shelved) → (moment : ℕ) → (piece : List ℕ)
+abbrev pub HasFed : {T : Type 0} → Ghosts T → (moment : ℕ) → (piece : List ℕ)
     → (goes_on : Bool) → (before after : Connection) → (first new : Stock T) → Type 0
-HasFed view moment piece goes_on before after first new =
+HasFed shelf moment piece goes_on before after first new =
     (goes_on ≡ not after.is_closed)
-    × (before.is_closed ≡ false → Feeds view moment piece before after first new)
+    × (before.is_closed ≡ false → Feeds shelf moment piece before after first new)
     × (before.is_closed ≡ true → (after ≡ before) × (new ≡ first))

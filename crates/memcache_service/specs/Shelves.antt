@@ -1,7 +1,9 @@
 -- What a shelf has, and what a call does to it.
-use Rattle.std.specs.Prelude.{◌≡◌, ℕ, ◌+◌, ◌≤◌, ◌<◌, ◌^◌, ◌⊎◌, false, List, [], ◌∷◌, length, None}
+use Rattle.std.specs.Prelude.{◌≡◌, ℕ, ◌+◌, ◌≤◌, ◌<◌, ◌^◌, ◌⊎◌, false, List, [], ◌∷◌, length, Option, Some, None, IfSome}
+use Rattle.std.specs.Borrow.{Bor, MutBor}
+use Rattle.std.specs.Fn.{Once}
 use Rattle.std.specs.List.{list_any}
-use Rattle.std.specs.Option.{option_map_or}
+use Rattle.std.specs.Option.{option_map, option_map_or}
 use Rattle.std.specs.Str.{bytes_eq}
 use Rattle.memcache_model.specs.Items.{Item, Items, unexpired}
 
@@ -33,6 +35,28 @@ AreLeft moment all is = (key : List ℕ)
 pub record Becomes (moment : ℕ) (all : Items) (shelved : Shelved) : Type 0 where
   pub items : AreLeft moment all (shelved.items moment)
   pub latest : shelved.latest ≡ moment
+
+-- a call was passed the live item of a key, if there is one, and the value behind a `&mut`; it returned this, and left that there
+pub record SeesLive {F O A : Type 0}
+    (see : Once F (Option (Bor Item) × (MutBor O × Unit {0})) (A × (MutBor O × Unit {0}))) (f : F)
+    (live : Option Item) (old : O) (answer : A) (new : O) : Type 0 where
+  pub found : Option (Bor Item)
+  pub is : option_map (λ (b : Bor Item). b.now) found ≡ live
+  pub shown : MutBor O
+  pub shows : shown.now ≡ old
+  pub left : MutBor O
+  pub met : see.post f (found, (shown, tt)) (answer, (left, tt))
+  pub leaves : left.now ≡ new
+
+-- the key, if it is the only one
+abbrev pub lone_key : List (List ℕ) → Option (List ℕ)
+lone_key (key ∷ []) = Some key
+lone_key keys = None
+
+-- of the keys of a request, that of its only one is used
+abbrev pub UsesOne : {T : Type 0} → (uses : ℕ → List ℕ → T → T → Type 0) → (moment : ℕ)
+    → List (List ℕ) → (old new : T) → Type 0
+UsesOne uses moment keys old new = IfSome (lone_key keys) (λ key. uses moment key old new)
 
 -- as time passes items may leave, and no other appears
 abbrev pub OnlyLeave : Shelved → Type 0

@@ -1,15 +1,22 @@
 -- What a stock stands for, and what a command does to it.
-use Rattle.std.specs.Prelude.{◌≡◌, ℕ, ◌⊎◌, ◌||◌, Bool, true, false, List, [], ◌∷◌, ◌++◌, length, take, if◌then◌else◌, Option, Some, None, codes}
+use Rattle.std.specs.Prelude.{◌≡◌, ℕ, ◌⊎◌, ◌||◌, Bool, true, false, not, List, [], ◌∷◌, ◌++◌, length, take, if◌then◌else◌, Option, Some, None, is_some, codes}
 use Rattle.std.specs.Str.{bytes_eq}
-use Rattle.memcache_model.specs.Commands.{Command, Request, get, gat, stats, meta, meta_set}
+use Rattle.memcache_model.specs.Commands.{Command, Request, get, gat, oversize, flush_all, stats, version, verbosity, quit, meta, meta_set, meta_oversize, meta_no_op, malformed}
 use Rattle.memcache_model.specs.Items as model
 use Rattle.memcache_model.specs.Answers.{Service, answer, touched}
-use Rattle.memcache_model.specs.Items.{Item, exptime_deadline}
+use Rattle.memcache_model.specs.Items.{Item, exptime_deadline, moment_has_come}
+use Rattle.memcache_model.specs.Meta.{count_fault, flags_fault, set_fault}
 use Rattle.memcache_model.specs.Outcomes.{Outcome, new_item, says_text, stores_item}
+use Rattle.memcache_model.specs.declared.command.Exptime.TheVariants.{Seconds}
+use Rattle.memcache_model.specs.declared.command.Meta.{Meta}
+use Rattle.memcache_model.specs.declared.command.Meta.TheVariants.{Arithmetic}
+use Rattle.memcache_model.specs.declared.command.Storage.TheVariants.{Set}
+use Rattle.memcache_model.specs.declared.fault.ProtocolError.{ProtocolError}
 use Rattle.memcache_service.specs.Lines.{reply_text, said_from}
 use Rattle.memcache_service.specs.declared.replies.Reply.{Reply}
 use Rattle.memcache_service.specs.declared.replies.Reply.TheVariants.{NoMemory, NoRoom, NoStatistics, Reset}
-use Rattle.memcache_service.specs.Shelves.{MayComeAt, Shelved, live_on}
+use Rattle.memcache_service.specs.Shelves.{MayComeAt, Shelved, UsesOne, live_on}
+use Rattle.memcache_service.specs.declared.shelf.Shelf.{Ghosts}
 use Rattle.memcache_service.specs.declared.stock.Stock.{Stock}
 use Rattle.memcache_service.specs.declared.stock.storing.Block.{Block}
 
@@ -25,6 +32,32 @@ is_short (stats words) = false
 is_short (meta kind key flags) = false
 is_short (meta_set key flags block) = false
 is_short command = true
+
+-- what is wrong with the flags of a meta command on a key, if anything is
+abbrev pub meta_fault : Meta → List (List ℕ) → Option ProtocolError
+meta_fault Arithmetic flags = count_fault flags
+meta_fault kind flags = flags_fault flags
+
+-- whether memory may be lacking for a command. One that is malformed, or says one line and leaves all as it is whatever is there, needs
+-- none
+abbrev pub may_want : Command → Bool
+may_want (oversize Set key) = true
+may_want (oversize storage key) = false
+may_want (flush_all (Seconds n)) = false
+may_want version = false
+may_want verbosity = false
+may_want quit = false
+may_want meta_no_op = false
+may_want (malformed error) = false
+may_want (meta kind key flags) = not (is_some (meta_fault kind flags))
+may_want (meta_set key flags block) = not (is_some (set_fault flags))
+may_want (meta_oversize key flags) = not (is_some (set_fault flags))
+may_want command = true
+
+-- the keys that a command reads
+abbrev pub keys_read : Command → List (List ℕ)
+keys_read (get uniques keys) = keys
+keys_read command = []
 
 -- what is replied where memory is lacking
 abbrev pub IsRefusal : List ℕ → Type 0
@@ -127,28 +160,40 @@ module _ {T : Type 0} (view : T → Shelved) where
   pub record IsOutOfMemory (moment : ℕ) (command : Command) (all : model.Stock) (old new : Stock T)
       (text : List ℕ) : Type 0 where
     pub says : IsRefusal text
+    pub wants : may_want command ≡ true
     pub keeps : LeavesRefused moment command all old new
     pub capacity : (view new.shelf).capacity ≡ (view old.shelf).capacity
 
-  -- a command did what it was to do, or was refused
-  abbrev pub DoesIfRoom : ℕ → Command → (all : model.Stock) → (old new : Stock T)
+  -- a command did what it was to do, and used what it reads, or was refused
+  abbrev pub DoesIfRoom : ℕ → Command → (all : model.Stock) → (Uses : Type 0) → (old new : Stock T)
       → (text : List ℕ) → Type 0
-  DoesIfRoom moment command all old new text =
-      Did moment (answer (service_of old.most text) moment command all) old new text
+  DoesIfRoom moment command all Uses old new text =
+      (Did moment (answer (service_of old.most text) moment command all) old new text × Uses)
       ⊎ IsOutOfMemory moment command all old new text
 
+module _ {T : Type 0} (shelf : Ghosts T) where
   -- the same, by what stood before its reply, what stands there then, and the reply that was returned
   pub record AnswersCommand (moment : ℕ) (command : Command) (old new : Stock T) (before after : List ℕ)
       (reply : Reply) : Type 0 where
     pub begun : take (length before) after ≡ before
-    pub does : DoesIfRoom moment command (stock_at moment old) old new
+    pub does : DoesIfRoom shelf.view moment command (stock_at shelf.view moment old)
+        (UsesOne shelf.uses moment (keys_read command) old.shelf new.shelf) old new
         (said_from (length before) after reply)
     pub ends : EndsStatistics command (said_from (length before) after reply)
+
+  -- a request used what it reads, behind a flush that was due, and before removals were counted
+  pub record UsesOfStock (moment : ℕ) (keys : List (List ℕ)) (old new : Stock T) : Type 0 where
+    pub first : T
+    pub last : T
+    pub begins : moment_has_come moment old.flush ≡ false → first ≡ old.shelf
+    pub uses : UsesOne shelf.uses moment keys first last
+    pub counts : shelf.counts last new.shelf
 
   -- a request wrote its reply behind what stood there, unless it is quiet
   pub record WritesReply (moment : ℕ) (all : model.Stock) (request : Request) (old new : Stock T)
       (before after : List ℕ) : Type 0 where
     pub text : List ℕ
     pub written : after ≡ before ++ (if request.quiet then [] else text)
-    pub does : DoesIfRoom moment request.command all old new text
+    pub does : DoesIfRoom shelf.view moment request.command all
+        (UsesOfStock moment (keys_read request.command) old new) old new text
     pub ends : EndsStatistics request.command text

@@ -25,13 +25,13 @@ module _ {T : Type 0} {shelf : Ghosts T} where
   abbrev pub Feeds : ℕ → List ℕ → (p q : Service T shelf) → Type 0
   Feeds conn piece p q =
       IsDoneFor conn (λ before after first new. (before.is_closed ≡ false)
-      × serving.Feeds shelf.view q.moment piece before after first new)
+      × serving.Feeds shelf q.moment piece before after first new)
       p.connections q.connections p.stock q.stock
 
   -- or there was no memory for all of them
   abbrev pub FailsToFeed : ℕ → List ℕ → (p q : Service T shelf) → Type 0
   FailsToFeed conn piece p q =
-      IsDoneFor conn (serving.FailsToFeed shelf.view q.moment piece) p.connections q.connections
+      IsDoneFor conn (serving.FailsToFeed shelf q.moment piece) p.connections q.connections
       p.stock q.stock
 
   -- the replies of a connection that is open were taken

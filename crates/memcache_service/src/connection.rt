@@ -87,9 +87,9 @@ impl Connection {
     ) -> Result<(), AllocError>
         requires { MayComeAt (T.view stock.old.shelf) moment }
         ensures feeds { self.old.is_closed ≡ false → OnOk result
-            (Feeds T.view moment piece.now self.old self.new stock.old stock.new) }
+            (Feeds T.Shelf moment piece.now self.old self.new stock.old stock.new) }
         ensures lacks { OnErr result
-            (FailsToFeed T.view moment piece.now self.old self.new stock.old stock.new) }
+            (FailsToFeed T.Shelf moment piece.now self.old self.new stock.old stock.new) }
         ensures closed { self.old.is_closed ≡ true
             → IsOk result × (self.new ≡ self.old) × (stock.new ≡ stock.old) }
         ensures may_follow { MayComeAt (T.view stock.new.shelf) moment }
@@ -116,8 +116,8 @@ impl Connection {
         requires in_time { MayComeAt (T.view stock.old.shelf) moment }
         requires going { self.old.is_closed ≡ false }
         ensures feeds { OnOk result
-            (Feeds T.view moment piece.now self.old self.new stock.old stock.new) }
-        ensures lacks { OnErr result (HasLacked T.view moment stock.old.most stock.old
+            (Feeds T.Shelf moment piece.now self.old self.new stock.old stock.new) }
+        ensures lacks { OnErr result (HasLacked T.Shelf moment stock.old.most stock.old
             (self.old.input.items ++ drop self.old.skip piece.now)
             (self.old.skip - length piece.now) self.old.output.items stock.new
             self.new.output.items) }
@@ -168,10 +168,10 @@ impl Connection {
     fn run_kept<T: Shelf>(&mut self, stock: &mut Stock<T>, moment: u64) -> Result<(), AllocError>
         requires in_time { MayComeAt (T.view stock.old.shelf) moment }
         requires going { self.old.is_closed ≡ false }
-        ensures ran { OnOk result ((left : List ℕ) × HasRun T.view moment stock.old.most stock.old
+        ensures ran { OnOk result ((left : List ℕ) × HasRun T.Shelf moment stock.old.most stock.old
             self.old.input.items self.old.skip self.old.output.items stock.new left self.new
             × (self.new.is_closed ≡ false → self.new.input.items ≡ left)) }
-        ensures lacks { OnErr result (HasLacked T.view moment stock.old.most stock.old
+        ensures lacks { OnErr result (HasLacked T.Shelf moment stock.old.most stock.old
             self.old.input.items self.old.skip self.old.output.items stock.new
             self.new.output.items) }
         ensures may_follow { MayComeAt (T.view stock.new.shelf) moment }
@@ -208,9 +208,9 @@ impl Connection {
         requires in_time { MayComeAt (T.view stock.old.shelf) moment }
         requires going { self.old.is_closed ≡ false }
         ensures used { IfOk result (λ used. used ≤ length bytes.now) }
-        ensures ran { IfOk result (λ used. HasRun T.view moment stock.old.most stock.old bytes.now
+        ensures ran { IfOk result (λ used. HasRun T.Shelf moment stock.old.most stock.old bytes.now
             self.old.skip self.old.output.items stock.new (drop used bytes.now) self.new) }
-        ensures lacks { OnErr result (HasLacked T.view moment stock.old.most stock.old bytes.now
+        ensures lacks { OnErr result (HasLacked T.Shelf moment stock.old.most stock.old bytes.now
             self.old.skip self.old.output.items stock.new self.new.output.items) }
         ensures kept { self.new.input ≡ self.old.input }
         ensures may_follow { MayComeAt (T.view stock.new.shelf) moment }
@@ -247,7 +247,7 @@ impl Connection {
         moment: u64,
     ) -> Result<(), AllocError>
         requires { MayComeAt (T.view stock.old.shelf) moment }
-        ensures served { OnOk result (IsRequestServed T.view moment (record {
+        ensures served { OnOk result (IsRequestServed T.Shelf moment (record {
           command = asks request.now.command;
           quiet = request.now.quiet;
         }) stock.old stock.new self.old.output.items self.new.output.items) }

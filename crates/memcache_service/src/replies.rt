@@ -1,10 +1,10 @@
 //! The texts of replies.
-ghost use Rattle.std.specs.Prelude.{◌≡◌, ◌≤◌, ◌+◌, ◌++◌, OnOk, OnErr, length, codes, decimal, vec_len, vec_capacity};
+ghost use Rattle.std.specs.Prelude.{◌≡◌, ◌≤◌, ◌<◌, ◌+◌, ◌++◌, OnOk, OnErr, drop, length, codes, decimal, vec_len, vec_capacity};
 ghost use Rattle.memcache_model.specs.Replies.{error_text, unique_text, value_text};
 ghost use Rattle.memcache_service.specs.Lines.{head_text, reply_text};
 
 use crate::item::StoredItem;
-use itoa::Buffer;
+use itoa::{Buffer, write_digits};
 use memcache_model::ProtocolError;
 use std::alloc::AllocError;
 
@@ -189,6 +189,29 @@ pub fn say_value(
     Ok(())
 }
 
+/// Appends an item as the reply of a `get` that has no other. Returns an error if there is not enough memory; then nothing is written.
+pub fn say_whole(
+    output: &mut Vec<u8>,
+    uniques: bool,
+    key: &[u8],
+    item: &StoredItem,
+) -> Result<(), AllocError>
+    ensures ok { OnOk result (output.new.items ≡ output.old.items
+        ++ (value_text uniques key.now item.now ++ codes "END\r\n")) }
+    ensures err { OnErr result (output.new.items ≡ output.old.items) }
+    ensures capacity { vec_capacity output.old ≤ vec_capacity output.new }
+{
+    let needed = key
+        .len()
+        .saturating_add(item.bytes.len())
+        .saturating_add(SHORT);
+    output.reserve(needed)?;
+    write_head(output, uniques, key, item);
+    write(output, item.bytes.as_slice());
+    write(output, b"\r\nEND\r\n");
+    Ok(())
+}
+
 /// Writes what stands before an item's bytes, in room that was reserved.
 fn write_head(output: &mut Vec<u8>, uniques: bool, key: &[u8], item: &StoredItem)
     requires { vec_len output.old + length key.now + 80 ≤ vec_capacity output.old }
@@ -199,22 +222,36 @@ fn write_head(output: &mut Vec<u8>, uniques: bool, key: &[u8], item: &StoredItem
 {
     write(output, b"VALUE ");
     write(output, key);
-    write_spaced(output, u64::from(item.flags));
-    write_spaced(output, item.bytes.len() as u64);
-    if uniques {
-        write_spaced(output, item.unique);
-    }
-    write(output, b"\r\n")
+    write_numbers(output, uniques, item);
 }
 
-/// Writes a space and a number, in room that was reserved.
-fn write_spaced(output: &mut Vec<u8>, number: u64)
-    requires { vec_len output.old + 21 ≤ vec_capacity output.old }
-    ensures items { output.new.items ≡ output.old.items ++ (codes " " ++ decimal number) }
-    ensures len { vec_len output.new ≤ vec_len output.old + 21 }
+/// Writes the numbers of a head and its end, in room that was reserved: from the last one on into a row of bytes, which is written at once.
+fn write_numbers(output: &mut Vec<u8>, uniques: bool, item: &StoredItem)
+    requires { vec_len output.old + 65 ≤ vec_capacity output.old }
+    ensures items { output.new.items ≡ output.old.items ++ (codes " " ++ decimal item.now.flags
+        ++ codes " " ++ decimal (length item.now.bytes)
+        ++ unique_text uniques item.now.unique ++ codes "\r\n") }
+    ensures len { vec_len output.new ≤ vec_len output.old + 65 }
     ensures capacity { vec_capacity output.old ≤ vec_capacity output.new }
 {
-    let mut digits = Buffer::new();
-    write(output, b" ");
-    write(output, digits.format(number).as_bytes())
+    let mut row = *b"---------------------------------------------------------------\r\n";
+    let end = if uniques {
+        put_before(&mut row, 63, item.unique)
+    } else {
+        63
+    };
+    let end = put_before(&mut row, end, item.bytes.len() as u64);
+    let start = put_before(&mut row, end, u64::from(item.flags));
+    write(output, &row[start..]);
+}
+
+/// Puts a space and a number before what stands at `end`, and returns where they begin.
+fn put_before(row: &mut [u8], end: usize, number: u64) -> usize
+    requires { (21 ≤ end) × (end ≤ length row.old) }
+    ensures start { (result < end) × (end ≤ result + 21) }
+    ensures put { drop result row.new ≡ codes " " ++ decimal number ++ drop end row.old }
+{
+    let start = write_digits(number, row, end);
+    row[start - 1] = b' ';
+    start - 1
 }

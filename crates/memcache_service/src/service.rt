@@ -78,10 +78,10 @@ impl<T: Shelf> Service<T> {
     /// be taken, and it is to be closed.
     pub fn feed(&mut self, conn: Conn, piece: &[u8], moment: u64) -> Result<bool, AllocError>
         ensures feeds { get self.old.connections conn ≢ None → IfOk result (λ goes_on.
-            IsDoneFor conn (HasFed T.view self.new.moment piece.now goes_on)
+            IsDoneFor conn (HasFed T.Shelf self.new.moment piece.now goes_on)
             self.old.connections self.new.connections self.old.stock self.new.stock) }
         ensures lacks { OnErr result
-            (IsDoneFor conn (FailsToFeed T.view self.new.moment piece.now)
+            (IsDoneFor conn (FailsToFeed T.Shelf self.new.moment piece.now)
             self.old.connections self.new.connections self.old.stock self.new.stock) }
         ensures absent { get self.old.connections conn ≡ None
             → (result ≡ Ok false) × (self.new.connections ≡ self.old.connections)

@@ -1,7 +1,7 @@
 //! Items by key, in a cache.
-ghost use Rattle.std.specs.Prelude.{◌≡◌, ℕ, ◌≤◌, List, OnOk, OnErr, Some, None, is_some, option_map};
+ghost use Rattle.std.specs.Prelude.{◌≡◌, ℕ, ◌≤◌, List, OnOk, OnErr, Some, None, option_map};
 ghost use Rattle.memcache_model.specs.Items.{Item, nothing, with_item};
-ghost use Rattle.memcache_service.specs.Shelves.{Becomes, IsWithinCapacity, MayComeAt, OnlyLeave, Shelved, live_on};
+ghost use Rattle.memcache_service.specs.Shelves.{Becomes, IsWithinCapacity, MayComeAt, OnlyLeave, SeesLive, Shelved, live_on};
 
 use crate::counters::Counters;
 use crate::item::StoredItem;
@@ -15,6 +15,12 @@ pub trait Shelf: Drop {
     ghost view: { Self → Shelved };
 
     ghost weigh: { List ℕ → Item → ℕ };
+
+    // a use of a key's item at a moment, or a miss: what it changes of what decides which item leaves next
+    ghost uses: { (moment : ℕ) → List ℕ → Self → Self → Type 0 };
+
+    // what left by itself was counted
+    ghost counts: { Self → Self → Type 0 };
 
     /// Does nothing. Its contract says what the passing of time does.
     fn pass(&self)
@@ -30,12 +36,24 @@ pub trait Shelf: Drop {
         ensures { option_map (λ item. item.now) result
             ≡ live_on (view self.now) moment key.now };
 
-    /// Uses the live item of a key, and returns whether there is one.
-    fn note_use(&mut self, key: &Key, moment: u64) -> bool
-        requires { MayComeAt (view self.old) moment }
-        ensures found { result ≡ is_some (live_on (view self.old) moment key.now) }
-        ensures used { Becomes moment ((view self.old).items moment) (view self.new) }
-        ensures capacity { (view self.new).capacity ≡ (view self.old).capacity };
+    /// Looks a key up once: `see` is passed its live item, if there is one, and what is behind `output`. If `see` returns `Ok`, the call is a
+    /// use of the item, or a miss that is counted; if `see` returns an error, nothing has changed.
+    fn look<O, X, E, F: FnOnce(Option<&StoredItem>, &mut O) -> Result<X, E> + Drop>(
+        &mut self,
+        key: &Key,
+        moment: u64,
+        output: &mut O,
+        see: F,
+    ) -> Result<X, E>
+        requires in_time { MayComeAt (view self.old) moment }
+        requires callable { F.IsAlwaysCallable see }
+        ensures shown { SeesLive F.FnOnce see (live_on (view self.old) moment key.now) output.old
+            result output.new }
+        ensures used { OnOk result (uses moment key.now self.old self.new) }
+        ensures becomes { OnOk result
+            (Becomes moment ((view self.old).items moment) (view self.new)) }
+        ensures capacity { (view self.new).capacity ≡ (view self.old).capacity }
+        ensures unchanged { OnErr result (self.new ≡ self.old) };
 
     /// Stores an item under a key. Returns an error if there is not enough memory, or if the item weighs more than all items may; then
     /// nothing has changed.
@@ -65,7 +83,8 @@ pub trait Shelf: Drop {
 
     /// Counts the items that left by themselves since this was last called.
     fn count_removals(&mut self, counters: &mut Counters)
-        ensures { view self.new ≡ view self.old };
+        ensures shows { view self.new ≡ view self.old }
+        ensures counted { counts self.old self.new };
 
     /// Returns how many items there are, as of the last maintenance.
     fn item_count(&self) -> u64;

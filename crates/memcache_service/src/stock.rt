@@ -1,11 +1,11 @@
 //! What requests do.
-ghost use Rattle.std.specs.Prelude.{◌≡◌, ◌≤◌, ◌+◌, ◌++◌, [], true, take, None, IfOk, OnOk, OnErr, vec_capacity, if◌then◌else◌};
+ghost use Rattle.std.specs.Prelude.{◌≡◌, ◌≤◌, ◌+◌, ◌++◌, [], true, false, take, None, IfOk, OnOk, OnErr, vec_capacity, if◌then◌else◌};
 ghost use Rattle.memcache_lines.specs.Said.{asks};
 ghost use Rattle.memcache_model.specs.Answers.{answer};
-ghost use Rattle.memcache_model.specs.Items.{live_stock, nothing};
+ghost use Rattle.memcache_model.specs.Items.{live_stock, moment_has_come, nothing};
 ghost use Rattle.memcache_service.specs.Lines.{reply_text, said_from};
 ghost use Rattle.memcache_service.specs.Shelves.{MayComeAt};
-ghost use Rattle.memcache_service.specs.Stocks.{AnswersCommand, Did, LeavesAll, WritesReply, Spares, is_short, kept_until, service_of, stock_at};
+ghost use Rattle.memcache_service.specs.Stocks.{AnswersCommand, Did, LeavesAll, WritesReply, Spares, is_short, kept_until, may_want, service_of, stock_at};
 
 use crate::counters::{Counters, Tally};
 use crate::replies::{Reply, SHORT};
@@ -91,7 +91,7 @@ impl<T: Shelf> Stock<T> {
         output: &mut Vec<u8>,
     ) -> Result<(), AllocError>
         requires { MayComeAt (T.view self.old.shelf) moment }
-        ensures served { OnOk result (WritesReply T.view moment
+        ensures served { OnOk result (WritesReply T.Shelf moment
             (live_stock moment (kept_until T.view moment self.old))
             (record { command = asks request.now.command; quiet = request.now.quiet })
             self.old self.new output.old.items output.new.items) }
@@ -114,6 +114,7 @@ impl<T: Shelf> Stock<T> {
         requires { MayComeAt (T.view self.old.shelf) moment }
         ensures ok { OnOk result (stock_at T.view moment self.new
             ≡ live_stock moment (kept_until T.view moment self.old)) }
+        ensures not_due { moment_has_come moment self.old.flush ≡ false → self.new ≡ self.old }
         ensures err { OnErr result (Spares self.old self.new) }
         ensures may_follow { MayComeAt (T.view self.new.shelf) moment }
         ensures most { self.new.most ≡ self.old.most }
@@ -151,7 +152,7 @@ impl<T: Shelf> Stock<T> {
     #[tactic(auto, using(crate::proofs::Keeping::may_follow, crate::proofs::Keeping::most_kept, crate::proofs::Keeping::short_ends))]
     fn answer(&mut self, command: &Command<'_>, moment: u64, output: &mut Vec<u8>) -> Reply
         requires { MayComeAt (T.view self.old.shelf) moment }
-        ensures answered { AnswersCommand T.view moment (asks command.now) self.old self.new
+        ensures answered { AnswersCommand T.Shelf moment (asks command.now) self.old self.new
             output.old.items output.new.items result }
         ensures may_follow { MayComeAt (T.view self.new.shelf) moment }
         ensures most { self.new.most ≡ self.old.most }
@@ -160,6 +161,10 @@ impl<T: Shelf> Stock<T> {
         match *command {
             Command::Get { uniques, keys } => {
                 self.get(uniques, keys, moment, output)
+                    .unwrap_or(Reply::NoRoom)
+            }
+            Command::GetOne { uniques, key } => {
+                self.get_one(uniques, key, moment, output)
                     .unwrap_or(Reply::NoRoom)
             }
             Command::Gat {
@@ -196,6 +201,8 @@ impl<T: Shelf> Stock<T> {
             (answer (service_of self.old.most (reply_text reply)) moment (asks command.now)
             (stock_at T.view moment self.old)) self.old self.new (reply_text reply)) }
         ensures err { OnErr result (Spares self.old self.new) }
+        ensures wants { is_short (asks command.now) ≡ true
+            → OnErr result (may_want (asks command.now) ≡ true) }
         ensures may_follow { MayComeAt (T.view self.new.shelf) moment }
         ensures most { self.new.most ≡ self.old.most }
     {

@@ -1,7 +1,7 @@
 //! Connections between the wake-ups of their sockets.
 use crate::playing::{LARGE, START, service};
 use cache_link::{Next, Patient, Room};
-use memcache_link::MemcacheLink;
+use memcache_cache::MemcacheLink;
 use memcache_service::{Service, Shelf};
 use std::alloc::{AllocError, Global};
 use std::io;

@@ -2,7 +2,7 @@
 ghost use Rattle.std.specs.Prelude.{◌<◌};
 
 use memcache_cache::LentShelf;
-use memcache_service::{Conn, Service, Setup, Shelf};
+use memcache_service::{Conn, Service, Setup, Shelf, Tally};
 use moka::{EvictionPolicy, StdHasher};
 use std::alloc::{AllocError, Global};
 
@@ -243,4 +243,33 @@ pub fn all_right_again(alloc: Global, rows: &[Row]) -> bool {
         Ok(is_right) => is_right,
         Err(AllocError) => matches!(play_again(alloc, rows), Ok(true)),
     }
+}
+
+/// Asks a service to store an item of 5,000 bytes, and to delete it twice, and then, when maintenance has run, for it. Returns whether it is
+/// told so, and counts none as expired.
+fn deletes_large<T: Shelf>(alloc: Global, service: &mut Service<T>) -> Result<bool, AllocError> {
+    let conn = service.open()?;
+    let mut sent = Vec::from_slice(alloc, b"set a 0 0 5000\r\n")?;
+    sent.resize(5016, b'x')?;
+    sent.extend_from_slice(b"\r\ndelete a\r\ndelete a\r\n")?;
+    let mut told = Vec::new(alloc);
+    feed(service, conn, sent.as_slice(), 1000, START, &mut told)?;
+    feed(service, conn, b"get a\r\n", 1000, START + 1000, &mut told)?;
+    feed(service, conn, b"get a\r\n", 1000, START + 2000, &mut told)?;
+    let expired = service.counters().get(Tally::Expired);
+    Ok(
+        expired == 0
+            && told.as_slice() == b"STORED\r\nDELETED\r\nNOT_FOUND\r\nEND\r\nEND\r\n".as_slice(),
+    )
+}
+
+/// The same, by a new service.
+fn deletes_one(alloc: Global) -> Result<bool, AllocError> {
+    let mut service = service(alloc, LARGE)?;
+    deletes_large(alloc, &mut service)
+}
+
+/// The same. If it was refused for memory, all is done once more.
+pub fn is_large_deleted(alloc: Global) -> bool {
+    matches!(deletes_one(alloc), Ok(true)) || matches!(deletes_one(alloc), Ok(true))
 }

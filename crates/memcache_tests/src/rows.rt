@@ -1,5 +1,5 @@
 //! Requests and replies.
-use crate::playing::{LARGE, Row, all_right, all_right_again, is_bounded};
+use crate::playing::{LARGE, Row, all_right, all_right_again, is_bounded, is_large_deleted};
 use memcache_service::Setup;
 
 /// Storing and reading.
@@ -642,6 +642,11 @@ fn evicted(rt: HostRuntime) {
 #[test]
 fn bounded(rt: HostRuntime) {
     assert!(rt; is_bounded(rt.alloc(), TIGHT));
+}
+
+#[test]
+fn large_deleted(rt: HostRuntime) {
+    assert!(rt; is_large_deleted(rt.alloc()));
 }
 
 #[test]

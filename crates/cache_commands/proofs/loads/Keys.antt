@@ -9,7 +9,7 @@ use Rattle.audit_model.specs.Situation.{PendingLoad, with_waiting}
 use Rattle.audit_model.specs.declared.input.LoadId.{LoadId}
 use Rattle.cache_commands.specs.Loads.Keys.{agrees_on, are_in_turn, has_its_key, have_their_keys, were_sent}
 use Rattle.std.proofs.lemmas.List.Folds.{list_all-append}
-use Rattle.cache_store.proofs.Keys.{same-refl}
+use Rattle.cache_commands.proofs.SameKeys.{same-refl}
 
 -- ---- lists
 

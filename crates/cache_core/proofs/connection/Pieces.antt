@@ -27,7 +27,7 @@ use Rattle.cache_lines.specs.Making.{Making, making_of}
 use Rattle.cache_lines.specs.Ran.{RanLine, WaitsLine}
 use Rattle.cache_lines.specs.Waiting.{load_sent_for, loads_in, waiting_with, when_waiting, with_under_way}
 use Rattle.cache_lines.specs.Whole.{has_line, held_line}
-use Rattle.cache_store.specs.Values.{IsSoundStore, Values}
+use Rattle.cache_commands.specs.Values.{IsSoundStore, Values}
 use Rattle.audit_model.specs.declared.command.Closing.TheVariants as by
 use Rattle.cache_commands.specs.declared.loads.standing.Standing.TheVariants as now
 use Rattle.cache_lines.specs.Ended.{holds_back, ends_waiting, ends_by_quit}

@@ -41,8 +41,8 @@ use Rattle.cache_lines.specs.Ran.{IsMiss, RanLine}
 use Rattle.cache_lines.specs.Tape.Taped.{Taped, spends, step_held, text_left}
 use Rattle.cache_lines.specs.Waiting.{UnderWay, holding_load, is_load, load_sent_for, loads_in, waiting_with, when_waiting, with_under_way}
 use Rattle.cache_lines.specs.Whole.{held_line, is_long_line, is_near}
-use Rattle.cache_store.specs.Promises.{no_deed}
-use Rattle.cache_store.specs.Values.{IsSoundStore, Values}
+use Rattle.cache_commands.specs.Promises.{no_deed}
+use Rattle.cache_commands.specs.Values.{IsSoundStore, Values}
 use Rattle.std.proofs.lemmas.Bool.Decides.{eqb_tells}
 use Rattle.audit_model.specs.Situation as model
 use Rattle.audit_lines.proofs.Cuts.{Cut, cut_at-here, cut_at-other}

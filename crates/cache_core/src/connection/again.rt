@@ -14,9 +14,8 @@ ghost use Rattle.cache_lines.specs.Tape.Taped.{HasSpare};
 
 use crate::connection::connection::Connection;
 use audit_lines::{Buffer, Next};
-use cache_commands::{Standing, write_abandoned};
+use cache_commands::{Standing, Store, write_abandoned};
 use cache_lines::{Base, LineOutcome, Tape, run_line};
-use cache_store::Store;
 
 /// How often a `LOAD` may wait.
 const MAX_WAITS: u64 = 200;

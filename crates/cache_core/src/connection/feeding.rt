@@ -19,9 +19,8 @@ use crate::connection::connection::Connection;
 use crate::connection::standing::{ended_closing, ended_standing, ended_times};
 use audit_lines::Buffer;
 use audit_model::Closing;
-use cache_commands::{Standing, is_holding};
+use cache_commands::{Standing, Store, is_holding};
 use cache_lines::{Base, End, LineOutcome, Tape, run_line, run_lines};
-use cache_store::Store;
 use std::alloc::AllocError;
 
 /// Removes the first line, if it was held back.

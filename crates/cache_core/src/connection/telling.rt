@@ -12,9 +12,8 @@ ghost use Rattle.cache_lines.specs.Tape.Taped.{HasSpare};
 use crate::connection::again::{first_line, pass_line};
 use crate::connection::connection::Connection;
 use audit_model::Outcome;
-use cache_commands::{Standing, write_outcome};
+use cache_commands::{Standing, Store, write_outcome};
 use cache_lines::{Base, Tape};
-use cache_store::Store;
 
 /// Replies to the waiting `LOAD` of a connection with the outcome, in reserved room.
 fn reply_with<T: Tape>(tape: &mut T, number: u64, connection: &mut Connection, outcome: &Outcome)

@@ -30,8 +30,8 @@ use Rattle.audit_model.specs.View.{Candidate}
 use Rattle.audit_model.specs.declared.config.Config.{Config}
 use Rattle.audit_model.specs.declared.config.Weight.{Weight}
 use Rattle.audit_model.specs.declared.transcript.Note.{Note}
-use Rattle.cache_store.specs.Promises.{Frame, covering, deleting, syncing, using}
-use Rattle.cache_store.specs.Values.{Does, HandsBy, AcceptsValue, IsAcceptable, IsLive, IsMoment, IsSettled, IsSoundStore, IsSpent, LacksIdentifiers, ReadsLive}
+use Rattle.cache_commands.specs.Promises.{Frame, covering, deleting, syncing, using}
+use Rattle.cache_commands.specs.Values.{Does, HandsBy, AcceptsValue, IsAcceptable, IsLive, IsMoment, IsSettled, IsSoundStore, IsSpent, LacksIdentifiers, ReadsLive}
 use Rattle.cache_front.proofs.data.Drains.{one_told}
 use Rattle.cache_front.proofs.kept.Identifying.{released}
 use Rattle.cache_front.proofs.whole.Calling.{some_held, some_stand, accept as one_accept, after_telling-is, changed, look_up as one_look_up, peek as one_peek, remove as one_remove, parts_are}

@@ -23,10 +23,10 @@ use Rattle.front_reference.specs.Wholes.{visible_number}
 use Rattle.front_state.specs.Calls.{keys_of, visible_of}
 use Rattle.audit_model.specs.Bytewise.{same, text_line}
 use Rattle.audit_model.specs.Values.{sorted, put_sorted}
-use Rattle.cache_store.proofs.Keys.{equal_from_same, same-refl, same-flip_false}
-use Rattle.cache_store.proofs.LiveKeys.{length-sorted, order, put_before, put_behind, sorted-push}
-use Rattle.cache_store.specs.Among.{are_distinct, is_among_keys}
-use Rattle.cache_store.specs.Values.{AreLive}
+use Rattle.cache_commands.proofs.SameKeys.{equal_from_same, same-refl, same-flip_false}
+use Rattle.cache_commands.proofs.LiveKeys.{length-sorted, order, put_before, put_behind, sorted-push}
+use Rattle.cache_commands.specs.Among.{are_distinct, is_among_keys}
+use Rattle.cache_commands.specs.Values.{AreLive}
 use Rattle.cache_front.proofs.parts.Items.{AreParted, ArePlaced}
 use Rattle.cache_front.proofs.parts.Writing.{Kept}
 use Rattle.cache_front.proofs.whole.Calling.{live_keys, parted}

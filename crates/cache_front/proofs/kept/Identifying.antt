@@ -12,7 +12,7 @@ use Rattle.std.proofs.lemmas.Option.{none-some}
 use Rattle.rand_core.specs.Stream.{Stream, fill_bytes}
 use Rattle.uuid.specs.Parts.{v4_of_fill}
 use Rattle.audit_model.specs.Bytewise.{same}
-use Rattle.cache_store.specs.Identifiers.{stream_left, identifier_after, next_drawn, KeepsIdentifiers, Registers, AreUsedUp}
+use Rattle.cache_commands.specs.Identifiers.{stream_left, identifier_after, next_drawn, KeepsIdentifiers, Registers, AreUsedUp}
 use Rattle.engine_reference.specs.Identifiers.Drawing as engine
 use Rattle.engine_reference.specs.Identifiers.Drawing.{is_registered}
 use Rattle.engine_reference.specs.declared.data.Registered.{Registered}
@@ -24,7 +24,7 @@ use Rattle.engine_reference.specs.Visible.{visible_record}
 use Rattle.engine_reference.specs.Scanning.{NotesLookUp}
 use Rattle.front_reference.specs.Parts.{Inserts, TakesOut, inserted, taken_out}
 use Rattle.front_reference.specs.Wholes.{DrawAll, DrawsInVain, registered_in}
-use Rattle.cache_store.proofs.Keys.{same-refl}
+use Rattle.cache_commands.proofs.SameKeys.{same-refl}
 use Rattle.cache_front.specs.Parts.{Part, Stored, service_answers}
 use Rattle.cache_front.proofs.kept.Keeping.{EachPredicate, run-predicates}
 

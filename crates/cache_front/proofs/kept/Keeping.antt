@@ -19,7 +19,7 @@ use Rattle.audit_model.specs.Bytewise.{same}
 use Rattle.audit_model.specs.History.{weight_of}
 use Rattle.audit_model.specs.declared.config.Weight.{Weight}
 use Rattle.audit_model.specs.declared.config.Weight.TheVariants.{One, Bytes}
-use Rattle.cache_store.specs.Promises.{Frame}
+use Rattle.cache_commands.specs.Promises.{Frame}
 use Rattle.engine_reference.specs.declared.data.Entry.{Entry}
 use Rattle.engine_reference.specs.declared.data.Unsent.{Unsent}
 use Rattle.engine_reference.specs.Calls.{with_written, with_removed, written, sent, removal_told, with_read, with_room, used_entry, next_entry, first_entry, MaintainsIfDue, cleared_by, with_predicate, IsNew}

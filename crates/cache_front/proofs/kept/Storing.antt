@@ -10,7 +10,7 @@ use Rattle.audit_model.specs.Bytewise.{same}
 use Rattle.audit_model.specs.History.{part_count, accepts_values, weight_of}
 use Rattle.audit_model.specs.Situation.{HeldValue}
 use Rattle.rand_core.specs.Stream.{Stream}
-use Rattle.cache_store.specs.Promises.{Frame, value_for}
+use Rattle.cache_commands.specs.Promises.{Frame, value_for}
 use Rattle.engine_reference.specs.declared.data.Record.{Record}
 use Rattle.engine_reference.specs.declared.data.Registered.{Registered}
 use Rattle.engine_reference.specs.Scanning.{NotesLookUp}
@@ -25,7 +25,7 @@ use Rattle.engine_reference.specs.RunLaws.Points.{pending_of}
 use Rattle.engine_reference.specs.RunLaws.Sweeping.{LeavesNoneDue, InOrderBy, IsUsedBefore}
 use Rattle.engine_reference.proofs.run_laws.Rises.{uncut_runs_leave_none_due}
 use Rattle.front_reference.proofs.laws.Kept.{runs_leave_none_idle}
-use Rattle.cache_store.specs.Held.{Corresponds}
+use Rattle.cache_commands.specs.Held.{Corresponds}
 use Rattle.engine_reference.specs.Soundness.{Each}
 use Rattle.engine_reference.specs.Telling.{entry_of, AreApart}
 use Rattle.front_reference.specs.Fronts.{CallsEach}

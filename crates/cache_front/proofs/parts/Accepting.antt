@@ -20,11 +20,11 @@ use Rattle.engine_reference.specs.Telling.{entry_of}
 use Rattle.engine_reference.specs.Times.{has_come}
 use Rattle.engine_reference.specs.Visible.{is_covered, cause_of_write, notice_of}
 use Rattle.engine_reference.proofs.run_laws.Shown.{entry-held}
-use Rattle.cache_store.specs.Promises.{Done, accepting}
-use Rattle.cache_store.proofs.Steps.{after_plain, corresponds-as}
-use Rattle.cache_store.specs.Held.{value_at, items_without, is_absent, have_own_keys, plain, Corresponds, cause_of_replaced}
-use Rattle.cache_store.proofs.Keys.{same-refl, same_from_equal, equal_from_same, same-flip_false}
-use Rattle.cache_store.proofs.Held.{key_from_some, absent_from_none, items_without-absent, absent-items_without, apart-items_without, all-without_key, value_at-map, value_at-items_without, left, first_with_key-map, items_without-map, replaced_truly}
+use Rattle.cache_commands.specs.Promises.{Done, accepting}
+use Rattle.cache_commands.proofs.Steps.{after_plain, corresponds-as}
+use Rattle.cache_commands.specs.Held.{value_at, items_without, is_absent, have_own_keys, plain, Corresponds, cause_of_replaced}
+use Rattle.cache_commands.proofs.SameKeys.{same-refl, same_from_equal, equal_from_same, same-flip_false}
+use Rattle.cache_commands.proofs.Held.{key_from_some, absent_from_none, items_without-absent, absent-items_without, apart-items_without, all-without_key, value_at-map, value_at-items_without, left, first_with_key-map, items_without-map, replaced_truly}
 use Rattle.engine_reference.specs.RunLaws.Just.{IsJust}
 use Rattle.cache_front.specs.Parts.{Part, service_answers, cause_of, note_from, as_held_value, items_of, AreMarked, Stands, drained}
 use Rattle.cache_front.proofs.parts.Items.{value_at-part, AreOf, of-append, of-removals, left-elsewhere, find-candidates, in_part, owner_part, decides, replaced-other, parted-at, corresponds-run, marks_everywhere}

@@ -10,11 +10,11 @@ use Rattle.audit_model.specs.Bytewise.{same}
 use Rattle.audit_model.specs.Situation.{HeldValue, candidate_at}
 use Rattle.engine_reference.specs.Records.{held_entries, held_weight, record_at}
 use Rattle.engine_reference.specs.Telling.{entry_of, AreApart, Removal, TakesAway, removed_entries}
-use Rattle.cache_store.specs.Running.{weight_in}
-use Rattle.cache_store.specs.Held.{value_at, items_without, is_absent, have_own_keys, plain, Corresponds}
-use Rattle.cache_store.proofs.Keys.{same-refl, equal_from_same}
-use Rattle.cache_store.proofs.Held.{absent_from_none, none_from_absent, length-items_without, apart-items_without, value_at-map, apart-map, value_at-items_without, corresponds-left, apart-left, left}
-use Rattle.cache_store.proofs.Weights.{adds, weight_in-sum}
+use Rattle.cache_commands.specs.Running.{weight_in}
+use Rattle.cache_commands.specs.Held.{value_at, items_without, is_absent, have_own_keys, plain, Corresponds}
+use Rattle.cache_commands.proofs.SameKeys.{same-refl, equal_from_same}
+use Rattle.cache_commands.proofs.Held.{absent_from_none, none_from_absent, length-items_without, apart-items_without, value_at-map, apart-map, value_at-items_without, corresponds-left, apart-left, left}
+use Rattle.cache_commands.proofs.Weights.{adds, weight_in-sum}
 use Rattle.cache_front.specs.Parts.{Part, as_held_value, items_in, items_of, Stored, service_answers, AreMarked}
 use Rattle.cache_front.proofs.parts.Writing.{Kept, notes_of, entry_of-other, entry_of-gone, entry_of-at, Rec}
 use Rattle.engine_reference.specs.Visible.{is_covered}

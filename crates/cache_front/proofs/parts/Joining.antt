@@ -33,12 +33,12 @@ use Rattle.audit_model.specs.Values.{without_key, deadline, deadline_has_come, o
 use Rattle.audit_model.specs.View.{Candidate}
 use Rattle.audit_model.specs.declared.config.Config.{Config}
 use Rattle.audit_model.specs.declared.config.Weight.{Weight}
-use Rattle.cache_store.proofs.Held.{key_from_some, absent-items_without, apart-items_without, value_at-items_without, value_at-append, apart-append, first_with_key-map, Stood, stood}
-use Rattle.cache_store.proofs.Keys.{equal_from_same, same_from_equal}
-use Rattle.cache_store.proofs.Live.{live_is}
-use Rattle.cache_store.proofs.Weights.{over_is}
-use Rattle.cache_store.specs.Held.{value_at, items_without, is_absent, plain, Corresponds, exceeds, if_live}
-use Rattle.cache_store.specs.Promises.{accepting, deleting}
+use Rattle.cache_commands.proofs.Held.{key_from_some, absent-items_without, apart-items_without, value_at-items_without, value_at-append, apart-append, first_with_key-map, Stood, stood}
+use Rattle.cache_commands.proofs.SameKeys.{equal_from_same, same_from_equal}
+use Rattle.cache_commands.proofs.Live.{live_is}
+use Rattle.cache_commands.proofs.Weights.{over_is}
+use Rattle.cache_commands.specs.Held.{value_at, items_without, is_absent, plain, Corresponds, exceeds, if_live}
+use Rattle.cache_commands.specs.Promises.{accepting, deleting}
 use Rattle.cache_front.proofs.parts.Items.{ArePlaced, AreParted, value_at-part, apart-of, weight-part, replaced-there, parted-at, parted_changed, corresponds_changed}
 use Rattle.cache_front.proofs.parts.Writing.{Kept, notes_of, Judges, dead_is, PointsBack, itself, earlier, points_back, Fits, Fitting, Rec, same_laws, Wrote}
 use Rattle.cache_front.specs.Parts.{Stored, Part, service_answers, note_from, part_settings, as_held_value, as_value, items_of, AreMarked, IsBrief, nanos}

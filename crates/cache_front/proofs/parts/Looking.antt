@@ -15,8 +15,8 @@ use Rattle.engine_reference.specs.Records.{held_entries, record_at, held_at, cha
 use Rattle.engine_reference.specs.Telling.{entry_of, AreApart}
 use Rattle.engine_reference.specs.RunLaws.Points.{HasPoint, IsInOrder}
 use Rattle.engine_reference.specs.RunLaws.Just.{IsJust, ComesFrom}
-use Rattle.cache_store.specs.Held.{value_at, plain, Corresponds, is_absent}
-use Rattle.cache_store.proofs.Held.{left, value_at-map, apart-map, key_from_some, absent_from_none}
+use Rattle.cache_commands.specs.Held.{value_at, plain, Corresponds, is_absent}
+use Rattle.cache_commands.proofs.Held.{left, value_at-map, apart-map, key_from_some, absent_from_none}
 use Rattle.cache_front.specs.Parts.{Part, service_answers, AreMarked, Stands, note_from, as_held_value, as_value, items_of, drained}
 use Rattle.cache_front.proofs.parts.Accepting.{all-untold}
 use Rattle.cache_front.proofs.parts.Joining.{Knows, fits_held, dead_from, none_deleted, Ran, Maintained, ran_from}
@@ -31,11 +31,11 @@ use Rattle.engine_reference.proofs.SoundCalls.{held_at-only, held_at-each}
 use Rattle.engine_reference.proofs.HeldRecords.{record_at-number}
 use Rattle.engine_reference.proofs.run_laws.Fronting.{each-at}
 use Rattle.engine_reference.proofs.run_laws.Shown.{entry-held, to-records, from-records, unmatched-changed, held_at-match, read-apart as kept_apart}
-use Rattle.cache_store.specs.Promises.{Done, using, deleting, covering}
-use Rattle.cache_store.proofs.Steps.{none_succeeded, after_plain, corresponds-as, right_to_tell_none}
-use Rattle.cache_store.proofs.Keys.{equal_from_same}
+use Rattle.cache_commands.specs.Promises.{Done, using, deleting, covering}
+use Rattle.cache_commands.proofs.Steps.{none_succeeded, after_plain, corresponds-as, right_to_tell_none}
+use Rattle.cache_commands.proofs.SameKeys.{equal_from_same}
 use Rattle.std.proofs.lemmas.Bool.{and_parts, and_left, cases_Bool, false_from_ne_true}
-use Rattle.cache_store.specs.Handing.{TellsNone}
+use Rattle.cache_commands.specs.Handing.{TellsNone}
 
 -- a key is used, or one is deleted
 abbrev pub quiet : Option (List ℕ) → Option (List ℕ) → Deed

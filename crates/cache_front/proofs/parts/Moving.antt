@@ -16,7 +16,7 @@ use Rattle.engine_reference.proofs.HeldRecords.{held-without, record_at-number}
 use Rattle.engine_reference.proofs.Unapplied.{record_at-without}
 use Rattle.engine_reference.proofs.run_laws.Fewer.{weight-cons}
 use Rattle.engine_reference.proofs.run_laws.Fronting.{each-at}
-use Rattle.cache_store.proofs.Keys.{same-refl, same-flip_false, equal_from_same}
+use Rattle.cache_commands.proofs.SameKeys.{same-refl, same-flip_false, equal_from_same}
 use Rattle.cache_front.specs.Recent.{key_numbered, keys_numbered, with_reads, with_writes, applied, keys_used, IsLasting, IsUncovered}
 use Rattle.cache_front.proofs.parts.Writing.{Rec, unlike_none, unlike_other}
 use Rattle.engine_reference.specs.declared.data.Read.{Read}
@@ -38,7 +38,7 @@ use Rattle.engine_reference.proofs.run_laws.Swept.{each-step, changed-other, pus
 use Rattle.cache_front.specs.Parts.{Part, Stored, service_answers, value_put, put_entry, key_taken_out}
 use Rattle.audit_model.specs.declared.config.Weight.TheVariants.{One}
 use Rattle.audit_model.specs.History.{weight_of}
-use Rattle.cache_store.specs.Recency.{put_first, used_first}
+use Rattle.cache_commands.specs.Recency.{put_first, used_first}
 use Rattle.engine_reference.specs.declared.rules.settings.EvictionPolicy.TheVariants.{Lru}
 use Rattle.engine_reference.specs.declared.data.Unsent.{Unsent}
 use Rattle.engine_reference.specs.declared.data.Upsert.{Upsert}

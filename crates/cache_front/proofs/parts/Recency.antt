@@ -20,7 +20,7 @@ use Rattle.audit_model.specs.Bytewise.{same}
 use Rattle.audit_model.specs.History.{weight_of}
 use Rattle.audit_model.specs.Recency as recent
 use Rattle.audit_model.specs.declared.config.Weight.{Weight}
-use Rattle.cache_store.specs.Recency.{put_first, used_first}
+use Rattle.cache_commands.specs.Recency.{put_first, used_first}
 use Rattle.engine_reference.specs.declared.data.Entry.{Entry}
 use Rattle.engine_reference.specs.declared.data.Unsent.{Unsent}
 use Rattle.engine_reference.specs.Calls.{IsNew, with_read, used_entry, with_room, with_written, with_removed, removal_told, sent}

@@ -27,11 +27,11 @@ use Rattle.engine_reference.specs.RunLaws.Points.{HasPoint, IsInOrder, CallsStay
 use Rattle.engine_reference.proofs.run_laws.Ordering.{calls_stay_in_order}
 use Rattle.engine_reference.proofs.run_laws.Shown.{RecordsApart, entry-held, to-records, from-records, unmatched-changed, held_at-match, removed-apart}
 use Rattle.engine_reference.proofs.run_laws.Swept.{sent-one}
-use Rattle.cache_store.specs.Promises.{Done, deleting}
-use Rattle.cache_store.proofs.Steps.{after_plain, corresponds-as}
-use Rattle.cache_store.specs.Held.{value_at, items_without, plain, Corresponds, cause_of_deleted}
-use Rattle.cache_store.proofs.Keys.{equal_from_same, same_from_equal, same-flip_false}
-use Rattle.cache_store.proofs.Held.{key_from_some, absent-items_without, apart-items_without, value_at-map, value_at-items_without, left, first_with_key-map, items_without-map, deleted_truly}
+use Rattle.cache_commands.specs.Promises.{Done, deleting}
+use Rattle.cache_commands.proofs.Steps.{after_plain, corresponds-as}
+use Rattle.cache_commands.specs.Held.{value_at, items_without, plain, Corresponds, cause_of_deleted}
+use Rattle.cache_commands.proofs.SameKeys.{equal_from_same, same_from_equal, same-flip_false}
+use Rattle.cache_commands.proofs.Held.{key_from_some, absent-items_without, apart-items_without, value_at-map, value_at-items_without, left, first_with_key-map, items_without-map, deleted_truly}
 use Rattle.engine_reference.specs.RunLaws.Just.{IsJust}
 use Rattle.cache_front.specs.Parts.{Stored, Part, service_answers, cause_of, note_from, as_held_value, items_of, AreMarked, Stands, drained}
 use Rattle.cache_front.proofs.parts.Accepting.{replaced-twice, all-untold}

@@ -15,11 +15,11 @@ use Rattle.engine_reference.specs.Records.{held_entries, held_weight, record_at,
 use Rattle.engine_reference.specs.Runs.{RunsToEnd}
 use Rattle.engine_reference.specs.Telling.{entry_of, AreApart}
 use Rattle.engine_reference.specs.RunLaws.Points.{HasPoint, IsInOrder, with_write, pending_of}
-use Rattle.cache_store.specs.Promises.{Done, syncing, no_deed}
-use Rattle.cache_store.proofs.Steps.{after_plain, corresponds-as, none_succeeded}
-use Rattle.cache_store.specs.Held.{value_at, items_without, have_own_keys, Corresponds, plain, is_absent}
-use Rattle.cache_store.proofs.Keys.{equal_from_same, same-refl}
-use Rattle.cache_store.proofs.Held.{apart-items_without, none_from_absent, corresponds-left, apart-left, value_at-items_without, left, left-append, permutation}
+use Rattle.cache_commands.specs.Promises.{Done, syncing, no_deed}
+use Rattle.cache_commands.proofs.Steps.{after_plain, corresponds-as, none_succeeded}
+use Rattle.cache_commands.specs.Held.{value_at, items_without, have_own_keys, Corresponds, plain, is_absent}
+use Rattle.cache_commands.proofs.SameKeys.{equal_from_same, same-refl}
+use Rattle.cache_commands.proofs.Held.{apart-items_without, none_from_absent, corresponds-left, apart-left, value_at-items_without, left, left-append, permutation}
 use Rattle.engine_reference.specs.RunLaws.Just.{IsJust}
 use Rattle.cache_front.specs.Parts.{Part, service_answers, note_from, as_held_value, items_in, items_of, Stands, drained, Stored, part_settings, nanos, IsBrief, AreLight, write_weight, AreMarked}
 use Rattle.cache_front.proofs.parts.Accepting.{all-untold}
@@ -41,8 +41,8 @@ use Rattle.engine_reference.specs.Visible.{is_covered, is_covered_by}
 use Rattle.engine_reference.proofs.SoundCalls.{held_at-only}
 use Rattle.engine_reference.specs.RunLaws.Sweeping.{LeavesNoneDue, InOrderBy, IsUsedBefore}
 use Rattle.engine_reference.proofs.run_laws.Shown.{entry-held}
-use Rattle.cache_store.specs.Running.{weight_in, is_timely, is_of_earlier_tick, tick_since, is_bounded}
-use Rattle.cache_store.proofs.Weights.{over_is, same_weight}
+use Rattle.cache_commands.specs.Running.{weight_in, is_timely, is_of_earlier_tick, tick_since, is_bounded}
+use Rattle.cache_commands.proofs.Weights.{over_is, same_weight}
 use Rattle.engine_reference.specs.declared.data.Record.{Record}
 use Rattle.engine_reference.specs.declared.data.Write.{Write}
 use Rattle.engine_reference.specs.declared.data.Write.TheVariants.{Put, Removed}

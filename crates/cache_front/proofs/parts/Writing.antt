@@ -36,7 +36,7 @@ use Rattle.audit_model.specs.View.{Candidate}
 use Rattle.audit_model.specs.declared.config.Config.{Config}
 use Rattle.audit_model.specs.declared.config.Weight.{Weight}
 use Rattle.audit_model.specs.declared.transcript.Note.{Note}
-use Rattle.cache_store.proofs.Keys.{same-refl, equal_from_same, same_along, same_from_equal, same-flip_false}
+use Rattle.cache_commands.proofs.SameKeys.{same-refl, equal_from_same, same_along, same_from_equal, same-flip_false}
 use Rattle.cache_front.specs.Parts.{Stored, note_of, Part, service_answers, part_settings, nanos, as_held_value, as_value, IsBrief, value_put, put_entry}
 
 -- ---- entries by their keys

@@ -4,9 +4,9 @@ use Rattle.std.proofs.lemmas.Bool.{cases_Bool}
 use Rattle.std.proofs.Math.Bool.{or-false, or-true}
 use Rattle.rand_core.specs.Stream.{Stream}
 use Rattle.audit_model.specs.Commands.{Everything, Prefixed}
-use Rattle.cache_store.specs.Promises.{covering}
-use Rattle.cache_store.specs.Values.{Does, IsMoment, IsSpent, LacksIdentifiers}
-use Rattle.cache_store.specs.declared.error.StoreError.{StoreError}
+use Rattle.cache_commands.specs.Promises.{covering}
+use Rattle.cache_commands.specs.Values.{Does, IsMoment, IsSpent, LacksIdentifiers}
+use Rattle.cache_commands.specs.declared.error.StoreError.{StoreError}
 use Rattle.cache_front.specs.View.{view}
 use Rattle.cache_front.specs.State.{IsFitStore, Lent}
 use Rattle.engine_reference.specs.Calls.{cleared_by}

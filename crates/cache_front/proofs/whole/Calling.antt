@@ -24,15 +24,15 @@ use Rattle.audit_model.specs.Situation.{HeldValue, is_live_at}
 use Rattle.audit_model.specs.Values.{sorted}
 use Rattle.audit_model.specs.declared.config.Config.{Config}
 use Rattle.audit_model.specs.declared.transcript.Note.{Note}
-use Rattle.cache_store.proofs.Held.{apart-map, left, value_at-map, length-without_at_most}
-use Rattle.cache_store.proofs.LiveKeys.{live_keys_from, live_keys_are}
-use Rattle.cache_store.specs.Among.{has_live, are_distinct, is_among_keys}
-use Rattle.cache_store.specs.Handing.{AppendsNotes}
-use Rattle.cache_store.specs.Held.{plain, have_own_keys, value_at, items_without}
-use Rattle.cache_store.specs.Identifiers.{KeepsIdentifiers}
-use Rattle.cache_store.specs.Promises.{Done, accepting, deleting, using, value_for}
-use Rattle.cache_store.specs.Recency.{used_first}
-use Rattle.cache_store.specs.Values.{Does, AreLive, IsAcceptable, IsLive}
+use Rattle.cache_commands.proofs.Held.{apart-map, left, value_at-map, length-without_at_most}
+use Rattle.cache_commands.proofs.LiveKeys.{live_keys_from, live_keys_are}
+use Rattle.cache_commands.specs.Among.{has_live, are_distinct, is_among_keys}
+use Rattle.cache_commands.specs.Handing.{AppendsNotes}
+use Rattle.cache_commands.specs.Held.{plain, have_own_keys, value_at, items_without}
+use Rattle.cache_commands.specs.Identifiers.{KeepsIdentifiers}
+use Rattle.cache_commands.specs.Promises.{Done, accepting, deleting, using, value_for}
+use Rattle.cache_commands.specs.Recency.{used_first}
+use Rattle.cache_commands.specs.Values.{Does, AreLive, IsAcceptable, IsLive}
 use Rattle.cache_front.proofs.kept.Identifying.{inserted-no_more, keeps_identifiers, looked-no_more, removed-no_more}
 use Rattle.cache_front.proofs.kept.Storing.{enough-parted, enough-parts, enough-knows, Comes, keeps-accept, keeps-look_up, keeps-remove, maintained_from, takes_values, value-new}
 use Rattle.cache_front.proofs.parts.Accepting.{accept_does}

@@ -7,8 +7,8 @@ use Rattle.audit_model.specs.History.{part_count}
 use Rattle.audit_model.specs.Recency.{keys_without}
 use Rattle.audit_model.specs.Situation.{HeldValue}
 use Rattle.audit_model.specs.declared.config.Config.{Config}
-use Rattle.cache_store.specs.Promises.{Frame}
-use Rattle.cache_store.specs.Recency.{AreKeysOf, IsPlainLru, put_first, used_first}
+use Rattle.cache_commands.specs.Promises.{Frame}
+use Rattle.cache_commands.specs.Recency.{AreKeysOf, IsPlainLru, put_first, used_first}
 use Rattle.audit_model.specs.declared.config.Weight.{Weight}
 use Rattle.audit_model.specs.declared.transcript.Note.{Note}
 use Rattle.engine_reference.specs.declared.data.Settings.{Settings}
@@ -17,8 +17,8 @@ use Rattle.engine_reference.specs.Records.{held_entries}
 use Rattle.engine_reference.specs.Runs.{Runs}
 use Rattle.engine_reference.specs.Visible.{visible_record}
 use Rattle.engine_reference.proofs.Accounts.{each-map}
-use Rattle.cache_store.specs.Held.{plain}
-use Rattle.cache_store.proofs.Held.{permutation}
+use Rattle.cache_commands.specs.Held.{plain}
+use Rattle.cache_commands.proofs.Held.{permutation}
 use Rattle.cache_front.specs.Parts.{Part, Stands, Stored, IsProper, service_answers, items_of, items_in, as_held_value, value_put, key_taken_out, drained}
 use Rattle.cache_front.specs.Recent.{IsLasting, IsPlain, IsRecent, IsFresh, IsRecentOver, MovesRecency}
 use Rattle.cache_front.proofs.parts.Items.{apart-of}

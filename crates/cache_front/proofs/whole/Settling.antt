@@ -18,10 +18,10 @@ use Rattle.audit_model.specs.Commands.{Covering, Everything, Prefixed}
 use Rattle.audit_model.specs.History.{part_count}
 use Rattle.audit_model.specs.Situation.{HeldValue}
 use Rattle.audit_model.specs.declared.config.Weight.{Weight}
-use Rattle.cache_store.specs.Handing.{AppendsNotes}
-use Rattle.cache_store.specs.Identifiers.{AreUsedUp, KeepsIdentifiers}
-use Rattle.cache_store.specs.Promises.{covering, Done, syncing}
-use Rattle.cache_store.specs.Values.{Does, LacksIdentifiers, IsSettled, IsSoundStore, IsSpent}
+use Rattle.cache_commands.specs.Handing.{AppendsNotes}
+use Rattle.cache_commands.specs.Identifiers.{AreUsedUp, KeepsIdentifiers}
+use Rattle.cache_commands.specs.Promises.{covering, Done, syncing}
+use Rattle.cache_commands.specs.Values.{Does, LacksIdentifiers, IsSettled, IsSoundStore, IsSpent}
 use Rattle.cache_front.proofs.kept.Identifying.{keeps_identifiers, never_in_vain, registers_all, used_up, released, run_no_more}
 use Rattle.cache_front.proofs.kept.Storing.{covers-all, held-each, keeps-clear, keeps-cover, there-too, Comes, RunsDrained, all-ready, enough-knows, fits-part, keeps-run_all, lean, left-by, news-kept, rested-part, weighs as weighs_little}
 use Rattle.cache_front.proofs.parts.Looking.{AllCover, CoversToo, cover_does, none, next}

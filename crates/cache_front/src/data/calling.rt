@@ -12,7 +12,7 @@ ghost use Rattle.cache_front.specs.Data.{hash_with, CoversBy, InsertsBy, LackTic
 use crate::data::{Front, Notes};
 use crate::entries::StoredValue;
 use audit_model::{Bytes, Key, Seq};
-use cache_store::StoreError;
+use cache_commands::StoreError;
 use front_reference::{At, CacheError, ClonedKey};
 use policy_base::Instant;
 use rand_core::Rng;

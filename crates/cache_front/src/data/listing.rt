@@ -3,7 +3,7 @@ ghost use Rattle.std.specs.Prelude.{◌≡◌, ◌<◌, ◌^◌, ◌++◌, true,
 ghost use Rattle.std.specs.List.{concat, filter};
 ghost use Rattle.audit_model.specs.Bytewise.{text_line};
 ghost use Rattle.audit_model.specs.Values.{sorted};
-ghost use Rattle.cache_store.specs.Among.{are_distinct};
+ghost use Rattle.cache_commands.specs.Among.{are_distinct};
 ghost use Rattle.front_state.specs.Calls.{keys_of};
 ghost use Rattle.cache_front.specs.Data.{hash_with};
 ghost use Rattle.cache_front.specs.Listing.{held_by_all, is_seen, seen_by_all};

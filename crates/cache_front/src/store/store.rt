@@ -10,7 +10,7 @@ use crate::data::{
 };
 use crate::entries::{StoredValue, WordBuilder};
 use audit_model::{Config, Key, Note, Weight};
-use cache_store::{Counts, Store, StoreError};
+use cache_commands::{Counts, Store, StoreError};
 use engine_pending::fifo::take_first;
 use policy_base::Instant;
 use rand_core::Rng;

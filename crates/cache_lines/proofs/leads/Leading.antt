@@ -26,8 +26,8 @@ use Rattle.cache_lines.specs.Leads.Leads.{still_told}
 use Rattle.cache_lines.specs.Lines.{are_timely, has_its_part, is_timely_after}
 use Rattle.cache_lines.specs.Making.{Making}
 use Rattle.cache_lines.specs.Ordered.{HasKeys, HaveKeys, OrdersSteps, order_behind, order_behind_step}
-use Rattle.cache_store.specs.Recency.{IsPlainLru}
-use Rattle.cache_store.specs.Values.{Values}
+use Rattle.cache_commands.specs.Recency.{IsPlainLru}
+use Rattle.cache_commands.specs.Values.{Values}
 
 -- ---- what is due
 

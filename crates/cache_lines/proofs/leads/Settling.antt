@@ -44,7 +44,7 @@ use Rattle.cache_lines.specs.Lines.{has_its_part, is_timely_after, ready, set_in
 use Rattle.cache_lines.specs.Making.{Making}
 use Rattle.cache_lines.specs.Ordered.{order_behind_step}
 use Rattle.cache_lines.specs.Tape.Taped.{step_held}
-use Rattle.cache_store.specs.Identifiers.{KeepsIdentifiers}
+use Rattle.cache_commands.specs.Identifiers.{KeepsIdentifiers}
 use Rattle.cache_lines.specs.Waiting.{holding_load, waiting_with, with_loads}
 use Rattle.audit_model.specs.declared.command.Command.TheVariants as says
 use Rattle.audit_model.specs.declared.event.Outcome.TheVariants as came

@@ -31,7 +31,7 @@ use Rattle.cache_lines.specs.Making.{Making}
 use Rattle.cache_lines.specs.Waiting.{holding_load, waiting_with, with_loads}
 use Rattle.cache_lines.specs.Leads.Leads.{SettlingLeads, still_told}
 use Rattle.cache_lines.specs.Ordered.{order_behind_step}
-use Rattle.cache_store.specs.Identifiers.{KeepsIdentifiers}
+use Rattle.cache_commands.specs.Identifiers.{KeepsIdentifiers}
 
 -- no step leads nowhere else
 abbrev pub NothingLeads : Type 0

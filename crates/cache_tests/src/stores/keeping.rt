@@ -4,8 +4,8 @@ ghost use Rattle.audit_model.specs.History.{accepts_values};
 
 use crate::rows::PLAIN;
 use audit_model::{Config, Key, Weight};
+use cache_commands::Store;
 use cache_front::{FrontStore, KeyedHasher};
-use cache_store::Store;
 use rand_core::SeedableRng;
 use rand_xoshiro::SplitMix64;
 use std::alloc::{AllocError, Global};

@@ -1,10 +1,11 @@
 //! `delete`, `incr`, `decr`, `touch` and `flush_all`.
-ghost use Rattle.std.specs.Prelude.{◌≡◌, IfOk, OnErr, Some, None};
+ghost use Rattle.std.specs.Prelude.{◌≡◌, IfOk, OnErr, Some, None, true};
+ghost use Rattle.memcache_model.specs.Commands.{flush_all};
 ghost use Rattle.memcache_model.specs.Answers.{counts, deletes_one, flushes, touches_one};
 ghost use Rattle.memcache_model.specs.Items.{exptime_deadline};
 ghost use Rattle.memcache_model.specs.Outcomes.{counted};
 ghost use Rattle.memcache_service.specs.Shelves.{MayComeAt};
-ghost use Rattle.memcache_service.specs.Stocks.{Did, Spares, stock_at};
+ghost use Rattle.memcache_service.specs.Stocks.{Did, Spares, may_want, stock_at};
 ghost use Rattle.memcache_service.specs.Lines.{reply_text};
 
 use super::Stock;
@@ -87,6 +88,7 @@ impl<T: Shelf> Stock<T> {
         ensures ok { IfOk result (λ reply. Did T.view moment (flushes moment exptime
             (stock_at T.view moment self.old)) self.old self.new (reply_text reply)) }
         ensures err { OnErr result (Spares self.old self.new) }
+        ensures wants { OnErr result (may_want (flush_all exptime) ≡ true) }
     {
         self.counters.up(Tally::CmdFlush);
         match exptime {

@@ -4,11 +4,11 @@ ghost use Rattle.std.specs.Option.{option_or};
 ghost use Rattle.memcache_model.specs.Answers.{passes_over};
 ghost use Rattle.memcache_model.specs.Bytes.{tokens};
 ghost use Rattle.memcache_model.specs.Items.{Item};
-ghost use Rattle.memcache_model.specs.Meta.{code_alone, goes_on, ends_before, is_other, is_renewed, item_text, meta_answer, meta_arithmetic, meta_compare, meta_counted, meta_get, meta_get_none, meta_item, meta_put, meta_set_answer, meta_stored, mode_of, names_none, retimed_by, set_fault, stored_text, told_to_count, told_to_set, unless_faulty, unless_quiet};
+ghost use Rattle.memcache_model.specs.Meta.{code_alone, count_fault, flags_fault, goes_on, ends_before, is_other, is_renewed, item_text, meta_answer, meta_arithmetic, meta_compare, meta_counted, meta_get, meta_get_none, meta_item, meta_put, meta_set_answer, meta_stored, mode_of, names_none, retimed_by, set_fault, stored_text, told_to_count, told_to_set, unless_faulty, unless_quiet};
 ghost use Rattle.memcache_model.specs.Outcomes.{changes};
 ghost use Rattle.memcache_service.specs.Lines.{reply_text, said_from};
 ghost use Rattle.memcache_service.specs.Shelves.{MayComeAt, live_on};
-ghost use Rattle.memcache_service.specs.Stocks.{Did, LeavesAll, Spares, stock_at};
+ghost use Rattle.memcache_service.specs.Stocks.{Did, LeavesAll, Spares, meta_fault, stock_at};
 ghost use Rattle.memcache_service.specs.Told.{found_item, late_by, moded, told_found};
 
 use super::Stock;
@@ -17,6 +17,7 @@ use super::flags::{
     number_of, set_fault,
 };
 use super::keys::counted;
+use super::reading::note_use;
 use super::storing::{before_within, behind_within};
 use super::telling::{Lease, TOLD_TO_COUNT, TOLD_TO_GET, TOLD_TO_SET, Told, say_alone};
 use crate::counters::Tally;
@@ -59,6 +60,7 @@ impl<T: Shelf> Stock<T> {
             ((stock_at T.view moment self.old).items key.now) (stock_at T.view moment self.old))
             self.old self.new (said_from (length output.old.items) output.new.items reply)) }
         ensures err { OnErr result (Spares self.old self.new) }
+        ensures wants { OnErr result (meta_fault kind (tokens flags.now) ≡ None) }
         ensures begun { take (length output.old.items) output.new.items ≡ output.old.items }
         ensures capacity { vec_capacity output.old ≤ vec_capacity output.new }
     {
@@ -87,6 +89,7 @@ impl<T: Shelf> Stock<T> {
             (stock_at T.view moment self.old))
             self.old self.new (said_from (length output.old.items) output.new.items reply)) }
         ensures err { OnErr result (Spares self.old self.new) }
+        ensures wants { OnErr result (set_fault (tokens flags.now) ≡ None) }
         ensures begun { take (length output.old.items) output.new.items ≡ output.old.items }
         ensures capacity { vec_capacity output.old ≤ vec_capacity output.new }
     {
@@ -108,6 +111,7 @@ impl<T: Shelf> Stock<T> {
             (stock_at T.view moment self.old)) (stock_at T.view moment self.old))
             self.old self.new (reply_text reply)) }
         ensures err { OnErr result (Spares self.old self.new) }
+        ensures wants { OnErr result (set_fault (tokens flags.now) ≡ None) }
     {
         match set_fault(flags) {
             Some(error) => Ok(Reply::Fault(error)),
@@ -125,6 +129,7 @@ impl<T: Shelf> Stock<T> {
             (stock_at T.view asked.entry.moment self.old))
             self.old self.new (said_from (length output.old.items) output.new.items reply)) }
         ensures err { OnErr result (Spares self.old self.new) }
+        ensures wants { OnErr result (flags_fault (tokens asked.entry.flags.now) ≡ None) }
         ensures begun { take (length output.old.items) output.new.items ≡ output.old.items }
         ensures capacity { vec_capacity output.old ≤ vec_capacity output.new }
     {
@@ -156,7 +161,7 @@ impl<T: Shelf> Stock<T> {
         match changed {
             Some(item) => self.shelf.put(&self.key, item, moment),
             None => {
-                self.shelf.note_use(&self.key, moment);
+                note_use(&mut self.shelf, &self.key, moment);
                 Ok(())
             }
         }
@@ -232,6 +237,7 @@ impl<T: Shelf> Stock<T> {
             (stock_at T.view asked.entry.moment self.old))
             self.old self.new (said_from (length output.old.items) output.new.items reply)) }
         ensures err { OnErr result (Spares self.old self.new) }
+        ensures wants { OnErr result (flags_fault (tokens asked.entry.flags.now) ≡ None) }
         ensures begun { take (length output.old.items) output.new.items ≡ output.old.items }
         ensures capacity { vec_capacity output.old ≤ vec_capacity output.new }
     {
@@ -274,6 +280,7 @@ impl<T: Shelf> Stock<T> {
             (stock_at T.view asked.entry.moment self.old))
             self.old self.new (said_from (length output.old.items) output.new.items reply)) }
         ensures err { OnErr result (Spares self.old self.new) }
+        ensures wants { OnErr result (count_fault (tokens asked.entry.flags.now) ≡ None) }
         ensures begun { take (length output.old.items) output.new.items ≡ output.old.items }
         ensures capacity { vec_capacity output.old ≤ vec_capacity output.new }
     {
@@ -361,6 +368,7 @@ impl<T: Shelf> Stock<T> {
             (stock_at T.view asked.entry.moment self.old))
             self.old self.new (said_from (length output.old.items) output.new.items reply)) }
         ensures err { OnErr result (Spares self.old self.new) }
+        ensures wants { OnErr result (set_fault (tokens asked.entry.flags.now) ≡ None) }
         ensures begun { take (length output.old.items) output.new.items ≡ output.old.items }
         ensures capacity { vec_capacity output.old ≤ vec_capacity output.new }
     {

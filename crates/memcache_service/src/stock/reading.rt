@@ -1,17 +1,17 @@
 //! `get` and `gat`.
-ghost use Rattle.std.specs.Prelude.{◌≡◌, ℕ, ◌≤◌, ◌++◌, take, length, vec_capacity, IfOk, OnOk, OnErr};
+ghost use Rattle.std.specs.Prelude.{◌≡◌, ℕ, ◌≤◌, ◌∷◌, ◌++◌, [], codes, take, length, option_map, vec_capacity, IfOk, IsOk, OnOk, OnErr};
 ghost use Rattle.memcache_model.specs.Answers.{tells_items, touches_one};
 ghost use Rattle.memcache_model.specs.Bytes.{tokens};
 ghost use Rattle.memcache_model.specs.Items.{exptime_deadline};
 ghost use Rattle.memcache_model.specs.Replies.{values_text};
-ghost use Rattle.memcache_service.specs.Shelves.{MayComeAt, live_on};
+ghost use Rattle.memcache_service.specs.Shelves.{Becomes, MayComeAt, UsesOne, live_on, lone_key};
 ghost use Rattle.memcache_service.specs.Stocks.{Did, LeavesStock, Spares, Touches, stock_at};
 ghost use Rattle.memcache_service.specs.Lines.{reply_text};
 
 use super::Stock;
 use crate::counters::Tally;
-use crate::item::deadline_of;
-use crate::replies::{Reply, say, say_value};
+use crate::item::{StoredItem, deadline_of};
+use crate::replies::{Reply, say, say_value, say_whole};
 use crate::shelf::Shelf;
 use audit_model::Key;
 use memcache_lines::next_token;
@@ -23,8 +23,60 @@ const MAX_REPLY: usize = 1 << 26;
 
 impl<T: Shelf> Stock<T> {
     /// Appends the live items of the keys to `output`, uses them, and returns the rest of the reply. Returns an error if there is not
-    /// enough memory; then the request has done nothing.
+    /// enough memory; then the request has done nothing, and used no item.
     pub fn get(
+        &mut self,
+        uniques: bool,
+        keys: &[u8],
+        moment: u64,
+        output: &mut Vec<u8>,
+    ) -> Result<Reply, AllocError>
+        requires { MayComeAt (T.view self.old.shelf) moment }
+        ensures told { IfOk result (λ reply. (reply ≡ Reply.Written)
+            × (output.new.items ≡ output.old.items
+            ++ tells_items uniques (tokens keys.now) (stock_at T.view moment self.old).items)) }
+        ensures begun { take (length output.old.items) output.new.items ≡ output.old.items }
+        ensures capacity { vec_capacity output.old ≤ vec_capacity output.new }
+        ensures keeps { LeavesStock T.view moment self.old self.new }
+        ensures used { OnOk result
+            (UsesOne T.uses moment (tokens keys.now) self.old.shelf self.new.shelf) }
+        ensures err { OnErr result (Spares self.old self.new) }
+    {
+        match only_token(keys) {
+            Some(key) => self.get_one(uniques, key, moment, output),
+            None => self.get_all(uniques, keys, moment, output),
+        }
+    }
+
+    /// Appends the live item of a key to `output`, uses it, and returns the rest of the reply. The key is looked up once. Returns an error if
+    /// there is not enough memory; then the request has done nothing, and used no item.
+    pub fn get_one(
+        &mut self,
+        uniques: bool,
+        key: &[u8],
+        moment: u64,
+        output: &mut Vec<u8>,
+    ) -> Result<Reply, AllocError>
+        requires { MayComeAt (T.view self.old.shelf) moment }
+        ensures told { IfOk result (λ reply. (reply ≡ Reply.Written)
+            × (output.new.items ≡ output.old.items ++ tells_items uniques (key.now ∷ [])
+            (stock_at T.view moment self.old).items)) }
+        ensures begun { take (length output.old.items) output.new.items ≡ output.old.items }
+        ensures capacity { vec_capacity output.old ≤ vec_capacity output.new }
+        ensures keeps { LeavesStock T.view moment self.old self.new }
+        ensures used { OnOk result (T.uses moment key.now self.old.shelf self.new.shelf) }
+        ensures err { OnErr result (Spares self.old self.new) }
+    {
+        self.key.fill(key)?;
+        let found = self.shelf.look(&self.key, moment, output, |found, output| {
+            say_only(output, uniques, key, found)
+        })?;
+        self.count_look(found);
+        Ok(Reply::Written)
+    }
+
+    /// The same as `get`, for any number of keys. A look-up may remove items that other keys name, so all are told before one is used.
+    fn get_all(
         &mut self,
         uniques: bool,
         keys: &[u8],
@@ -62,15 +114,22 @@ impl<T: Shelf> Stock<T> {
         requires { MayComeAt (T.view self.old.shelf) moment }
         ensures { LeavesStock T.view moment self.old self.new }
     {
-        self.counters.up(Tally::CmdGet);
         if self.key.fill(key).is_ok() {
-            let found = self.shelf.note_use(&self.key, moment);
-            self.counters.up(if found {
-                Tally::GetHits
-            } else {
-                Tally::GetMisses
-            });
+            let found = note_use(&mut self.shelf, &self.key, moment);
+            self.count_look(found);
         }
+    }
+
+    /// Counts a look-up that found an item, or none.
+    fn count_look(&mut self, found: bool)
+        ensures { self.new ≡ record self.old { counters = self.new.counters } }
+    {
+        self.counters.up(Tally::CmdGet);
+        self.counters.up(if found {
+            Tally::GetHits
+        } else {
+            Tally::GetMisses
+        });
     }
 
     /// Appends the live items of the keys to `output`, gives them another expiry, and returns the rest of the reply. Returns an error if
@@ -149,6 +208,17 @@ impl<T: Shelf> Stock<T> {
     }
 }
 
+/// Returns the key, if it is the only one.
+fn only_token(keys: &[u8]) -> Option<&[u8]>
+    ensures { option_map (λ key. key.now) result ≡ lone_key (tokens keys.now) }
+{
+    let (key, rest) = next_token(keys)?;
+    match next_token(rest) {
+        None => Some(key),
+        Some(_) => None,
+    }
+}
+
 /// Writes the live items of the keys, and the end.
 fn say_live<T: Shelf>(
     shelf: &T,
@@ -192,6 +262,57 @@ fn say_one<T: Shelf>(
     match shelf.peek(key, moment) {
         Some(item) => say_value(output, uniques, key.as_bytes(), item),
         None => Ok(()),
+    }
+}
+
+/// Writes an item that was found, if there is one, and the end, as the reply of a `get` of one key. Returns whether there is an item, and an
+/// error if there is not enough memory; then nothing is written.
+fn say_only(
+    output: &mut Vec<u8>,
+    uniques: bool,
+    key: &[u8],
+    found: Option<&StoredItem>,
+) -> Result<bool, AllocError>
+    ensures ok { OnOk result (output.new.items ≡ output.old.items
+        ++ (values_text uniques key.now (option_map (λ item. item.now) found.entry)
+        ++ codes "END\r\n")) }
+    ensures err { OnErr result (output.new.items ≡ output.old.items) }
+    ensures capacity { vec_capacity output.old ≤ vec_capacity output.new }
+{
+    match found {
+        Some(item) => {
+            if item.bytes.len() > MAX_REPLY {
+                return Err(AllocError);
+            }
+            say_whole(output, uniques, key, item)?;
+            Ok(true)
+        }
+        None => {
+            say(output, b"END\r\n")?;
+            Ok(false)
+        }
+    }
+}
+
+/// Uses the live item of a key, and returns whether there is one.
+pub fn note_use<T: Shelf>(shelf: &mut T, key: &Key, moment: u64) -> bool
+    requires { MayComeAt (T.view shelf.old) moment }
+    ensures used { T.uses moment key.now shelf.old shelf.new }
+    ensures becomes { Becomes moment ((T.view shelf.old).items moment) (T.view shelf.new) }
+    ensures capacity { (T.view shelf.new).capacity ≡ (T.view shelf.old).capacity }
+{
+    let mut nothing = ();
+    let looked = shelf.look(
+        key,
+        moment,
+        &mut nothing,
+        |found: Option<&StoredItem>, _: &mut ()| -> Result<bool, AllocError>
+            ensures { IsOk result }
+        { Ok(found.is_some()) },
+    );
+    match looked {
+        Ok(found) => found,
+        Err(AllocError) => unreachable!(),
     }
 }
 

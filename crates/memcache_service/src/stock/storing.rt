@@ -1,10 +1,11 @@
 //! The storage commands.
-ghost use Rattle.std.specs.Prelude.{◌≡◌, ◌↔◌, ◌<◌, ◌≤◌, ◌+◌, ◌^◌, ◌++◌, [], length, nat_lt, IsTrue, IfOk, OnOk, OnErr, Some, None, if◌then◌else◌};
+ghost use Rattle.std.specs.Prelude.{◌≡◌, ◌↔◌, ◌<◌, ◌≤◌, ◌+◌, ◌^◌, ◌++◌, [], length, nat_lt, IsTrue, true, IfOk, OnOk, OnErr, Some, None, if◌then◌else◌};
 ghost use Rattle.memcache_model.specs.Answers.{passes_over, store_over};
+ghost use Rattle.memcache_model.specs.Commands.{oversize};
 ghost use Rattle.memcache_model.specs.Outcomes.{new_item, stores_item};
 ghost use Rattle.memcache_model.specs.Items.{exptime_deadline};
 ghost use Rattle.memcache_service.specs.Shelves.{MayComeAt};
-ghost use Rattle.memcache_service.specs.Stocks.{Did, LeavesAll, Spares, block_item, appends_to, stock_at};
+ghost use Rattle.memcache_service.specs.Stocks.{Did, LeavesAll, Spares, block_item, appends_to, may_want, stock_at};
 ghost use Rattle.memcache_service.specs.Lines.{reply_text};
 
 use super::Stock;
@@ -220,6 +221,7 @@ impl<T: Shelf> Stock<T> {
         ensures ok { IfOk result (λ reply. Did T.view moment (passes_over storage key.now
             (stock_at T.view moment self.old)) self.old self.new (reply_text reply)) }
         ensures err { OnErr result (Spares self.old self.new) }
+        ensures wants { OnErr result (may_want (oversize storage key.now) ≡ true) }
     {
         self.counters.up(Tally::CmdSet);
         match storage {

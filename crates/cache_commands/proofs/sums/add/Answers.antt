@@ -3,7 +3,7 @@ use Rattle.std.specs.Option.{option_map}
 use Rattle.audit_model.specs.History.{accepts_values}
 use Rattle.audit_model.specs.declared.config.Config.{Config}
 use Rattle.cache_commands.specs.Sums.{sum_of_bytes}
-use Rattle.cache_store.specs.Values.{AcceptsValue}
+use Rattle.cache_commands.specs.Values.{AcceptsValue}
 use Rattle.cache_commands.proofs.Answered.{answered-add-off, answered-added, answered-unsummed}
 use Rattle.cache_commands.proofs.sums.add.Goals as goal
 

@@ -3,7 +3,7 @@ use Rattle.std.specs.Option.{option_map}
 use Rattle.cache_lines.specs.Bases.{seen_on}
 use Rattle.cache_lines.specs.Tape.Taped.{finishes}
 use Rattle.cache_lines.specs.declared.base.Base.{Base}
-use Rattle.cache_store.specs.Values.{IsSoundStore}
+use Rattle.cache_commands.specs.Values.{IsSoundStore}
 use Rattle.audit_model.specs.declared.event.Event.TheVariants as event
 use Rattle.cache_core.proofs.Follows.{fed-begun, fed-started, finish-same}
 use Rattle.cache_core.proofs.recording.feed_recorded.Goals as goal

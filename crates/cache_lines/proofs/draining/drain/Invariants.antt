@@ -1,5 +1,5 @@
 use Rattle.std.specs.Prelude.{◌≡◌, ◌+◌, ◌≤◌, ◌++◌, length, vec_len, vec_capacity}
-use Rattle.cache_store.specs.Values.{GivesNote}
+use Rattle.cache_commands.specs.Values.{GivesNote}
 use Rattle.cache_lines.proofs.draining.drain.Given as goal
 
 abbrev pub invariant-loop-note : goal.invariant-loop-note

@@ -6,7 +6,7 @@ use Rattle.audit_model.specs.declared.config.Config.{Config}
 use Rattle.cache_commands.proofs.Taking.{taken-on, taken-same}
 use Rattle.cache_core.specs.Settled.{IsAmid, Parts}
 use Rattle.cache_core.specs.Settling.{AreWaiting, IsWaitingAt}
-use Rattle.cache_store.specs.Promises.{Frame}
+use Rattle.cache_commands.specs.Promises.{Frame}
 use Rattle.cache_core.proofs.Amid.{parts-none, parts-on, amid-all, amid-two, give-up-more, there-number}
 use Rattle.cache_core.proofs.Touched.{first-waits, next-waits, left-wait, rest-next, waits-above, waits-inside, waits-numbered}
 use Rattle.cache_core.proofs.interior.Interior.give_up_all.Goals as goal

@@ -10,7 +10,7 @@ use Rattle.cache_core.specs.Turned.{RefusesBy}
 use Rattle.cache_lines.specs.Tape.Taped.{finishes}
 use Rattle.cache_lines.specs.Waiting.{under_way}
 use Rattle.cache_lines.specs.declared.base.Base.{Base}
-use Rattle.cache_store.specs.Values.{IsSoundStore}
+use Rattle.cache_commands.specs.Values.{IsSoundStore}
 use Rattle.audit_model.specs.declared.input.ServiceError.TheVariants as error
 use Rattle.cache_core.proofs.Admitted.{amid-begun, given-admitted, waiting-now}
 use Rattle.cache_core.proofs.Amid.{started-begun, written-begun}

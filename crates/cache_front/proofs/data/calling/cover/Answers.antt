@@ -1,5 +1,5 @@
 use Rattle.std.proofs.Common.{◌≡◌, true, false, inl}
-use Rattle.cache_store.specs.declared.error.StoreError.TheVariants as refusals
+use Rattle.cache_commands.specs.declared.error.StoreError.TheVariants as refusals
 use Rattle.cache_front.proofs.data.Calls.{draws_in_vain, tickets_for_all}
 use Rattle.cache_front.proofs.data.calling.cover.Goals as goal
 

@@ -4,7 +4,7 @@ use Rattle.front_reference.specs.Fronts.{part_of}
 use Rattle.cache_front.specs.Parts.{service_answers}
 use Rattle.cache_front.specs.Data.{hash_with}
 use Rattle.cache_front.proofs.data.Calls.{tickets_from}
-use Rattle.cache_store.proofs.Keys.{equal_from_same}
+use Rattle.cache_commands.proofs.SameKeys.{equal_from_same}
 use Rattle.cache_front.proofs.data.calling.insert.Goals as goal
 
 pub returns-in-Err-clause-used_up : goal.returns-in-Err-clause-used_up

@@ -8,7 +8,7 @@ pub returns-in-Some-clause-settled : goal.returns-in-Some-clause-settled
 returns-in-Some-clause-settled g c =
     let ok = c.in_ok-owed in
     let keep = c.keep.ensures in
-    (keep.0, given-settles g.H.Host.came g.H.Host.rests c.args.conn c.args.load c.args.moment c.args.said ok.field-0 c.args.place.now c.settle.new.place _ (ap outs_in c.in-Some.is ∙ keep.1) ok.ensures.came, keep.2)
+    (keep.kept, given-settles g.H.Host.came g.H.Host.rests c.args.conn c.args.load c.args.moment c.args.said ok.field-0 c.args.place.now c.settle.new.place _ (ap outs_in c.in-Some.is ∙ keep.of) ok.ensures.came, keep.behind)
 
 pub returns-clause-settled : goal.returns-clause-settled
 returns-clause-settled g c =

@@ -13,8 +13,8 @@ loop-late-preserved g c =
     let one = held_one gone.result l.host.loads.items gone.new.self.pending.items in
     let after = held c.settle.new.host.loads.items c.settle.new.self.pending.items in
     let told = c.settle.ensures.told in
-    let each = settle-told g.H.Host.came g.H.Host.rests c.args.self.now.conn gone.result None told.0 l.host.loads.items c.settle.new.host.loads.items gone.new.self.pending.items c.settle.new.self.pending.items l.place c.settle.new.place
-    (subst (λ k. Resolves g.H.Host.came g.H.Host.rests k gone.result None l.place told.0 c.settle.new.place) same told.1) told.2 c.settle.ensures.same.1 in
+    let each = settle-told g.H.Host.came g.H.Host.rests c.args.self.now.conn gone.result c.now-moment.result None told.0 l.host.loads.items c.settle.new.host.loads.items gone.new.self.pending.items c.settle.new.self.pending.items l.place c.settle.new.place
+    (subst (λ k. Resolves g.H.Host.came g.H.Host.rests k gone.result c.now-moment.result None l.place told.0 c.settle.new.place) same told.1) told.2 c.settle.ensures.same.1 in
     record {
       each = settle-on g.H.Host.came g.H.Host.rests c.args.self.now.conn all before one after all after c.args.place.now l.place c.settle.new.place l.invariant.each each (λ n. let less = gone.ensures.one n in omega (arith, less));
       conn = c.settle.ensures.same.0 ∙ same;

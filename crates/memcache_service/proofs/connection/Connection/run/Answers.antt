@@ -12,7 +12,7 @@ pub loop-moment-init : goal.loop-moment-init
 loop-moment-init g c = record {
   within = omega arith;
   served =
-      subst (λ (ends : Bool). AreServed g.T.Shelf.view c.args.moment c.args.stock.now.most c.args.stock.now c.args.bytes.now c.args.self.now.skip c.args.self.now.output.items c.args.stock.now c.args.bytes.now c.args.self.now.skip c.args.self.now.output.items ends) (sym c.requires.going) no_more;
+      subst (λ (ends : Bool). AreServed g.T.Shelf c.args.moment c.args.stock.now.most c.args.stock.now c.args.bytes.now c.args.self.now.skip c.args.self.now.output.items c.args.stock.now c.args.bytes.now c.args.self.now.skip c.args.self.now.output.items ends) (sym c.requires.going) no_more;
   input = refl;
   may_follow = c.requires.in_time;
   most = refl;
@@ -42,11 +42,11 @@ loop-moment-preserved g c =
     let before = c.args.self.now.output.items in
     let skipped = c.args.self.now.skip in
     let still = c.may_run.ensures.going c.loop-moment-test.true in
-    let going = subst (λ (ends : Bool). AreServed g.T.Shelf.view c.args.moment most first bytes skipped before c.loop-moment.stock (drop start bytes) c.loop-moment.self.skip c.loop-moment.self.output.items ends) still were.served in
+    let going = subst (λ (ends : Bool). AreServed g.T.Shelf c.args.moment most first bytes skipped before c.loop-moment.stock (drop start bytes) c.loop-moment.self.skip c.loop-moment.self.output.items ends) still were.served in
     record {
       within = omega (arith, m, were.within);
-      served = subst (λ (ends : Bool). AreServed g.T.Shelf.view c.args.moment most first bytes skipped before c.serve.new.stock (drop (start + c.min-there.result) bytes) (c.in-Request.used - c.min-there.result) c.serve.new.self.output.items ends) (sym c.in_ok-serve-in-Request.ensures.ended)
-          (served_one g.T.Shelf.view c.args.moment most first bytes skipped before c.loop-moment.stock c.serve.new.stock r c.in-Request.used c.loop-moment.self.skip start c.min-there.result c.loop-moment.self.output.items c.serve.new.self.output.items were.within m going
+      served = subst (λ (ends : Bool). AreServed g.T.Shelf c.args.moment most first bytes skipped before c.serve.new.stock (drop (start + c.min-there.result) bytes) (c.in-Request.used - c.min-there.result) c.serve.new.self.output.items ends) (sym c.in_ok-serve-in-Request.ensures.ended)
+          (served_one g.T.Shelf c.args.moment most first bytes skipped before c.loop-moment.stock c.serve.new.stock r c.in-Request.used c.loop-moment.self.skip start c.min-there.result c.loop-moment.self.output.items c.serve.new.self.output.items were.within m going
           (arrived-from most c.loop-moment.stock.most bytes start (request r c.in-Request.used) c.in-Request.ensures were.most) c.in_ok-serve-in-Request.ensures.served);
       input = c.serve.ensures.kept ∙ were.input;
       may_follow = c.serve.ensures.may_follow;
@@ -70,6 +70,6 @@ returns-in_err-serve-in-Request-clause-lacks g c =
     let p = err_from_is_err_and c.from_residual.result c.from_residual.ensures.1 in
     let were = c.loop-moment.invariant in
     let refused = c.in_err-serve-in-Request.ensures.refused in
-    rw p.1 (lacked g.T.Shelf.view c.args.moment c.args.stock.now.most c.args.stock.now c.args.bytes.now c.args.self.now.skip c.args.self.now.output.items c.loop-moment.stock c.serve.new.stock
+    rw p.1 (lacked g.T.Shelf c.args.moment c.args.stock.now.most c.args.stock.now c.args.bytes.now c.args.self.now.skip c.args.self.now.output.items c.loop-moment.stock c.serve.new.stock
     (drop c.loop-moment.start c.args.bytes.now) c.loop-moment.self.skip c.loop-moment.self.output.items c.serve.new.self.output.items c.loop-moment.self.is_closed
     (c.may_run.ensures.going c.loop-moment-test.true) were.served refused.0 refused.1)

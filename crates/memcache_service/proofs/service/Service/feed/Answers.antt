@@ -31,9 +31,9 @@ returns-in-Err-clause-lacks g c =
 pub returns-in-Ok-clause-capacity : goal.returns-in-Ok-clause-capacity
 returns-in-Ok-clause-capacity g c =
     let first = record c.args.self.now.stock { counters = c.add.new.self } in
-    fed-capacity g.T.Shelf.view c.later-now.result c.args.piece.now c.in-Some.connection.now c.feed-fed.new.self first c.feed-fed.new.stock _ refl c.in-Ok.ensures.feeds (λ closed. (c.in-Ok.ensures.closed closed).2)
+    fed-capacity g.T.Shelf c.later-now.result c.args.piece.now c.in-Some.connection.now c.feed-fed.new.self first c.feed-fed.new.stock _ refl c.in-Ok.ensures.feeds (λ closed. (c.in-Ok.ensures.closed closed).2)
 
 pub returns-in-Err-clause-capacity : goal.returns-in-Err-clause-capacity
 returns-in-Err-clause-capacity g c =
     let first = record c.args.self.now.stock { counters = c.add.new.self } in
-    failed-capacity g.T.Shelf.view c.later-now.result c.args.piece.now c.in-Some.connection.now c.feed-fed.new.self first c.feed-fed.new.stock c.in-Err.ensures.lacks
+    failed-capacity g.T.Shelf c.later-now.result c.args.piece.now c.in-Some.connection.now c.feed-fed.new.self first c.feed-fed.new.stock c.in-Err.ensures.lacks

@@ -1,4 +1,4 @@
-use Rattle.std.proofs.Common.{◌≡◌, ℕ, List, ◌++◌, [], ◌∙◌, subst, refl, length, take}
+use Rattle.std.proofs.Common.{◌≡◌, ℕ, List, ◌++◌, [], ◌∙◌, ap, subst, refl, length, take}
 use Rattle.std.specs.Prelude.{if◌then◌else◌}
 use Rattle.memcache_lines.specs.Said.{asks}
 use Rattle.memcache_model.specs.Commands.{Request}
@@ -11,13 +11,13 @@ use Rattle.memcache_service.proofs.stock.Stock.serve.Goals as goal
 
 pub returns-clause-served : goal.returns-clause-served
 returns-clause-served g c =
-    let view = g.T.Shelf.view in
-    let all = live_stock c.args.moment (kept_until view c.args.moment c.args.self.now) in
+    let shelf = g.T.Shelf in
+    let all = live_stock c.args.moment (kept_until shelf.view c.args.moment c.args.self.now) in
     let request : Request = record { command = asks c.args.request.now.command; quiet = c.args.request.now.quiet } in
     let after = c.answer-reply.new.output.items in
     let final : Stock g.row.T.Denot = record c.answer-reply.new.self { shelf = c.count_removals.new.self; counters = c.count_removals.new.counters } in
     let start_is : c.len-start.result ≡ length c.reserve.new.self.items = c.len-start.ensures ∙ c.reserve.new.self.ok.0 in
     let wrote = subst (λ (n : ℕ). c.end_reply.new.output.items ≡ take n after ++ (if request.quiet then [] else said_from n after c.answer-reply.result)) start_is c.end_reply.ensures in
-    subst (λ (before : List ℕ). WritesReply view c.args.moment all request c.args.self.now final before c.end_reply.new.output.items) c.reserve.ensures.items
-    (served view c.args.moment request all c.args.self.now c.flush_if_due.new.self c.answer-reply.new.self final c.reserve.new.self.items after c.end_reply.new.output.items c.answer-reply.result c.flush_if_due.ensures.most c.flush_if_due.ensures.capacity
-    c.in_ok-flush_if_due.ensures.ok c.answer-reply.ensures.answered c.count_removals.ensures refl refl (c.answer-reply.ensures.most ∙ c.flush_if_due.ensures.most) wrote)
+    subst (λ (before : List ℕ). WritesReply shelf c.args.moment all request c.args.self.now final before c.end_reply.new.output.items) c.reserve.ensures.items
+    (served shelf c.args.moment request all c.args.self.now c.flush_if_due.new.self c.answer-reply.new.self final c.reserve.new.self.items after c.end_reply.new.output.items c.answer-reply.result c.flush_if_due.ensures.most c.flush_if_due.ensures.capacity (λ early. ap (λ (s : Stock g.row.T.Denot). s.shelf) (c.flush_if_due.ensures.not_due early))
+    c.in_ok-flush_if_due.ensures.ok c.answer-reply.ensures.answered c.count_removals.ensures.counted c.count_removals.ensures.shows refl refl (c.answer-reply.ensures.most ∙ c.flush_if_due.ensures.most) wrote)

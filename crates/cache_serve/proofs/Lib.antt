@@ -1,7 +1,0 @@
-mod Lines
-mod Outgoing
-mod Refusing
-mod Seating
-mod Promised
-mod Telling
-mod Exchanging

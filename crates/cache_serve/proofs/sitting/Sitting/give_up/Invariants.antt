@@ -1,5 +1,0 @@
-use Rattle.cache_serve.specs.Sitting.{SeatRests, tally}
-use Rattle.cache_serve.proofs.sitting.Sitting.give_up.Given as goal
-
-abbrev pub invariant-loop-try : goal.invariant-loop-try
-invariant-loop-try g l = SeatRests (tally l.fn.seat) (tally l.seat)

@@ -1,0 +1,7 @@
+mod Lines
+mod Outgoing
+mod Refusing
+mod Seated
+mod Promised
+mod Telling
+mod Exchanging

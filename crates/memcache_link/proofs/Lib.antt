@@ -1,3 +1,0 @@
-mod Exchanging
-mod Serving
-mod Turning
