@@ -59,9 +59,6 @@ $version
 $version
 $version"
 
-# The gate checks it: the stored run of cached_check reads a copy.
-same "docs/cached.toml and crates/cached_check/data/cached.toml" "$(cat docs/cached.toml)" "$(cat crates/cached_check/data/cached.toml)"
-
 # The pictures and the tables of figures are those that the file of figures gives.
 PYTHONDONTWRITEBYTECODE=1 python3 benches/plots.py check
 

@@ -17,7 +17,7 @@ put() { # mode, file, place
     install -D -m "$1" "$2" "$root/$3"
 }
 
-names="cached cached_check bivrangd transcript"
+names="cached bivrangd transcript"
 for name in $names; do
     program=${programs:-crates/$name/out}/$name
     if [ ! -x "$program" ]; then

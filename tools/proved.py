@@ -24,7 +24,7 @@ USES = "crates/sync_tests/src/uses"
 # A clause without a name is shown by what it states, up to so many letters.
 SHORT = 100
 # Crates with calls that somebody calls from outside: the public ones, and those behind the programs.
-CRATES = [*api_docs.PUBLIC, "cached_server", "cached_config", "cache_loop", "bivrangd_server", "transcript_program", "audit_text", "memcache_lines", "memcache_model", "memcache_service", "memcache_cache"]
+CRATES = [*api_docs.PUBLIC, "cached_server", "cached_config", "cache_loop", "bivrangd_metrics", "bivrangd_server", "transcript_program", "audit_text", "memcache_lines", "memcache_model", "memcache_service", "memcache_cache"]
 MADE = "<!-- Made by tools/proved.py from the sources. Change the doc comments and the comments at clauses there. -->"
 
 

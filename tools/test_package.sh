@@ -41,7 +41,7 @@ fi
 # The same tree gives the same package, another one another version.
 same "the package of the same tree" "$(sha256sum < "$("$tools/package.sh" "$(mktemp -d -p "$folder")" "$@")")" "$(sha256sum < "$package")"
 mkdir "$folder/programs"
-for name in bivrangd cached cached_check transcript; do
+for name in bivrangd cached transcript; do
     cp "$root/usr/bin/$name" "$folder/programs"
 done
 cp "$root/usr/bin/transcript" "$folder/programs/cached"
@@ -50,7 +50,7 @@ other=$(dpkg-deb -f "$("$tools/package.sh" "$folder" "$folder/programs")" Versio
 [ "$version" != "$other" ] || fail "the package of another tree has the same version, $version"
 
 cd "$root"
-same "cached_check" "$(usr/bin/cached_check etc/cached.toml)" "etc/cached.toml: ok"
+same "the check of a file of cached" "$(usr/bin/bivrangd --check etc/cached.toml)" "etc/cached.toml: ok"
 same "a script" "$(printf 'SET a - two words\nGET a\nHAS b\n' | usr/bin/cached --script 2> /dev/null)" $'OK\nVAL two words\nNO'
 same "the programs of the units" "$(grep -h '^ExecStart.*=' usr/lib/systemd/system/*.service | grep -o '/usr/[a-z/]*bin/[a-z-]*' | xargs)" \
     "/usr/bin/bivrangd /usr/bin/bivrangd-run /usr/bin/cached"

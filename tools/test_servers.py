@@ -3,14 +3,17 @@
 
     python3 tools/test_servers.py [PATH_OF_A_PROGRAM ..]
 
-Without a path, the servers of benches/servers.py. The status is 1 if a row fails.
+Without a path, the servers of benches/servers.py. Rows of what `cached` lacks (`stop`, paths, farewells) are played against the others. The status is
+1 if a row fails.
 """
+import os
 import pathlib
 import socket
 import subprocess
 import sys
 import tempfile
 import threading
+import time
 
 sys.path.insert(0, str(pathlib.Path(__file__).resolve().parent.parent / "benches"))
 import servers  # noqa: E402
@@ -148,9 +151,88 @@ def serves_unheard(path):
         server.process.stdout = None
         sent, replies = b"SET a - 1\nDEL a\nSET a - 2\nDEL a\nGET a\nQUIT\n", b"OK\nOK\nOK\nOK\nNONE\nOK\n"
         want(talk(server.ports[0], sent, False), replies)
-        line = server.process.stderr.readline()
-        if b"notices cannot be written" not in line:
-            raise AssertionError(f"standard error says {line!r}")
+        says(server, b"notices cannot be written")
+
+
+def says(server, wanted):
+    """Standard error has a line with these words."""
+    lines = []
+    while not lines or lines[-1]:
+        lines.append(server.process.stderr.readline())
+        if wanted in lines[-1]:
+            return
+    raise AssertionError(f"standard error says {lines!r}")
+
+
+def hears_all(path):
+    """Much behind a line that is too long, or behind a `QUIT`: the replies before it come."""
+    with listening(path, [PLAIN]) as server:
+        for end, last in (b"", b""), (b"QUIT\n", b"OK\n"):
+            with socket.create_connection((HOST, server.ports[0]), timeout=SECONDS) as stream, stream.makefile("rb") as replies:
+                stream.sendall(b"GET z\n" * 1000 + end)
+                try:
+                    stream.sendall(b"k" * 300_000)
+                except OSError:
+                    pass
+                want(replies.read(), b"NONE\n" * 1000 + last)
+
+
+def fill(server):
+    """A thousand notices of a thousand bytes, which is more than waits in a pipe."""
+    sent = b"".join(b"SET %d - %s\nDEL %d\n" % (key, b"v" * 1000, key) for key in range(1000))
+    want(talk(server.ports[0], sent, False), b"OK\n" * 2000)
+
+
+def stop(server):
+    server.process.stdin.write(b"stop\n")
+    server.process.stdin.flush()
+
+
+def stops_slowly(path):
+    """Notices are read slowly while the server stops: all come."""
+    with listening(path, [PLAIN]) as server:
+        fill(server)
+        stop(server)
+        read, output = [], server.process.stdout.fileno()
+        while not read or read[-1]:
+            time.sleep(0.02)
+            read.append(os.read(output, 20_000))
+        want(b"".join(read).count(b"\n"), 1000)
+        want(server.status(), 0)
+
+
+def loses(path):
+    """Notices are not read while the server stops: it says how many were lost, and the status is 3."""
+    with listening(path, [PLAIN]) as server:
+        fill(server)
+        stop(server)
+        want(server.status(), 3)
+        written = server.process.stdout.read().count(b"\n")
+        says(server, b"GMT: %d notices lost" % (1000 - written))
+
+
+def leaves_no_path(path):
+    """A path of a start that fails: it is removed."""
+    with tempfile.TemporaryDirectory() as folder, socket.create_server((HOST, 0)) as taken:
+        at = f'name = "b"\nbind = "{folder}/b"\n'
+        with Started(path, [(at, ""), PLAIN], ports=[1, taken.getsockname()[1]]) as server:
+            want(server.status(), 1)
+            want(os.listdir(folder), [])
+
+
+def leaves_others_paths(path):
+    """Another server listens at a path since: it stays there."""
+    with tempfile.TemporaryDirectory() as folder:
+        at = [(f'name = "b"\nbind = "{folder}/b"\n', "")]
+        with Started(path, at) as first:
+            first.process.stdout.readline()
+            os.remove(f"{folder}/b")
+            with Started(path, at) as second:
+                second.process.stdout.readline()
+                for server, wanted in (first, ["b"]), (second, []):
+                    stop(server)
+                    want(server.status(), 0)
+                    want(os.listdir(folder), wanted)
 
 
 def main():
@@ -158,15 +240,16 @@ def main():
         sys.exit(__doc__)
     rows = {name: lambda path, row=row: plays(path, row) for name, row in ROWS.items()}
     rows.update({f.__doc__.split(":")[0]: f for f in (does_not_listen, does_not_print, serves_unheard)})
+    others = {f.__doc__.split(":")[0]: f for f in (hears_all, stops_slowly, loses, leaves_no_path, leaves_others_paths)}
     failed = 0
     for path in sys.argv[1:] or [row.path for row in servers.rows_of([])]:
-        for name, play in rows.items():
+        for name, play in (rows if pathlib.Path(path).name == "cached" else {**rows, **others}).items():
             try:
                 play(path)
             except (AssertionError, OSError, subprocess.TimeoutExpired) as error:
                 failed += 1
                 print(f"{path}: {name}: {error}")
-    print(f"Ran {len(rows)} rows against each server, {failed} failed")
+    print(f"Ran {len(rows)} rows against each server, and {len(others)} more against bivrangd, {failed} failed")
     sys.exit(1 if failed else 0)
 
 
