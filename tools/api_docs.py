@@ -162,7 +162,8 @@ class Crate:
 
     def __init__(self, name):
         self.name, self.modules = name, {}
-        self.read((), CRATES / name / "src/lib.rt")
+        self.is_program = not is_crate(name)
+        self.read((), CRATES / name / ("src/main.rt" if self.is_program else "src/lib.rt"))
 
     def read(self, path, file):
         module = self.modules[path] = Module(self, path, file)
@@ -241,7 +242,7 @@ class Shown:
 
 
 def exported(crate):
-    """All that a crate exports, module by module."""
+    """All that a crate exports, module by module; of a program, what its modules have for one another."""
     shown, lacking = [], []
 
     def take(module):
@@ -255,7 +256,7 @@ def exported(crate):
             if item.is_public and item.kind in ORDER and item.name not in module.exports:
                 shown.append(Shown(crate.name, module, item.name, item))
         for item in module.items:
-            if item.kind == "mod" and item.is_public:
+            if item.kind == "mod" and (item.is_public or crate.is_program):
                 take(crate.modules[(*module.path, item.name)])
 
     take(crate.modules[()])

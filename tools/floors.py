@@ -34,7 +34,7 @@ def crates():
     lines = (it.split("#")[0] for it in (ROOT / "crates.txt").read_text(encoding="utf-8").splitlines())
     named = [it.split(":") for it in lines if ":" in it]
     below = {name.split()[0]: those.split() for name, those in named}
-    own = {name for name in below if not name.endswith("_tests") and name not in ("rows", "cache_uses")}
+    own = {name for name in below if not name.endswith("_tests")}
     return {name: [it for it in those if it in own] for name, those in below.items() if name in own}
 
 

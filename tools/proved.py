@@ -1,7 +1,7 @@
 #!/usr/bin/env python3
 """Makes docs/promises from the sources: for each public call, the names of its clauses and what the sources say of it; the wrong bodies;
 and the crates, by the first lines of their roots. Makes the examples of docs/FROM_MOKA.md from the regions between `// example: NAME` and
-`// end` of the modules that crates/sync_tests proves and runs, and that of README.md from crates/cache_uses/src/uses/example.rt.
+`// end` of the modules that crates/sync_tests proves and runs, and that of README.md from crates/cache_service_tests/src/uses/example.rt.
 
     python3 tools/proved.py            writes the pages, one a house, those of the wrong bodies and the crates, an index, the examples
     python3 tools/proved.py --check    says whether they are up to date; tools/compare_examples.sh runs it
@@ -24,7 +24,7 @@ USES = "crates/sync_tests/src/uses"
 # A clause without a name is shown by what it states, up to so many letters.
 SHORT = 100
 # Crates with calls that somebody calls from outside: the public ones, and those behind the programs.
-CRATES = [*api_docs.PUBLIC, "cached_server", "cached_config", "cache_loop", "bivrangd_metrics", "bivrangd_server", "transcript_program", "audit_text", "memcache_lines", "memcache_model", "memcache_service", "memcache_cache"]
+CRATES = [*api_docs.PUBLIC, "cached_server", "cached_config", "cache_loop", "bivrangd_metrics", "bivrangd_server", "transcript", "audit_text", "memcache_lines", "memcache_model", "memcache_service", "memcache_cache"]
 MADE = "<!-- Made by tools/proved.py from the sources. Change the doc comments and the comments at clauses there. -->"
 
 
@@ -184,7 +184,7 @@ def with_examples(text):
 
 def with_service(text):
     """README.md with its example, a module without its first line."""
-    code = (ROOT / "crates/cache_uses/src/uses/example.rt").read_text(encoding="utf-8").split("\n", 1)[1]
+    code = (ROOT / "crates/cache_service_tests/src/uses/example.rt").read_text(encoding="utf-8").split("\n", 1)[1]
     return re.sub(r"(?s)(<!-- example: service -->\n```rust\n).*?```", lambda found: f"{found[1]}{code.strip(chr(10))}\n```", text)
 
 

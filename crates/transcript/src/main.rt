@@ -1,10 +1,14 @@
 //! Transcripts of caches that are served by lines, replayed.
 #![tactic(auto)]
 
+mod auditing;
+mod program;
+mod replaying;
+
+use crate::program::{transcript, without_words};
 use std::env::Env;
 use std::process::ExitCode;
 use std::{env, io};
-use transcript_program::{transcript, without_words};
 
 /// The program's words.
 fn gather_words<R: Env + Alloc>(rt: &R) -> io::Result<Vec<String<R::A>, R::A>> {

@@ -1,6 +1,6 @@
 use Rattle.std.proofs.Common.{◌≡◌, ◌≤◌, ◌++◌, length, drop}
-use Rattle.transcript_program.specs.Printed.{namespaces_text}
-use Rattle.transcript_program.proofs.replaying.print_transcripts.Given as goal
+use Rattle.transcript.specs.Printed.{namespaces_text}
+use Rattle.transcript.proofs.replaying.print_transcripts.Given as goal
 
 abbrev pub invariant-loop-config : goal.invariant-loop-config
 invariant-loop-config l = record {

@@ -2,7 +2,7 @@
 use Rattle.std.proofs.Common.{◌≡◌, ℕ, zero, suc, ◌+◌, ◌<◌, ◌≤◌, List, [], ◌∷◌, ◌++◌, length, get_or, drop, refl, sym, ap, ◌∙◌, arith, add-one}
 use Rattle.audit_model.specs.declared.config.Config.{Config}
 use Rattle.audit_model.specs.declared.transcript.Transcript.{Transcript}
-use Rattle.transcript_program.specs.Printed.{namespace_text, namespaces_text}
+use Rattle.transcript.specs.Printed.{namespace_text, namespaces_text}
 
 -- one namespace more
 pub namespaces_more : (n i : ℕ) (cs : List Config) (c : Config) (ts : List Transcript) (t : Transcript) → i < length cs → c ≡ get_or cs i c → 1 ≤ length ts → t ≡ get_or ts 0 t

@@ -1,7 +1,7 @@
 use Rattle.std.proofs.Common.{◌≡◌, ◌++◌, length, drop, sym, ap, ◌∙◌, arith}
 use Rattle.std.proofs.lemmas.List.{append-nil}
-use Rattle.transcript_program.proofs.Printing.{namespaces_none}
-use Rattle.transcript_program.proofs.replaying.print_transcripts.Goals as goal
+use Rattle.transcript.proofs.Printing.{namespaces_none}
+use Rattle.transcript.proofs.replaying.print_transcripts.Goals as goal
 
 pub returns-in_default : goal.returns-in_default
 returns-in_default c =

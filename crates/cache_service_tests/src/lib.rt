@@ -1,5 +1,5 @@
 //! A service that threads share, one that is read, and connections over a shared service: over memory, over sockets, and over devices
-//! that fail.
+//! that fail; and how it is used.
 #![tactic(auto)]
 
 #[cfg(test)]
@@ -28,6 +28,8 @@ mod serving;
 mod steps;
 #[cfg(test)]
 mod tests;
+#[cfg(test)]
+mod uses;
 #[cfg(test)]
 mod waiting;
 #[cfg(test)]

@@ -1,6 +1,6 @@
 //! A transcript, read and judged.
 ghost use Rattle.std.specs.Prelude.{IfOk};
-ghost use Rattle.transcript_program.specs.Judged.{IsJustOf};
+ghost use Rattle.transcript.specs.Judged.{IsJustOf};
 
 use audit_text::{TextError, read_transcript};
 use moka_audit::{Verdict, audit};

@@ -1,6 +1,6 @@
 use Rattle.std.proofs.Common.{[], ◌∷◌}
-use Rattle.cache_serve_tests.specs.declared.inputs.TheConstants.{PLAIN}
-use Rattle.cache_serve_tests.proofs.plays.over_recorded.Given as goal
+use Rattle.cache_service_tests.specs.declared.inputs.TheConstants.{PLAIN}
+use Rattle.cache_service_tests.proofs.plays.over_recorded.Given as goal
 
 abbrev pub ghosts-play_recorded-L-Seating : goal.ghosts-play_recorded-L-Seating
 ghosts-play_recorded-L-Seating g a = record { all = a.blank.parts; configs = PLAIN ∷ [] }

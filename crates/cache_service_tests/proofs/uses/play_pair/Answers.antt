@@ -1,9 +1,9 @@
 use Rattle.std.proofs.Common.{refl}
 use Rattle.std.specs.List.{slice_get}
 use Rattle.cache_service.specs.Words.{KeepsList}
-use Rattle.cache_uses.specs.declared.uses.TheConstants.{PAIR}
-use Rattle.cache_uses.proofs.Choosing.{if-there}
-use Rattle.cache_uses.proofs.uses.play_pair.Goals as goal
+use Rattle.cache_service_tests.specs.declared.uses.TheConstants.{PAIR}
+use Rattle.cache_service_tests.proofs.Choosing.{if-there}
+use Rattle.cache_service_tests.proofs.uses.play_pair.Goals as goal
 
 pub returns-in-Ok : goal.returns-in-Ok
 returns-in-Ok c =

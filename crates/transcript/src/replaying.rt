@@ -1,6 +1,6 @@
 //! Inputs, played and printed.
 ghost use Rattle.std.specs.Prelude.{◌≡◌, ◌++◌, IfOk, OnOk};
-ghost use Rattle.transcript_program.specs.Printed.{IsPrintedOf, namespace_text, namespaces_text};
+ghost use Rattle.transcript.specs.Printed.{IsPrintedOf, namespace_text, namespaces_text};
 
 use audit_model::{Config, ServiceError, Transcript};
 use audit_text::{TextError, read_inputs, write_transcript};
