@@ -3,6 +3,7 @@
 use crate::holdings::Commands;
 use crate::resources::Resources;
 use crate::sources::{Reading, Source};
+use cached_config::Protocol;
 use cached_server::Machine;
 use std::alloc::{AllocError, Global};
 use std::sync::Arc;
@@ -49,11 +50,12 @@ enum Figure {
     Written,
     Hits,
     Misses,
+    Errors,
     Loads,
 }
 
 /// What Prometheus is told of a number: its name, its kind, and what it says.
-const FIGURES: [(Figure, &str, &str, &str); 15] = [
+const FIGURES: [(Figure, &str, &str, &str); 16] = [
     (Figure::Values, "values", "gauge", "Values that are held."),
     (
         Figure::Weight,
@@ -129,6 +131,12 @@ const FIGURES: [(Figure, &str, &str, &str); 15] = [
         "Replies that there is no value.",
     ),
     (
+        Figure::Errors,
+        "errors_total",
+        "counter",
+        "Replies that told an error.",
+    ),
+    (
         Figure::Loads,
         "loads_total",
         "counter",
@@ -144,6 +152,7 @@ impl Figure {
             Figure::Weight => reading.holding.map(|holding| holding.weight),
             Figure::Capacity => source.capacity,
             Figure::Limit => Some(source.connections),
+            Figure::Errors => errors_of(source, reading),
             _ => Some(self.counted(reading)),
         }
     }
@@ -162,8 +171,17 @@ impl Figure {
             Figure::Written => reading.counts.written,
             Figure::Hits => reading.counts.found.hits,
             Figure::Misses => reading.counts.found.misses,
+            Figure::Errors => reading.counts.found.errors,
             Figure::Loads => reading.counts.loads,
         }
+    }
+}
+
+/// How many replies told an error, where replies are read.
+fn errors_of(source: &Source, reading: &Reading) -> Option<u64> {
+    match source.protocol {
+        Protocol::Lines => Some(reading.counts.found.errors),
+        Protocol::Memcache(_) => None,
     }
 }
 
@@ -240,6 +258,20 @@ impl Page {
         self.all_turns(sources, &readings)
     }
 
+    /// Adds how many requests there were in a namespace, by what is known of them.
+    fn requests(&mut self, source: &Source, reading: &Reading) -> Result<(), AllocError> {
+        match source.protocol {
+            Protocol::Lines => {
+                let replies = reading.counts.found.replies;
+                self.labelled("requests_total", source, ("protocol", "lines"), replies)
+            }
+            Protocol::Memcache(_) => match reading.holding.and_then(|holding| holding.commands) {
+                Some(commands) => self.commands(source, commands),
+                None => Ok(()),
+            },
+        }
+    }
+
     /// Adds how many commands of the memcache protocol there were in a namespace.
     fn commands(&mut self, source: &Source, commands: Commands) -> Result<(), AllocError> {
         let all = [
@@ -263,12 +295,10 @@ impl Page {
         self.head(
             "requests_total",
             "counter",
-            "Requests of memcache by command, as its statistics count them.",
+            "Requests that were answered; of memcache by command, as its statistics count them.",
         )?;
         for (source, reading) in sources.iter().zip(readings) {
-            if let Some(commands) = reading.holding.and_then(|holding| holding.commands) {
-                self.commands(source, commands)?;
-            }
+            self.requests(source, reading)?;
         }
         Ok(())
     }
@@ -367,7 +397,10 @@ impl Page {
 }
 
 /// The bounds of turns (`cache_loop::TURN_BOUNDS`) in seconds, and the one above all.
-const BOUND_TEXTS: [&str; 6] = ["0.00001", "0.0001", "0.001", "0.01", "0.1", "+Inf"];
+const BOUND_TEXTS: [&str; 14] = [
+    "0.00001", "0.00002", "0.00005", "0.0001", "0.0002", "0.0005", "0.001", "0.002", "0.005",
+    "0.01", "0.02", "0.05", "0.1", "+Inf",
+];
 
 /// Returns the numbers of all namespaces and of the program, as text for Prometheus. Returns an error if there is not enough memory.
 pub fn show_metrics<R: Machine>(

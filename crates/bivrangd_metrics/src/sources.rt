@@ -16,7 +16,8 @@ pub struct Source {
     /// The port of the namespace.
     pub port: u16,
     place: Place,
-    protocol: Protocol,
+    /// By which protocol the namespace is served.
+    pub protocol: Protocol,
     /// How much the namespace may hold, or `None` without a limit.
     pub capacity: Option<u64>,
     /// How many connections may be open at once.

@@ -1,5 +1,8 @@
 //! Namespaces whose connections speak the memcache protocol.
-ghost use Rattle.std.specs.Prelude.{◌<◌, ◌^◌};
+ghost use Rattle.std.specs.Prelude.{◌≡◌, ◌≢◌, ◌<◌, ◌^◌, ℕ, true, None, IfSome};
+ghost use Rattle.cache_link.specs.Reports.{report_with};
+ghost use Rattle.memcache_cache.specs.Served.{OthersTurns, TakesItsTurn, TookTurn, WasJustOpened};
+ghost use Rattle.memcache_service.specs.Talks.{connection_of};
 
 use crate::starting::{Gear, Told, told_by};
 use audit_model::EvictionPolicy as Policy;
@@ -81,6 +84,25 @@ impl<T: Shelf, R: Clock + Drop> Steward for MemcacheSteward<T, R> {
 
     ghost is_settled = { λ steward. Unit {0} };
 
+    ghost opens = { λ opened p q. IfSome opened (λ link. WasJustOpened link p.service q.service) };
+
+    ghost wakes = { λ is_readable is_ending s t. t ≡ record s {
+      report = report_with s.report is_readable is_ending;
+    } };
+
+    ghost stops = { λ s t. t ≡ record s { is_stopped = true } };
+
+    ghost turns = { λ result s t p q b c.
+        TakesItsTurn T.Shelf result s t p.service q.service b c
+        × ((moment : ℕ) × (moment < 2 ^ 43) × TookTurn s.conn moment p.service q.service) };
+
+    ghost closes = { λ link outcome p q. (connection_of link.conn q.service ≡ None)
+        × ((other : ℕ) → other ≢ link.conn → OthersTurns other p.service q.service) };
+
+    ghost settles = { λ p q. q ≡ p };
+
+    ghost gives_up = { λ p q. q ≡ p };
+
     fn refusal(&self) -> &'static [u8] {
         b"ERROR Too many open connections\r\n"
     }
@@ -89,11 +111,11 @@ impl<T: Shelf, R: Clock + Drop> Steward for MemcacheSteward<T, R> {
         MemcacheLink::open(&mut self.service, self.alloc).ok()
     }
 
-    fn wake(&mut self, link: &mut MemcacheLink, is_readable: bool, is_ending: bool) {
+    fn wake(&self, link: &mut MemcacheLink, is_readable: bool, is_ending: bool) {
         link.wake(is_readable, is_ending);
     }
 
-    fn stop(&mut self, link: &mut MemcacheLink) {
+    fn stop(&self, link: &mut MemcacheLink) {
         link.stop();
     }
 
@@ -141,6 +163,8 @@ impl<T: Shelf, R: Clock + Drop> Steward for MemcacheSteward<T, R> {
         counts.found = Found {
             hits: counters.get(Tally::GetHits),
             misses: counters.get(Tally::GetMisses),
+            replies: 0,
+            errors: 0,
         };
         counts.departures.expired = counters.get(Tally::Expired);
         counts.departures.size = counters.get(Tally::Evictions);

@@ -28,8 +28,12 @@ departed_both a b = record {
 
 -- the replies of two places
 abbrev pub found_both : Found → Found → Found
-found_both a b =
-    record { hits = counted_both a.hits b.hits; misses = counted_both a.misses b.misses }
+found_both a b = record {
+  hits = counted_both a.hits b.hits;
+  misses = counted_both a.misses b.misses;
+  replies = counted_both a.replies b.replies;
+  errors = counted_both a.errors b.errors;
+}
 
 -- what two loops have counted, but for their turns, which are those of the first
 abbrev pub counts_both : Counts → Counts → Counts

@@ -4,12 +4,27 @@ ghost use Rattle.cache_loop.specs.Counted.{counted_both, counts_both, departed, 
 
 use crate::replies::Found;
 use audit_model::RemovalCause;
+use cache_run::RunError;
 use std::io;
 use std::io::{Read, Write};
 use std::time::{Clock, Instant};
 
 /// The bounds of the turns that are counted together, in nanoseconds: a turn belongs to the first that is not below its length.
-pub const TURN_BOUNDS: [u64; 5] = [10_000, 100_000, 1_000_000, 10_000_000, 100_000_000];
+pub const TURN_BOUNDS: [u64; 13] = [
+    10_000,
+    20_000,
+    50_000,
+    100_000,
+    200_000,
+    500_000,
+    1_000_000,
+    2_000_000,
+    5_000_000,
+    10_000_000,
+    20_000_000,
+    50_000_000,
+    100_000_000,
+];
 
 /// How many values have left a namespace, by cause.
 #[derive(Clone, Copy, Drop)]
@@ -77,14 +92,14 @@ pub struct Counts {
     pub read: u64,
     /// How many bytes were written.
     pub written: u64,
-    /// How many replies told a value, and how many that there is none.
+    /// How many replies there were, and what they told.
     pub found: Found,
     /// How many values have left, by cause, as far as the steward counts that.
     pub departures: Departures,
     /// How many loads a loader was asked for.
     pub loads: u64,
     /// How many turns were within each of the bounds and above the one before, and how many were above the last.
-    pub turns: [u64; 6],
+    pub turns: [u64; 14],
     /// How many nanoseconds all turns took.
     pub nanos: u64,
 }
@@ -103,7 +118,7 @@ impl Counts {
             found: Found::new(),
             departures: Departures::new(),
             loads: 0,
-            turns: [0; 6],
+            turns: [0; 14],
             nanos: 0,
         }
     }
@@ -129,6 +144,13 @@ impl Counts {
         self.nanos = self.nanos.saturating_add(other.nanos);
     }
 
+    /// Counts a connection that is closed with this outcome, if it is for lack of memory.
+    pub fn note_outcome(&mut self, outcome: Result<(), RunError>) {
+        if matches!(outcome, Err(RunError::OutOfMemory)) {
+            self.lacking = self.lacking.saturating_add(1);
+        }
+    }
+
     /// Counts a turn that took so many nanoseconds.
     pub fn count_turn(&mut self, nanos: u64)
         ensures { self.new ≡ record self.old
@@ -151,12 +173,16 @@ pub struct Metered<'a, T> {
 
 impl<'a, T> Metered<'a, T> {
     /// Wraps a device whose bytes are added to a count.
-    pub fn new(inner: T, bytes: &'a mut u64) -> Metered<'a, T> {
+    pub fn new(inner: T, bytes: &'a mut u64) -> Metered<'a, T>
+        ensures { result.inner ≡ inner }
+    {
         Metered { inner, bytes }
     }
 }
 
 impl<T: Read> Read for Metered<'_, T> {
+    ghost remaining = { λ metered. T.remaining metered.inner };
+
     fn read(&mut self, buf: &mut [u8]) -> io::Result<usize> {
         let count = self.inner.read(buf)?;
         *self.bytes = self.bytes.saturating_add(count as u64);
@@ -165,6 +191,8 @@ impl<T: Read> Read for Metered<'_, T> {
 }
 
 impl<T: Write> Write for Metered<'_, T> {
+    ghost contents = { λ metered. T.contents metered.inner };
+
     fn write(&mut self, buf: &[u8]) -> io::Result<usize> {
         let count = self.inner.write(buf)?;
         *self.bytes = self.bytes.saturating_add(count as u64);

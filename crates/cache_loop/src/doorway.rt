@@ -1,4 +1,5 @@
 //! Sockets of the network, and of a path.
+ghost use Rattle.std.specs.Prelude.{◌≡◌};
 
 use mio::event::Source;
 use mio::net::{TcpListener, TcpStream, UnixListener, UnixStream};
@@ -67,7 +68,9 @@ pub enum Stream {
 
 impl Stream {
     /// Makes a registry report under a token when there are bytes to read. Returns the registry's error.
-    pub fn register(&mut self, registry: &Registry, token: Token) -> io::Result<()> {
+    pub fn register(&mut self, registry: &Registry, token: Token) -> io::Result<()>
+        ensures { self.new ≡ self.old }
+    {
         match self {
             Stream::Tcp(stream) => registry.register(stream, token, bytes()),
             Stream::Unix(stream) => registry.register(stream, token, bytes()),
@@ -107,7 +110,9 @@ impl Stream {
     }
 
     /// Makes a registry report in addition when there is room to write, also if there is some by now. Returns the registry's error.
-    pub fn watch_room(&mut self, registry: &Registry, token: Token) -> io::Result<()> {
+    pub fn watch_room(&mut self, registry: &Registry, token: Token) -> io::Result<()>
+        ensures { self.new ≡ self.old }
+    {
         let both = bytes() | Interest::WRITABLE;
         match self {
             Stream::Tcp(stream) => registry.reregister(stream, token, both),

@@ -1,6 +1,11 @@
 //! Connections that speak lines.
-ghost use Rattle.std.specs.Prelude.{◌≡◌, []};
+ghost use Rattle.std.specs.Prelude.{◌≡◌, [], true, IfOk, option_map};
 ghost use Rattle.audit_model.specs.declared.input.Conn.{Conn};
+ghost use Rattle.cache_run.specs.Driver.Driven.{ClosesAfter};
+ghost use Rattle.cache_link.specs.Reports.{report_with};
+ghost use Rattle.cache_link.specs.Served.{station};
+ghost use Rattle.cache_loop.specs.Lines.{OpensLink, TurnsLink};
+ghost use Rattle.cache_loop.specs.Loads.{GivesUpEach, SettlesEach, held, numbers_out, numbers_pending};
 
 use crate::apart::Apart;
 use crate::asker::Asker;
@@ -10,7 +15,7 @@ use crate::nobody::Nobody;
 use crate::replies::{Found, Overheard, Replies};
 use crate::steward::Steward;
 use cache_link::{Link, Next, Patient, Tools};
-use cache_run::{Clock, Host, RunError};
+use cache_run::{Clock, Host, Loader, RunError};
 use std::alloc::Global;
 use std::io::{Read, Write};
 use std::time::Duration;
@@ -45,7 +50,9 @@ impl<'h, 'p, H: Host, K: Clock + Drop, A: Asker> LineSteward<'h, 'p, H, K, A> {
         clock: K,
         asker: A,
         limit: Option<u64>,
-    ) -> Result<LineSteward<'h, 'p, H, K, A>, RunError> {
+    ) -> Result<LineSteward<'h, 'p, H, K, A>, RunError>
+        ensures { IfOk result (λ steward. steward.namespace ≡ namespace) }
+    {
         let mut host = Apart::new(alloc, host);
         let loading = Loading::open(alloc, &mut host, place, namespace, asker, limit)?;
         Ok(LineSteward {
@@ -82,23 +89,56 @@ impl<H: Host, K: Clock + Drop, A: Asker> Steward for LineSteward<'_, '_, H, K, A
     ghost is_settled = { λ steward. (steward.loading.pending.items ≡ [])
         × (steward.host.loads.items ≡ []) };
 
+    ghost opens = { λ opened p q. OpensLink H.Host p.namespace
+        (option_map (λ heard. heard.link) opened) p.place.now q.place.now
+        × (q.namespace ≡ p.namespace) };
+
+    ghost wakes = { λ is_readable is_ending s t. t.link ≡ record s.link {
+      report = report_with s.link.report is_readable is_ending;
+    } };
+
+    ghost stops = { λ s t. t.link ≡ record s.link { is_stopped = true } };
+
+    ghost turns = { λ result s t p q b c. TurnsLink ⟦<Apart<'static, H> as Host>⟧ K.reads
+        ⟦<Nobody as Loader>⟧.loads result s.link t.link (station p.place.now p.tools)
+        (station q.place.now q.tools) b c
+        × (q.namespace ≡ p.namespace) };
+
+    ghost closes = { λ heard outcome p q. ClosesAfter H.closes H.drops
+        ⟦<Nobody as Loader>⟧.loads outcome heard.link.session p.place.now q.place.now
+        p.tools.loader q.tools.loader
+        × (q.namespace ≡ p.namespace) };
+
+    ghost settles = { λ p q. SettlesEach H.came H.rests p.loading.conn
+        (held p.host.loads.items p.loading.pending.items) p.place.now
+        (held q.host.loads.items q.loading.pending.items) q.place.now
+        × (q.loading.conn ≡ p.loading.conn) × (q.namespace ≡ p.namespace) };
+
+    ghost gives_up = { λ p q. (m : H.Place)
+        × GivesUpEach H.came H.rests p.loading.conn p.place.now (numbers_out p.host.loads.items) m
+        × GivesUpEach H.came H.rests p.loading.conn m (numbers_pending p.loading.pending.items)
+        q.place.now
+        × (q.namespace ≡ p.namespace) };
+
     fn refusal(&self) -> &'static [u8] {
         b"ERR connections\n"
     }
 
     fn open(&mut self) -> Option<HeardLink> {
-        let link = Link::open(&mut self.host, self.place, self.alloc, self.namespace).ok()?;
-        Some(HeardLink {
-            link,
-            replies: Replies::new(),
-        })
+        match Link::open(&mut self.host, self.place, self.alloc, self.namespace) {
+            Ok(link) => Some(HeardLink {
+                link,
+                replies: Replies::new(),
+            }),
+            Err(_) => None,
+        }
     }
 
-    fn wake(&mut self, link: &mut HeardLink, is_readable: bool, is_ending: bool) {
+    fn wake(&self, link: &mut HeardLink, is_readable: bool, is_ending: bool) {
         link.link.wake(is_readable, is_ending);
     }
 
-    fn stop(&mut self, link: &mut HeardLink) {
+    fn stop(&self, link: &mut HeardLink) {
         link.link.stop();
     }
 

@@ -1,4 +1,5 @@
 //! The loop over the sockets of a namespace.
+ghost use Rattle.cache_loop.specs.Turns.{GoesRound, ServesByLoop};
 
 use crate::counts::{Counts, Stopwatch};
 use crate::doorway::Doorway;
@@ -106,7 +107,9 @@ pub fn serve_by<S: Steward, R: Wait + time::Clock>(
     crew: &Crew,
 ) -> io::Result<()>
     requires { S.rests_on }
-    ensures { S.is_settled steward.new }
+    ensures goes { (ended : S) × ServesByLoop S.Steward steward.old ended
+        × S.gives_up ended steward.new }
+    ensures settled { S.is_settled steward.new }
 {
     let ended = serve_all(rt, steward, poll, doorway, crew);
     if steward.give_up_loads() > 0 {
@@ -124,6 +127,7 @@ fn serve_all<S: Steward, R: Wait + time::Clock>(
     crew: &Crew,
 ) -> io::Result<()>
     requires { S.rests_on }
+    ensures { ServesByLoop S.Steward steward.old steward.new }
 {
     let mut doorway = doorway;
     doorway.register(poll.registry(), LISTENER)?;
@@ -146,6 +150,7 @@ fn turn_round<S: Steward, R: Wait + time::Clock>(
     crew: &Crew,
 ) -> io::Result<()>
     requires { S.rests_on }
+    ensures { GoesRound S.Steward hall.old.served steward.old hall.new.served steward.new }
 {
     let (poll, events) = waiting;
     let mut seconds = Seconds {
@@ -175,17 +180,34 @@ fn work<S: Steward, R: Wait + time::Clock>(
     seconds: &mut Seconds,
 )
     requires { S.rests_on }
+    ensures { GoesRound S.Steward hall.old.served steward.old hall.new.served steward.new }
 {
     hall.take_answers(steward, round.crew);
     hall.wake_waiting();
     hall.accept_all(steward, round);
     hall.take_turns(steward, round);
     hall.say_farewell(round.rt);
-    if let Some(idle) = round.crew.rules.idle {
-        if seconds.passes(round.rt) {
-            hall.count_second(steward, round, idle);
-        }
-    }
+    count_seconds(steward, round, hall, seconds);
     let counts = hall.counts(steward);
     *round.crew.counts.lock(round.rt) = counts;
+}
+
+/// Counts a second of each connection, if there is a limit and a second has passed.
+fn count_seconds<S: Steward, R: Wait + time::Clock>(
+    steward: &mut S,
+    round: &Round<'_, R>,
+    hall: &mut Hall<S>,
+    seconds: &mut Seconds,
+)
+    requires { S.rests_on }
+    ensures { GoesRound S.Steward hall.old.served steward.old hall.new.served steward.new }
+{
+    match round.crew.rules.idle {
+        Some(idle) => {
+            if seconds.passes(round.rt) {
+                hall.count_second(steward, round, idle);
+            }
+        }
+        None => {}
+    }
 }

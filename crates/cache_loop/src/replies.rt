@@ -21,21 +21,30 @@ enum Begun {
     Enough,
 }
 
-/// How many replies told a value, and how many told that there is none.
+/// How many replies there were, and what they told.
 #[derive(Clone, Copy, Drop)]
 pub struct Found {
     /// How many replies told a value.
     pub hits: u64,
     /// How many replies told that there is none.
     pub misses: u64,
+    /// How many replies there were, whatever they told.
+    pub replies: u64,
+    /// How many replies told an error.
+    pub errors: u64,
 }
 
 impl Found {
     /// Creates counts of no replies.
     pub fn new() -> Found
-        ensures { result ≡ record { hits = 0; misses = 0 } }
+        ensures { result ≡ record { hits = 0; misses = 0; replies = 0; errors = 0 } }
     {
-        Found { hits: 0, misses: 0 }
+        Found {
+            hits: 0,
+            misses: 0,
+            replies: 0,
+            errors: 0,
+        }
     }
 
     /// Adds what another loop has read.
@@ -44,6 +53,8 @@ impl Found {
     {
         self.hits = self.hits.saturating_add(other.hits);
         self.misses = self.misses.saturating_add(other.misses);
+        self.replies = self.replies.saturating_add(other.replies);
+        self.errors = self.errors.saturating_add(other.errors);
     }
 }
 
@@ -64,14 +75,14 @@ impl Replies {
         }
     }
 
-    /// Reads what is written next, and counts values that are told, and replies that there is none.
+    /// Reads what is written next, and counts the replies that end in it, values that are told, replies that there is none, and errors.
     pub fn read(&mut self, bytes: &[u8], found: &mut Found) {
         let mut rest = bytes;
         for _line in 0..bytes.len() {
             match memchr(b'\n', rest) {
                 Some(end) => {
                     self.begin(rest.get(..end).unwrap_or(&[]), found);
-                    self.end();
+                    self.end(found);
                     rest = rest.get(end.saturating_add(1)..).unwrap_or(&[]);
                 }
                 None => {
@@ -99,6 +110,10 @@ impl Replies {
                 found.hits = found.hits.saturating_add(1);
                 Begun::Enough
             }
+            (Begun::Nothing, b'E') if self.keys == 0 => {
+                found.errors = found.errors.saturating_add(1);
+                Begun::Enough
+            }
             (Begun::Nothing, b'N') if self.keys == 0 => Begun::N,
             (Begun::Nothing, b'K') if self.keys == 0 => Begun::Keys,
             (Begun::N, b'O') => Begun::No,
@@ -116,9 +131,11 @@ impl Replies {
         };
     }
 
-    /// Reads the end of a line.
-    fn end(&mut self) {
-        if self.begun != Begun::Keys {
+    /// Reads the end of a line, and counts a reply unless the line is a key of one.
+    fn end(&mut self, found: &mut Found) {
+        if self.begun == Begun::Keys || self.keys == 0 {
+            found.replies = found.replies.saturating_add(1);
+        } else {
             self.keys = self.keys.saturating_sub(1);
         }
         self.begun = Begun::Nothing;
@@ -135,7 +152,9 @@ pub struct Overheard<'a, T> {
 
 impl<'a, T> Overheard<'a, T> {
     /// Wraps a device: what is written on it is read, and counted.
-    pub fn new(inner: T, replies: &'a mut Replies, found: &'a mut Found) -> Overheard<'a, T> {
+    pub fn new(inner: T, replies: &'a mut Replies, found: &'a mut Found) -> Overheard<'a, T>
+        ensures { result.inner ≡ inner }
+    {
         Overheard {
             inner,
             replies,
@@ -145,6 +164,8 @@ impl<'a, T> Overheard<'a, T> {
 }
 
 impl<T: Write> Write for Overheard<'_, T> {
+    ghost contents = { λ overheard. T.contents overheard.inner };
+
     fn write(&mut self, buf: &[u8]) -> io::Result<usize> {
         let count = self.inner.write(buf)?;
         self.replies

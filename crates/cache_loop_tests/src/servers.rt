@@ -180,12 +180,12 @@ const SCENES: &[Scene] = &[
             Step::Connect,
             Step::Send(
                 0,
-                b"SET NONE - 1\nSET VAL - 2\nKEYS\nGET VAL\nGET z\nHAS z\nADD n - 3\nGET n\n",
+                b"SET NONE - 1\nSET VAL - 2\nKEYS\nGET VAL\nGET z\nHAS z\nADD n - 3\nGET n\nNO\n",
                 1,
             ),
             Step::Read(
                 0,
-                b"OK\nOK\nKEYS 2\nNONE\nVAL\nVAL 2\nNONE\nNO\nVAL 3\nVAL 3\n",
+                b"OK\nOK\nKEYS 2\nNONE\nVAL\nVAL 2\nNONE\nNO\nVAL 3\nVAL 3\nERR command\n",
                 1,
             ),
             Step::Visit,
@@ -193,7 +193,10 @@ const SCENES: &[Scene] = &[
             Step::Find(1, b"\nbivrangd_hits_total{namespace=\"m\"} 3\n"),
             Step::Visit,
             Step::Send(2, b"GET /metrics HTTP/1.1\r\n\r\n", 1),
-            Step::Find(2, b"\nbivrangd_misses_total{namespace=\"m\"} 1\n"),
+            Step::Find(2, b"\nbivrangd_errors_total{namespace=\"m\"} 1\n"),
+            Step::Visit,
+            Step::Send(3, b"GET /metrics HTTP/1.1\r\n\r\n", 1),
+            Step::Find(3, b"\nbivrangd_misses_total{namespace=\"m\"} 1\n"),
         ],
     },
     // Byte by byte.

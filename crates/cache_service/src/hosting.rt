@@ -2,6 +2,7 @@
 ghost use Rattle.std.specs.Prelude.{◌<◌, length};
 
 use crate::devices::Devices;
+use crate::parting::part;
 use crate::serving::serve_and_tell;
 use crate::workers::Workers;
 use cache_run::Watched;
@@ -24,7 +25,8 @@ pub struct Hosted<L: Seating> {
 }
 
 /// Serves the connections that a listener accepts as connections of an existing namespace, by `serve_and_tell`, each on a thread of its own
-/// with devices and a seat of its own, up to `limit` of them (2^64 - 1 without one), and then joins the threads.
+/// with devices and a seat of its own, up to `limit` of them (2^64 - 1 without one), and then joins the threads. A thread whose connection
+/// is over ends the writing, and drops what comes in, for a second at most by the connection's clock, so that its client gets the replies.
 ///
 /// An accept whose client has already gone is tried again. After any other failure, for example if no descriptor is free, `host` waits
 /// until a connection has ended, and tries again. While nobody is connected, an accept that lacks descriptors or memory, which other
@@ -106,6 +108,7 @@ where
             &mut loader,
             &mut teller,
         );
+        part(&stream, &mut clock);
         done.tell(&rt, place);
         seat
     };

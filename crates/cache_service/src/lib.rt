@@ -9,6 +9,7 @@ mod cutting;
 mod devices;
 mod hosting;
 pub mod model;
+mod parting;
 mod pausing;
 mod serving;
 mod sitting;

@@ -63,10 +63,10 @@ pub fn serve<L: Seating, C: Shareable, I: Read, O: Write, K: Clock, D: Loader, R
     // the seat's count never falls, and is used up where that is the cause
     ensures count { (seat.old.count ≤ seat.new.count)
         × (IsErrOf result RunError.UsedUp → 2 ^ 64 - 1 ≤ seat.new.count) }
-    ensures read { IsErrOf result RunError.Read
-        → HasFailed (failures reader.old) (failures reader.new) }
-    ensures write { IsErrOf result RunError.Write
-        → HasFailed (failures writer.old) (failures writer.new) }
+    ensures devices { (IsErrOf result RunError.Read
+        → HasFailed (failures reader.old) (failures reader.new))
+        × (IsErrOf result RunError.Write
+        → HasFailed (failures writer.old) (failures writer.new)) }
     ensures moment { IsErrOf result RunError.Moment → HasToldLate K.reads clock.new }
     ensures loader { HasAskedSome D.loads loader.old loader.new }
     ensures served { ServesTurns L.configs C.spaces C.untaken C.untold I.remaining O.contents
@@ -118,10 +118,10 @@ pub fn serve_and_tell<
     // the seat's count never falls, and is used up where that is the cause
     ensures count { (seat.old.count ≤ seat.new.count)
         × (IsErrOf result RunError.UsedUp → 2 ^ 64 - 1 ≤ seat.new.count) }
-    ensures read { IsErrOf result RunError.Read
-        → HasFailed (failures reader.old) (failures reader.new) }
-    ensures write { IsErrOf result RunError.Write
-        → HasFailed (failures writer.old) (failures writer.new) }
+    ensures devices { (IsErrOf result RunError.Read
+        → HasFailed (failures reader.old) (failures reader.new))
+        × (IsErrOf result RunError.Write
+        → HasFailed (failures writer.old) (failures writer.new)) }
     ensures moment { IsErrOf result RunError.Moment → HasToldLate K.reads clock.new }
     ensures loader { HasAskedSome D.loads loader.old loader.new }
     ensures served { ServesTurns L.configs C.spaces C.untaken C.untold I.remaining O.contents

@@ -184,3 +184,18 @@ fn six_hundred_keys_into_five_hundred_places(rt: HostRuntime) {
             || serves_long(rt, rt.alloc(), FIVE_HUNDRED, SIX_HUNDRED)
     );
 }
+
+/// A client that goes on sending behind its end gets the replies before it.
+const GOES_ON: Talk<'static> = (
+    &[("SET a - 1\nGET a\nQUIT\n", 1, 1), ("GET a\n", 1, 20_000)],
+    &[("OK\nVAL 1\nOK\n", 1, 1)],
+    &[],
+);
+
+#[test]
+fn who_goes_on_behind_the_end_gets_the_replies(rt: HostRuntime) {
+    assert!(rt;
+        serves_long(rt, rt.alloc(), FIVE_HUNDRED, GOES_ON)
+            || serves_long(rt, rt.alloc(), FIVE_HUNDRED, GOES_ON)
+    );
+}
