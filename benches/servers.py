@@ -9,7 +9,7 @@ import sys
 
 CRATES = pathlib.Path(__file__).resolve().parent.parent / "crates"
 # An item of the memcache protocol counts so many bytes beside its key and its value; short ones have at most so many in both.
-ITEM_COST, SHORT_ITEM = 290, 110
+ITEM_COST, SHORT_ITEM = 230, 110
 
 
 class Row:

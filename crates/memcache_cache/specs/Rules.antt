@@ -14,7 +14,7 @@ left_of item now = option_map (left_until now) item.deadline
 
 -- what an item weighs under a key: the bytes of both, and what it costs beside
 abbrev pub item_weight : List ℕ → Item → ℕ
-item_weight key item = min (length key + length item.bytes + 290) (2 ^ 32 - 1)
+item_weight key item = min (length key + length item.bytes + 230) (2 ^ 32 - 1)
 
 -- the rules: what an item weighs, and when it expires
 abbrev pub item_answers : Answers (List ℕ) Item (Unit {0}) ItemRules

@@ -94,7 +94,7 @@ impl<S: BuildHasher + Drop> LentShelf<S> {
         requires { moment < 2 ^ 43 }
     {
         match self.cache.peek(key, instant(moment)) {
-            Some(item) => item.bytes.len() > MOST_COPIED,
+            Some(item) => item.bytes().len() > MOST_COPIED,
             None => false,
         }
     }
@@ -171,17 +171,17 @@ fn show_live<O, X, E, F: FnOnce(Option<&StoredItem>, &mut O) -> Result<X, E> + D
 }
 
 /// What stands in the place of a large item that is removed: it has expired, and no unique.
-fn emptied(alloc: Global, moment: u64) -> StoredItem
-    ensures { result ≡ new_item [] 0 (Some moment) }
+fn emptied(alloc: Global, moment: u64) -> Result<StoredItem, AllocError>
+    ensures { IfOk result (λ made. made ≡ new_item [] 0 (Some moment)) }
 {
-    StoredItem::new(Vec::new(alloc), 0, Some(moment))
+    StoredItem::new(alloc, b"", 0, Some(moment))
 }
 
 /// Counts an item that left by itself; one without a unique was removed.
 fn count_removal(counters: &mut Counters, notice: &Notice<Shared<Key>, StoredItem>) {
     match notice.cause {
         RemovalCause::Size => counters.up(Tally::Evictions),
-        RemovalCause::Expired if notice.value.unique != 0 => counters.up(Tally::Expired),
+        RemovalCause::Expired if notice.value.unique() != 0 => counters.up(Tally::Expired),
         _ => {}
     }
 }
@@ -248,7 +248,8 @@ impl<S: BuildHasher + Drop> Shelf for LentShelf<S> {
         if !self.is_large(key, moment) {
             return self.take_out(key, moment);
         }
-        self.put(key, emptied(self.alloc, moment), moment)?;
+        let empty = emptied(self.alloc, moment)?;
+        self.put(key, empty, moment)?;
         // (nothing is live under the key any more, also if the empty item cannot be taken out yet)
         let _taken = self.take_out(key, moment);
         Ok(())

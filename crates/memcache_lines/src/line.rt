@@ -1,8 +1,8 @@
 //! What a line says, with its words as they are in it.
 ghost use Rattle.std.specs.Prelude.{◌≡◌, ◌∷◌, codes, bytes_eq};
 ghost use Rattle.memcache_model.specs.Bytes.{tokens};
-ghost use Rattle.memcache_model.specs.Grammar.{request_line, whole, faulty, keys_fault, read_get, read_gat, read_delete, delete_quiet, delete_word, delete_words, on_key, read_arithmetic, read_touch, read_flush, timed, read_verbosity, read_meta, read_arguments, stranger, verb_named, rare_verb_in, server_verb_in, meta_verb_in, quiet_in, exptime_in};
-ghost use Rattle.memcache_model.specs.Commands.{flush_all};
+ghost use Rattle.memcache_model.specs.Grammar.{request_line, whole, faulty, keys_fault, read_get, read_gat, read_delete, delete_word, delete_words, on_key, read_arithmetic, read_touch, read_flush, timed, read_verbosity, verbosity_by, read_meta, read_arguments, stranger, verb_named, rare_verb_in, server_verb_in, meta_verb_in, quiet_in, exptime_in};
+ghost use Rattle.memcache_model.specs.Commands.{delete, flush_all};
 ghost use Rattle.memcache_lines.specs.Said.{said_by, asks};
 
 use crate::numbers::{exptime, number};
@@ -339,49 +339,48 @@ fn read_delete<'a>(rest: &'a [u8]) -> Line<'a>
     let Some((key, more)) = next_token(rest) else {
         return fault(ProtocolError::Unknown);
     };
-    match read_delete_quiet(more) {
-        Ok(quiet) => on_key(key, Command::Delete { key }, quiet),
-        Err(error) => fault(error),
+    match next_token(more) {
+        Some((word, behind)) => read_delete_words(key, word, behind),
+        None => delete(key, false),
     }
 }
 
-/// Whether the reply of a `delete` is left out, by what stands behind its key.
-fn read_delete_quiet(rest: &[u8]) -> Result<bool, ProtocolError>
-    ensures { result ≡ delete_quiet (tokens rest.now) }
-{
-    match next_token(rest) {
-        Some((word, more)) => read_delete_words(word, more),
-        None => Ok(false),
-    }
-}
-
-/// The same, by the first word behind the key and what stands behind that.
-fn read_delete_words(first: &[u8], rest: &[u8]) -> Result<bool, ProtocolError>
-    ensures { result ≡ delete_words first.now (tokens rest.now) }
+/// The same, by its key, the first word behind that and what stands behind that word.
+fn read_delete_words<'a>(key: &'a [u8], first: &[u8], rest: &[u8]) -> Line<'a>
+    ensures { said_by result ≡ delete_words key.now first.now (tokens rest.now) }
 {
     let Some((second, more)) = next_token(rest) else {
-        return read_delete_word(first);
+        return read_delete_word(key, first);
     };
     if has_token(more) {
-        Err(ProtocolError::Unknown)
-    } else if is_zero(first) && is_noreply(second) {
-        Ok(true)
+        return fault(ProtocolError::Unknown);
+    }
+    let quiet = is_noreply(second);
+    if is_zero(first) && quiet {
+        delete(key, true)
     } else {
-        Err(ProtocolError::Delete)
+        all_of(Command::Malformed(ProtocolError::Delete), quiet)
     }
 }
 
 /// The same, by the only word behind the key.
-fn read_delete_word(word: &[u8]) -> Result<bool, ProtocolError>
-    ensures { result ≡ delete_word word.now }
+fn read_delete_word<'a>(key: &'a [u8], word: &[u8]) -> Line<'a>
+    ensures { said_by result ≡ delete_word key.now word.now }
 {
     if is_zero(word) {
-        Ok(false)
+        delete(key, false)
     } else if is_noreply(word) {
-        Ok(true)
+        delete(key, true)
     } else {
-        Err(ProtocolError::Delete)
+        fault(ProtocolError::Delete)
     }
+}
+
+/// A `delete`.
+fn delete<'a>(key: &'a [u8], quiet: bool) -> Line<'a>
+    ensures { said_by result ≡ on_key key.now (delete key.now) quiet }
+{
+    on_key(key, Command::Delete { key }, quiet)
 }
 
 /// Whether a word is a time of 0.
@@ -491,12 +490,24 @@ fn read_verbosity<'a>(rest: &'a [u8]) -> Line<'a>
     let Some((level, more)) = next_token(rest) else {
         return fault(ProtocolError::Unknown);
     };
-    if !has_token(more) {
-        return all_of(Command::Verbosity, is_noreply(level));
-    }
-    match read_quiet(more) {
-        Some(quiet) => all_of(Command::Verbosity, quiet),
-        None => fault(ProtocolError::Unknown),
+    let quiet = if has_token(more) {
+        read_quiet(more)
+    } else {
+        Some(is_noreply(level))
+    };
+    verbosity(number(level), quiet)
+}
+
+/// A `verbosity` of this level, and whether its reply is left out, if it has as many words.
+fn verbosity<'a>(level: Option<u64>, quiet: Option<bool>) -> Line<'a>
+    ensures { said_by result ≡ verbosity_by level quiet }
+{
+    let Some(quiet) = quiet else {
+        return fault(ProtocolError::Unknown);
+    };
+    match level {
+        Some(_) => all_of(Command::Verbosity, quiet),
+        None => all_of(Command::Malformed(ProtocolError::Format), quiet),
     }
 }
 

@@ -122,34 +122,34 @@ read_cas words = faulty fault.Unknown
 abbrev pub on_key : List ℕ → Command → Bool → RequestLine
 on_key key command quiet = if is_item_key key then whole command quiet else faulty fault.Format
 
--- the only word behind the key of a `delete`: a time of 0, which old clients send, or `noreply`
-abbrev pub delete_word : List ℕ → Result Bool ProtocolError
-delete_word word =
-    if bytes_eq word (codes "0") then Ok false
-    else (if bytes_eq word (codes "noreply") then Ok true else Err fault.Delete)
+-- what follows the key of a `delete` is malformed; `noreply` leaves the reply out all the same
+abbrev pub delete_fault : Bool → RequestLine
+delete_fault quiet = whole (malformed fault.Delete) quiet
 
--- a word behind the key of a `delete`, and those behind it
-abbrev pub delete_words : List ℕ → List (List ℕ) → Result Bool ProtocolError
-delete_words word [] = delete_word word
-delete_words time (word ∷ more) =
-    if is_filled more then Err fault.Unknown
-    else (if bytes_eq time (codes "0") && bytes_eq word (codes "noreply") then Ok true
-    else Err fault.Delete)
+-- a `delete` with a word behind its key: a time of 0, which old clients send, or `noreply`
+abbrev pub delete_word : (key word : List ℕ) → RequestLine
+delete_word key word =
+    if bytes_eq word (codes "0") then on_key key (delete key) false
+    else (if bytes_eq word (codes "noreply") then on_key key (delete key) true
+    else delete_fault false)
 
--- what may follow the key of a `delete`
-abbrev pub delete_quiet : List (List ℕ) → Result Bool ProtocolError
-delete_quiet [] = Ok false
-delete_quiet (word ∷ more) = delete_words word more
+-- a `delete` with a word behind its key and those behind it
+abbrev pub delete_words : (key word : List ℕ) → List (List ℕ) → RequestLine
+delete_words key word [] = delete_word key word
+delete_words key time (word ∷ more) =
+    if is_filled more then faulty fault.Unknown
+    else (if bytes_eq time (codes "0") && bytes_eq word (codes "noreply")
+    then on_key key (delete key) true else delete_fault (bytes_eq word (codes "noreply")))
 
 -- a `delete` with what follows its key
-abbrev pub delete_by : List ℕ → Result Bool ProtocolError → RequestLine
-delete_by key (Ok quiet) = on_key key (delete key) quiet
-delete_by key (Err error) = faulty error
+abbrev pub delete_by : (key : List ℕ) → List (List ℕ) → RequestLine
+delete_by key [] = on_key key (delete key) false
+delete_by key (word ∷ more) = delete_words key word more
 
 -- its words
 abbrev pub read_delete : List (List ℕ) → RequestLine
 read_delete [] = faulty fault.Unknown
-read_delete (key ∷ more) = delete_by key (delete_quiet more)
+read_delete (key ∷ more) = delete_by key more
 
 -- an `incr` or `decr`
 abbrev pub arithmetic_by : Direction → List ℕ → Option ℕ → Option Bool → RequestLine
@@ -184,17 +184,17 @@ read_flush (word ∷ more) =
     if not (is_filled more) && bytes_eq word (codes "noreply") then whole (flush_all Never) true
     else timed flush_all (exptime_in word) (quiet_in more)
 
--- a `verbosity`, which does nothing, by what follows its level
-abbrev pub verbosity_by : Option Bool → RequestLine
-verbosity_by None = faulty fault.Unknown
-verbosity_by (Some quiet) = whole verbosity quiet
+-- a `verbosity`, which does nothing, by its level and what follows that
+abbrev pub verbosity_by : Option ℕ → Option Bool → RequestLine
+verbosity_by level None = faulty fault.Unknown
+verbosity_by None (Some quiet) = whole (malformed fault.Format) quiet
+verbosity_by (Some level) (Some quiet) = whole verbosity quiet
 
--- its words: `noreply` may stand in place of the level
+-- its words; `noreply` leaves the reply out in place of the level too, which is malformed then
 abbrev pub read_verbosity : List (List ℕ) → RequestLine
 read_verbosity [] = faulty fault.Unknown
-read_verbosity (level ∷ more) =
-    if is_filled more then verbosity_by (quiet_in more)
-    else whole verbosity (bytes_eq level (codes "noreply"))
+read_verbosity (level ∷ more) = verbosity_by (number_below (2 ^ 64) level)
+    (if is_filled more then quiet_in more else Some (bytes_eq level (codes "noreply")))
 
 -- a meta command on a key, with its flags
 abbrev pub read_meta : Meta → List (List ℕ) → RequestLine

@@ -4,6 +4,8 @@ mod Cutting
 mod Feeding
 mod Finding
 mod Keeping
+mod Packed
 mod Parting
 mod Placing
+mod Putting
 mod Touching

@@ -1,8 +1,8 @@
 -- What a reply tells of an item.
-use Rattle.std.specs.Prelude.{ℕ, Bool, false, not, ◌&&◌, ◌||◌, nat_lt, List, ◌++◌, length, Option, Some, None, if◌then◌else◌, codes}
+use Rattle.std.specs.Prelude.{ℕ, Bool, true, false, not, ◌&&◌, ◌||◌, nat_lt, List, ◌++◌, length, Option, Some, None, if◌then◌else◌, codes}
 use Rattle.std.specs.Option.{option_map_or}
 use Rattle.memcache_model.specs.Items.{Item, exptime_deadline}
-use Rattle.memcache_model.specs.Meta.{exptime_of, ends_before, is_late, is_one_of, item_text, lease_text, retimed_by, told_to_get}
+use Rattle.memcache_model.specs.Meta.{exptime_of, ends_before, is_late, is_one_of, item_text, lease_text, meta_item, retimed_by, told_to_get}
 use Rattle.memcache_service.specs.declared.stock.telling.Told.{Told}
 
 -- the item that it tells of, without its lease
@@ -46,3 +46,8 @@ moded most mode item (Some old) =
     joined_within : List ℕ → Option Item
     joined_within bytes =
         if nat_lt most (length bytes) then None else Some (record old { bytes = bytes })
+
+-- what a block becomes over the item of a later unique
+abbrev pub renewed_item : ℕ → List (List ℕ) → (block : List ℕ) → (held : Item) → Item
+renewed_item moment words block held = record (meta_item moment words block)
+    { deadline = held.deadline; stale = true; leased = held.leased }

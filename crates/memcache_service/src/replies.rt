@@ -180,11 +180,11 @@ pub fn say_value(
 {
     let needed = key
         .len()
-        .saturating_add(item.bytes.len())
+        .saturating_add(item.bytes().len())
         .saturating_add(SHORT);
     output.reserve(needed)?;
     write_head(output, uniques, key, item);
-    write(output, item.bytes.as_slice());
+    write(output, item.bytes());
     write(output, b"\r\n");
     Ok(())
 }
@@ -203,11 +203,11 @@ pub fn say_whole(
 {
     let needed = key
         .len()
-        .saturating_add(item.bytes.len())
+        .saturating_add(item.bytes().len())
         .saturating_add(SHORT);
     output.reserve(needed)?;
     write_head(output, uniques, key, item);
-    write(output, item.bytes.as_slice());
+    write(output, item.bytes());
     write(output, b"\r\nEND\r\n");
     Ok(())
 }
@@ -236,12 +236,12 @@ fn write_numbers(output: &mut Vec<u8>, uniques: bool, item: &StoredItem)
 {
     let mut row = *b"---------------------------------------------------------------\r\n";
     let end = if uniques {
-        put_before(&mut row, 63, item.unique)
+        put_before(&mut row, 63, item.unique())
     } else {
         63
     };
-    let end = put_before(&mut row, end, item.bytes.len() as u64);
-    let start = put_before(&mut row, end, u64::from(item.flags));
+    let end = put_before(&mut row, end, item.bytes().len() as u64);
+    let start = put_before(&mut row, end, u64::from(item.flags()));
     write(output, &row[start..]);
 }
 

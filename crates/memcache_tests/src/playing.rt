@@ -109,7 +109,7 @@ fn ask<T: Shelf>(
 }
 
 /// What an item of one byte weighs under a key of one byte: both, and `ITEM_COST`.
-const WEIGHT: u64 = 292;
+const WEIGHT: u64 = 232;
 
 /// What is held, once each byte from `!` to `~` was set as a key at one moment: how many of the keys have an item, and how many bytes the
 /// statistics tell.

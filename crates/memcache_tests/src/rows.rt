@@ -50,6 +50,12 @@ const STORED: &[Row] = &[
         b"CLIENT_ERROR bad command line format.  Usage: delete <key> [noreply]\r\n",
     ),
     (0, b"delete c 0 noreply\r\n", b""),
+    (
+        0,
+        b"delete c 10 noreply\r\ndelete c noreply noreply\r\n",
+        b"",
+    ),
+    (0, b"delete c 0 0 noreply\r\n", b"ERROR\r\n"),
     (0, b"flush_all\r\n", b"OK\r\n"),
     (0, b"get a b\r\n", b"END\r\n"),
     (
@@ -190,6 +196,11 @@ const MALFORMED: &[Row] = &[
         0,
         b"version\r\nverbosity 1\r\nverbosity\r\nverbosity 1 noreply\r\nverbosity noreply\r\n",
         b"VERSION 1.6.18\r\nOK\r\nERROR\r\n",
+    ),
+    (
+        0,
+        b"verbosity x\r\nverbosity x noreply\r\nverbosity 1 2\r\nverbosity 1 2 3\r\n",
+        b"CLIENT_ERROR bad command line format\r\nOK\r\nERROR\r\n",
     ),
     (0, b"quit\r\nget a\r\n", b""),
     (0, b"get a\r\n", b""),
@@ -500,7 +511,7 @@ const FAULTY_AND_TOO_LARGE: &[Row] = &[
 
 /// Room for one item of 9 bytes under a key of one byte.
 const NARROW: Setup = Setup {
-    capacity: 300,
+    capacity: 240,
     item_size: 100,
 };
 

@@ -57,7 +57,7 @@ impl<T: Shelf> Stock<T> {
             self.counters.up(miss_of(direction));
             return Ok(Reply::NotFound);
         };
-        let Some(old) = number(item.bytes.as_slice()) else {
+        let Some(old) = number(item.bytes()) else {
             return Ok(Reply::NoNumber);
         };
         let number = counted(direction, old, delta);

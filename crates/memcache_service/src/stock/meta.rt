@@ -1,5 +1,5 @@
 //! The meta commands.
-ghost use Rattle.std.specs.Prelude.{◌≡◌, ◌+◌, ◌≤◌, ◌<◌, ◌^◌, ◌++◌, ◌&&◌, ◌||◌, ℕ, [], not, true, false, codes, length, take, None, Some, IfOk, OnOk, OnErr, MatchOption, option_map, vec_capacity};
+ghost use Rattle.std.specs.Prelude.{◌≡◌, ◌+◌, ◌≤◌, ◌<◌, ◌^◌, ◌++◌, ◌&&◌, ◌||◌, ℕ, [], not, true, false, codes, if◌then◌else◌, length, take, None, Some, IfOk, OnOk, OnErr, MatchOption, option_map, vec_capacity};
 ghost use Rattle.std.specs.Option.{option_or};
 ghost use Rattle.memcache_model.specs.Answers.{passes_over};
 ghost use Rattle.memcache_model.specs.Bytes.{tokens};
@@ -9,7 +9,7 @@ ghost use Rattle.memcache_model.specs.Outcomes.{changes};
 ghost use Rattle.memcache_service.specs.Lines.{reply_text, said_from};
 ghost use Rattle.memcache_service.specs.Shelves.{MayComeAt, live_on};
 ghost use Rattle.memcache_service.specs.Stocks.{Did, LeavesAll, Spares, meta_fault, stock_at};
-ghost use Rattle.memcache_service.specs.Told.{found_item, late_by, moded, told_found};
+ghost use Rattle.memcache_service.specs.Told.{found_item, late_by, moded, renewed_item, told_found};
 
 use super::Stock;
 use super::flags::{
@@ -21,7 +21,7 @@ use super::reading::note_use;
 use super::storing::{before_within, behind_within};
 use super::telling::{Lease, TOLD_TO_COUNT, TOLD_TO_GET, TOLD_TO_SET, Told, say_alone};
 use crate::counters::Tally;
-use crate::item::{StoredItem, deadline_of};
+use crate::item::{Label, StoredItem, deadline_of};
 use crate::replies::Reply;
 use crate::shelf::Shelf;
 use memcache_lines::number;
@@ -143,7 +143,7 @@ impl<T: Shelf> Stock<T> {
             return self.meta_vivify(asked, output);
         };
         self.counters.up(Tally::GetHits);
-        let changed = say_found(asked, item, output)?;
+        let changed = say_found(self.alloc, asked, item, output)?;
         self.renew(changed, asked.moment)?;
         Ok(Reply::Written)
     }
@@ -206,8 +206,9 @@ impl<T: Shelf> Stock<T> {
         ensures capacity { vec_capacity output.old ≤ vec_capacity output.new }
     {
         let deadline = deadline_of(asked.moment, exptime);
-        let mut item = StoredItem::new(Vec::new(self.alloc), 0, deadline);
-        item.leased = true;
+        let mut label = Label::new(0, deadline);
+        label.leased = true;
+        let item = StoredItem::joined(self.alloc, b"", b"", label)?;
         let lease = Lease {
             held: false,
             stale: false,
@@ -253,12 +254,10 @@ impl<T: Shelf> Stock<T> {
             self.counters.up(Tally::DeleteMisses);
             return refuse(b"EX", asked, output);
         }
-        if !has_flag(b'q', asked.flags) {
-            say_alone(output, b"HD", asked.key, asked.flags)?;
-        }
+        say_deleted(asked, output)?;
         self.counters.up(Tally::DeleteHits);
         if has_flag(b'I', asked.flags) {
-            let changed = stale_item(asked, item)?;
+            let changed = stale_item(self.alloc, asked, item)?;
             self.put(changed, asked.moment)?;
         } else {
             self.shelf.remove(&self.key, asked.moment)?;
@@ -294,14 +293,14 @@ impl<T: Shelf> Stock<T> {
         if is_other(asked.flags, item) && !names_none(asked.flags) {
             return refuse(b"EX", asked, output);
         }
-        let Some(old) = number(item.bytes.as_slice()) else {
+        let Some(old) = number(item.bytes()) else {
             return Ok(Reply::NoNumber);
         };
         let delta = number_of(b'D', asked.flags).unwrap_or(1);
         let count = counted(direction_of(asked.flags), old, delta);
-        let deadline = retimed(asked, item);
-        let mut changed = item.with_number(self.alloc, count)?;
-        changed.deadline = deadline;
+        let mut label = item.label();
+        label.deadline = retimed(asked, item);
+        let changed = StoredItem::of_number(self.alloc, count, label)?;
         let is_quiet = has_flag(b'q', asked.flags);
         self.put_number(asked, is_quiet, changed, output)
     }
@@ -323,8 +322,7 @@ impl<T: Shelf> Stock<T> {
         };
         let first = number_of(b'J', asked.flags).unwrap_or(0);
         let deadline = deadline_of(asked.moment, exptime);
-        let item = StoredItem::new(Vec::new(self.alloc), 0, deadline);
-        let item = item.with_number(self.alloc, first)?;
+        let item = StoredItem::of_number(self.alloc, first, Label::new(0, deadline))?;
         self.put_number(asked, false, item, output)
     }
 
@@ -346,9 +344,7 @@ impl<T: Shelf> Stock<T> {
         ensures begun { take (length output.old.items) output.new.items ≡ output.old.items }
         ensures capacity { vec_capacity output.old ≤ vec_capacity output.new }
     {
-        if !is_quiet {
-            say_counted(asked, &item, self.next_unique(), output)?;
-        }
+        say_counted(asked, is_quiet, &item, self.next_unique(), output)?;
         self.put(item, asked.moment)?;
         Ok(Reply::Written)
     }
@@ -421,10 +417,7 @@ impl<T: Shelf> Stock<T> {
             self.counters.up(Tally::CasBadval);
             return refuse(b"EX", asked, output);
         }
-        let mut item = block_item(self.alloc, asked, block)?;
-        item.deadline = held.deadline;
-        item.stale = true;
-        item.leased = held.leased;
+        let item = renewed_item(self.alloc, asked, block, held)?;
         self.put_told(asked, item, output)
     }
 
@@ -511,6 +504,7 @@ impl<T: Shelf> Stock<T> {
 /// Tells a live item, and returns what it becomes, if it changes.
 #[tactic(auto, using(crate::proofs::Finding::found_item_of))]
 fn say_found(
+    alloc: Global,
     asked: Asked<'_>,
     item: &StoredItem,
     output: &mut Vec<u8>,
@@ -527,34 +521,39 @@ fn say_found(
     let deadline = retimed(asked, item);
     let wins = wins(asked, item, deadline);
     let lease = Lease {
-        held: item.leased,
-        stale: item.stale,
+        held: item.is_leased(),
+        stale: item.is_stale(),
         wins,
     };
-    let mut told = Told::new(TOLD_TO_GET, asked.key, item, item.unique, asked.moment);
+    let mut told = Told::new(TOLD_TO_GET, asked.key, item, item.unique(), asked.moment);
     told.deadline = deadline;
     told.say_item(output, asked.flags, &lease)?;
-    if !wins && deadline == item.deadline {
+    if !wins && deadline == item.deadline() {
         return Ok(None);
     }
-    let mut changed = item.with_deadline(deadline)?;
-    changed.leased = item.leased || wins;
-    Ok(Some(changed))
+    let mut label = item.label();
+    label.deadline = deadline;
+    label.leased = label.leased || wins;
+    Ok(Some(item.with_label(alloc, label)?))
 }
 
-/// Tells a number that gets this unique.
+/// Tells a number that gets this unique, unless it is to be quiet.
 fn say_counted(
     asked: Asked<'_>,
+    is_quiet: bool,
     item: &StoredItem,
     unique: u64,
     output: &mut Vec<u8>,
 ) -> Result<(), AllocError>
-    ensures ok { OnOk result (output.new.items ≡ output.old.items
-        ++ item_text told_to_count asked.entry.moment asked.entry.key.now
-        (record item.now { unique = unique }) (tokens asked.entry.flags.now) []) }
+    ensures ok { OnOk result (output.new.items ≡ output.old.items ++ (if is_quiet then []
+        else item_text told_to_count asked.entry.moment asked.entry.key.now
+        (record item.now { unique = unique }) (tokens asked.entry.flags.now) [])) }
     ensures begun { take (length output.old.items) output.new.items ≡ output.old.items }
     ensures capacity { vec_capacity output.old ≤ vec_capacity output.new }
 {
+    if is_quiet {
+        return Ok(());
+    }
     let told = Told::new(TOLD_TO_COUNT, asked.key, item, unique, asked.moment);
     told.say_item(output, asked.flags, &NO_LEASE)
 }
@@ -579,6 +578,20 @@ fn say_stored(
     told.say_stored(output, asked.flags)
 }
 
+/// Tells that an item is deleted or stale, unless the request is quiet.
+fn say_deleted(asked: Asked<'_>, output: &mut Vec<u8>) -> Result<(), AllocError>
+    ensures ok { OnOk result (output.new.items ≡ output.old.items
+        ++ unless_quiet (tokens asked.entry.flags.now)
+        (code_alone (codes "HD") asked.entry.key.now (tokens asked.entry.flags.now))) }
+    ensures begun { take (length output.old.items) output.new.items ≡ output.old.items }
+    ensures capacity { vec_capacity output.old ≤ vec_capacity output.new }
+{
+    if has_flag(b'q', asked.flags) {
+        return Ok(());
+    }
+    say_alone(output, b"HD", asked.key, asked.flags)
+}
+
 /// Tells that nothing is done, by a code.
 fn refuse(code: &[u8], asked: Asked<'_>, output: &mut Vec<u8>) -> Result<Reply, AllocError>
     ensures ok { IfOk result (λ reply. (reply ≡ Reply.Written) × (output.new.items
@@ -596,7 +609,7 @@ fn is_other(flags: &[u8], item: &StoredItem) -> bool
     ensures { result ≡ is_other (tokens flags.now) item.now }
 {
     match number_of(b'C', flags) {
-        Some(unique) => unique != item.unique,
+        Some(unique) => unique != item.unique(),
         None => false,
     }
 }
@@ -615,14 +628,14 @@ fn names_none(flags: &[u8]) -> bool
 fn goes_on(mode: u8, unique: u64, item: &StoredItem) -> bool
     ensures { result ≡ goes_on mode unique item.now }
 {
-    item.unique == unique || is_one_of(b"E", mode) || (unique == 0 && is_one_of(b"AP", mode))
+    item.unique() == unique || is_one_of(b"E", mode) || (unique == 0 && is_one_of(b"AP", mode))
 }
 
 /// Whether an earlier unique is enough for a mode over an item.
 fn is_renewed(mode: u8, unique: u64, flags: &[u8], item: &StoredItem) -> bool
     ensures { result ≡ is_renewed mode unique (tokens flags.now) item.now }
 {
-    is_one_of(b"SR", mode) && has_flag(b'I', flags) && 0 < unique && unique < item.unique
+    is_one_of(b"SR", mode) && has_flag(b'I', flags) && 0 < unique && unique < item.unique()
 }
 
 /// The deadline that `T` gives an item, or its own.
@@ -633,7 +646,7 @@ fn retimed(asked: Asked<'_>, item: &StoredItem) -> Option<u64>
 {
     match exptime_of(b'T', asked.flags) {
         Some(exptime) => deadline_of(asked.moment, exptime),
-        None => item.deadline,
+        None => item.deadline(),
     }
 }
 
@@ -643,7 +656,7 @@ fn wins(asked: Asked<'_>, item: &StoredItem, deadline: Option<u64>) -> bool
     ensures { result ≡ (not item.now.leased && (item.now.stale
         || late_by asked.entry.moment (tokens asked.entry.flags.now) deadline)) }
 {
-    !item.leased && (item.stale || is_late(asked, deadline))
+    !item.is_leased() && (item.is_stale() || is_late(asked, deadline))
 }
 
 /// Whether a deadline comes before the moment that `R` says.
@@ -671,16 +684,17 @@ fn ends_before(other: Option<u64>, deadline: Option<u64>) -> bool
 }
 
 /// The item that a `md` leaves stale.
-fn stale_item(asked: Asked<'_>, item: &StoredItem) -> Result<StoredItem, AllocError>
+fn stale_item(alloc: Global, asked: Asked<'_>, item: &StoredItem) -> Result<StoredItem, AllocError>
     requires { asked.moment < 2 ^ 43 }
     ensures { IfOk result (λ made. made ≡ record
         (retimed_by asked.entry.moment (codes "T") (tokens asked.entry.flags.now) item.now)
         { stale = true; leased = false }) }
 {
-    let mut changed = item.with_deadline(retimed(asked, item))?;
-    changed.stale = true;
-    changed.leased = false;
-    Ok(changed)
+    let mut label = item.label();
+    label.deadline = retimed(asked, item);
+    label.stale = true;
+    label.leased = false;
+    item.with_label(alloc, label)
 }
 
 /// The item of a block: its flags by `F`, its expiry by `T`.
@@ -689,10 +703,25 @@ fn block_item(alloc: Global, asked: Asked<'_>, block: &[u8]) -> Result<StoredIte
     ensures { IfOk result (λ made. made
         ≡ meta_item asked.entry.moment (tokens asked.entry.flags.now) block.now) }
 {
-    let bytes = Vec::from_slice(alloc, block)?;
     let exptime = exptime_of(b'T', asked.flags).unwrap_or(Exptime::Never);
     let deadline = deadline_of(asked.moment, exptime);
-    Ok(StoredItem::new(bytes, flags_of(asked.flags), deadline))
+    StoredItem::new(alloc, block, flags_of(asked.flags), deadline)
+}
+
+/// The item of a block that an earlier unique is enough for: stale, with the deadline and the lease of the one before.
+fn renewed_item(
+    alloc: Global,
+    asked: Asked<'_>,
+    block: &[u8],
+    held: &StoredItem,
+) -> Result<StoredItem, AllocError>
+    ensures { IfOk result (λ made. made ≡ renewed_item asked.entry.moment
+        (tokens asked.entry.flags.now) block.now held.now) }
+{
+    let mut renewed = Label::new(flags_of(asked.flags), held.deadline());
+    renewed.stale = true;
+    renewed.leased = held.is_leased();
+    StoredItem::joined(alloc, block, b"", renewed)
 }
 
 /// What a block becomes by its mode, over the live item of its key; none if it is not stored.

@@ -201,7 +201,7 @@ impl<T: Shelf> Stock<T> {
             self.counters.up(Tally::TouchMisses);
             return Ok(Reply::NotFound);
         };
-        let item = old.with_deadline(deadline)?;
+        let item = old.with_deadline(self.alloc, deadline)?;
         self.shelf.put(&self.key, item, moment)?;
         self.counters.up(Tally::TouchHits);
         Ok(Reply::Touched)
@@ -281,7 +281,7 @@ fn say_only(
 {
     match found {
         Some(item) => {
-            if item.bytes.len() > MAX_REPLY {
+            if item.bytes().len() > MAX_REPLY {
                 return Err(AllocError);
             }
             say_whole(output, uniques, key, item)?;

@@ -10,7 +10,7 @@ ghost use Rattle.memcache_service.specs.Lines.{reply_text};
 
 use super::Stock;
 use crate::counters::Tally;
-use crate::item::{StoredItem, deadline_of};
+use crate::item::{StoredItem, deadline_of, unique_behind};
 use crate::replies::Reply;
 use crate::shelf::Shelf;
 use memcache_model::{Exptime, Storage};
@@ -32,8 +32,7 @@ impl<'a> Block<'a> {
     fn item(&self, alloc: Global) -> Result<StoredItem, AllocError>
         ensures { IfOk result (λ item. item ≡ block_item self.now) }
     {
-        let bytes = Vec::from_slice(alloc, self.bytes)?;
-        Ok(StoredItem::new(bytes, self.flags, self.deadline))
+        StoredItem::new(alloc, self.bytes, self.flags, self.deadline)
     }
 }
 
@@ -124,7 +123,7 @@ impl<T: Shelf> Stock<T> {
             self.new) }
         ensures err { OnErr result (Spares self.old self.new) }
     {
-        let Some(unique) = self.uniques.checked_add(1) else {
+        let Some(unique) = unique_behind(self.uniques) else {
             return Err(AllocError);
         };
         self.shelf.put(&self.key, item.with_unique(unique), moment)?;
@@ -201,7 +200,7 @@ impl<T: Shelf> Stock<T> {
             self.counters.up(Tally::CasMisses);
             return Ok(Reply::NotFound);
         };
-        if item.unique != unique {
+        if item.unique() != unique {
             self.counters.up(Tally::CasBadval);
             return Ok(Reply::Exists);
         }
@@ -246,7 +245,7 @@ pub fn behind_within(
     ensures { IfOk result (λ item. item ≡ (if nat_lt most (length (old.now.bytes ++ more.now))
         then None else Some (record old.now { bytes = old.now.bytes ++ more.now }))) }
 {
-    if !fits(most, old.bytes.len(), more.len()) {
+    if !fits(most, old.bytes().len(), more.len()) {
         return Ok(None);
     }
     Ok(Some(old.with_behind(alloc, more)?))
@@ -263,7 +262,7 @@ pub fn before_within(
     ensures { IfOk result (λ item. item ≡ (if nat_lt most (length (more.now ++ old.now.bytes))
         then None else Some (record old.now { bytes = more.now ++ old.now.bytes }))) }
 {
-    if !fits(most, more.len(), old.bytes.len()) {
+    if !fits(most, more.len(), old.bytes().len()) {
         return Ok(None);
     }
     Ok(Some(old.with_before(alloc, more)?))

@@ -68,10 +68,10 @@ impl<'a> Told<'a> {
         Told {
             letters,
             key,
-            bytes: item.bytes.as_slice(),
+            bytes: item.bytes(),
             unique,
-            flags: item.flags,
-            deadline: item.deadline,
+            flags: item.flags(),
+            deadline: item.deadline(),
             moment,
         }
     }
