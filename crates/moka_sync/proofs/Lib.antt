@@ -3,3 +3,5 @@ mod Suiting
 mod Showing
 mod Shards
 mod Numbering
+mod Holding
+mod Numbered

@@ -17,7 +17,8 @@ use Rattle.rand_core.specs.Stream.{Stream}
 use Rattle.sync_desk.specs.Drawing.{IsCauseToCoverAsDrawn}
 use Rattle.sync_desk.specs.Sharding.{CommitsAsDrawn, PreparesAsDrawn}
 use Rattle.sync_desk.specs.Slots.Refusals.{IsCoverRefusal}
-use Rattle.moka_sync.specs.Covering.{Commits, CommitsFirst, CoversShard, CoversShards, Guarded, IsCauseToCoverShards, IsPrepared, MayCover, MayCoverEach, MayRefuse, prepared, released}
+use Rattle.moka_sync.specs.Holding.{Guarded}
+use Rattle.moka_sync.specs.Covering.{Commits, CommitsFirst, CoversShard, CoversShards, IsCauseToCoverShards, IsPrepared, MayCover, MayCoverEach, MayRefuse, prepared, released}
 
 module _ {X : Type 0} where
   -- what stands at other places of a list of which one item is set
@@ -190,8 +191,9 @@ module _ {K V P S R : Type 0} where
           let before = h.first place i x (apart place n less differ) given here in
           (before.0, ap (λ ds. slice_get ds place) is ∙ others new n place e (λ s. differ (sym s)) ∙ before.1, before.2)
 
-  same_guarded : (d e : Guarded K V P S R) → e.state ≡ d.state → e.writes ≡ d.writes → e.moment ≡ d.moment → e ≡ d
-  same_guarded d e a b c = ap (λ x. record e { state = x }) a ∙ ap (λ x. record e { state = d.state; writes = x }) b ∙ ap (λ x. record d { moment = x }) c
+  -- all but the state is as before, and the state is this
+  stays_but : (o y : Guarded K V P S R) (f : Front K V P S R) → y ≡ record o { state = y.state } → y.state ≡ f → y ≡ record o { state = f }
+  stays_but o y f rest is = rest ∙ ap (λ x. record o { state = x }) is
 
   -- a shard that was made ready and registered a predicate draws and covers
   covers_one : (p : P) (id : ℕ) (d e : Guarded K V P S R) → MayCover id d → Commits p id (prepared d) e → CoversShard p d e
@@ -203,7 +205,7 @@ module _ {K V P S R : Type 0} where
         at = at;
         now = does.state.1;
         may = may;
-        covers = same_guarded (record d { state = passed at.now at.step (with_first_part (registered one) (prepared d).state) }) e does.state.2 does.writes does.moment
+        covers = stays_but d e (passed at.now at.step (with_first_part (registered one) (prepared d).state)) does.rest does.state.2
             ∙ ap (λ ss. record d { state = passed at.now at.step (record d.state { parts = ss }) }) (registers_back one d.state.parts);
       }
 
@@ -227,32 +229,32 @@ module _ {K V P S R X : Type 0} (f : X → Guarded K V P S R) (xs : List X) (ds 
   pub at_changed : (change : Guarded K V P S R → Guarded K V P S R) → f y ≡ change (f o) → (d : Guarded K V P S R) → slice_get ds i ≡ Some d → map f (slice_set xs i y) ≡ slice_set ds i (change d)
   at_changed change does d at = seen_set f xs ds i y same ∙ ap (λ e. slice_set ds i e) (does ∙ ap change (seen_at f xs ds i x o d same is alike at))
 
-  pub at_prepared : (drawn left : Stream) (r : Result ℕ CacheError) → IfOk r (λ id. PreparesAsDrawn drawn left id (f o).state (f y).state) → (f y).writes ≡ (f o).writes → (f y).moment ≡ (f o).moment
+  pub at_prepared : (drawn left : Stream) (r : Result ℕ CacheError) → IfOk r (λ id. PreparesAsDrawn drawn left id (f o).state (f y).state) → f y ≡ record (f o) { state = (f y).state }
       → OnOk r ((d : Guarded K V P S R) → slice_get ds i ≡ Some d → map f (slice_set xs i y) ≡ slice_set ds i (prepared d))
-  at_prepared drawn left (Ok id) h writes moment = at_changed prepared (same_guarded (prepared (f o)) (f y) h.room writes moment)
-  at_prepared drawn left (Err e) h writes moment = tt
+  at_prepared drawn left (Ok id) h rest = at_changed prepared (stays_but (f o) (f y) (prepared (f o)).state rest h.room)
+  at_prepared drawn left (Err e) h rest = tt
 
   pub at_may : (drawn left : Stream) (r : Result ℕ CacheError) (new : Front K V P S R) → IfOk r (λ id. PreparesAsDrawn drawn left id (f o).state new) → IfOk r (λ id. (d : Guarded K V P S R) → slice_get ds i ≡ Some d → MayCover id d)
   at_may drawn left (Ok id) new h = λ d at. subst (λ z. MayCover id z) (seen_at f xs ds i x o d same is alike at) (record { drawn = drawn; left = left; draws = h.draws; steps = h.steps })
   at_may drawn left (Err e) new h = tt
 
-  pub at_refused : (r : Result ℕ CacheError) → i < length ds → OnErr r ((f y).state ≡ (f o).state) → (f y).writes ≡ (f o).writes → (f y).moment ≡ (f o).moment → OnErr r (map f (slice_set xs i y) ≡ ds)
-  at_refused (Ok id) low h writes moment = tt
-  at_refused (Err e) low h writes moment = seen_same f xs ds i x o y same low is alike (same_guarded (f o) (f y) h writes moment)
+  pub at_refused : (r : Result ℕ CacheError) → i < length ds → OnErr r ((f y).state ≡ (f o).state) → f y ≡ record (f o) { state = (f y).state } → OnErr r (map f (slice_set xs i y) ≡ ds)
+  at_refused (Ok id) low h rest = tt
+  at_refused (Err e) low h rest = seen_same f xs ds i x o y same low is alike (stays_but (f o) (f y) (f o).state rest h)
 
   pub at_caused : (drawn left : Stream) (r : Result ℕ CacheError) → IfErr r (IsCauseToCoverAsDrawn drawn left (f o).state) → IfErr r (λ e. (d : Guarded K V P S R) → slice_get ds i ≡ Some d → MayRefuse d e)
   at_caused drawn left (Ok id) h = tt
   at_caused drawn left (Err e) h = λ d at. (drawn, left, subst (λ z. IsCauseToCoverAsDrawn drawn left z.state e) (seen_at f xs ds i x o d same is alike at) h)
 
-  pub at_committed : (p : P) (id : ℕ) → CommitsAsDrawn (f o).moment id p (f o).state (f y).state → (f y).writes ≡ (f o).writes → (f y).moment ≡ (f o).moment
+  pub at_committed : (p : P) (id : ℕ) → CommitsAsDrawn (f o).moment id p (f o).state (f y).state → f y ≡ record (f o) { state = (f y).state }
       → (d : Guarded K V P S R) → slice_get ds i ≡ Some d → (e : Guarded K V P S R) × Commits p id d e × (map f (slice_set xs i y) ≡ slice_set ds i e)
-  at_committed p id does writes moment d at =
-      let made : Commits p id (f o) (f y) = record { state = does; writes = writes; moment = moment } in
+  at_committed p id does rest d at =
+      let made : Commits p id (f o) (f y) = record { state = does; rest = rest } in
       (f y, subst (λ z. Commits p id z (f y)) (seen_at f xs ds i x o d same is alike at) made, seen_set f xs ds i y same)
 
-  pub at_released : (f y).state ≡ with_first_part without_room (f o).state → (f y).writes ≡ (f o).writes → (f y).moment ≡ (f o).moment
+  pub at_released : (f y).state ≡ with_first_part without_room (f o).state → f y ≡ record (f o) { state = (f y).state }
       → (d : Guarded K V P S R) → slice_get ds i ≡ Some d → map f (slice_set xs i y) ≡ slice_set ds i (released d)
-  at_released does writes moment = at_changed released (same_guarded (released (f o)) (f y) does writes moment)
+  at_released does rest = at_changed released (stays_but (f o) (f y) (released (f o)).state rest does)
 
   -- what is so of the shard is so of what its guard guards
   pub at_so : (Q : Guarded K V P S R → Type 0) → i < length ds → ((d : Guarded K V P S R) → slice_get ds i ≡ Some d → Q d) → Q (f o)

@@ -1,7 +1,7 @@
 -- A predicate in all shards or in none.
 use Rattle.std.specs.Prelude.{◌≡◌, ◌+◌, ◌<◌, ◌≤◌, ◌^◌, ℕ, List, Some, length, map, slice_get}
 use Rattle.engine_reference.specs.Calls.{with_predicate, with_room, without_room}
-use Rattle.front_reference.specs.Fronts.{CallsEach, Front, passed}
+use Rattle.front_reference.specs.Fronts.{CallsEach, passed}
 use Rattle.front_reference.specs.declared.data.At.{At}
 use Rattle.front_reference.specs.declared.errors.CacheError.{CacheError}
 use Rattle.front_reference.specs.declared.errors.CacheError.TheVariants as errors
@@ -9,13 +9,7 @@ use Rattle.front_state.specs.Sharding.{DrawsForFirst, FirstHasRoom, with_first_p
 use Rattle.rand_core.specs.Stream.{Stream}
 use Rattle.sync_desk.specs.Drawing.{IsCauseToCoverAsDrawn, IsDrawn}
 use Rattle.sync_desk.specs.Sharding.{CommitsAsDrawn}
-
--- what the lock of a shard guards, but for the generator and who waits for a turn: the state, when values were last written, and the
--- moment that was handed in
-pub record Guarded (K V P S R : Type 0) : Type 0 where
-  pub state : Front K V P S R
-  pub writes : List ℕ
-  pub moment : ℕ
+use Rattle.moka_sync.specs.Holding.{Guarded}
 
 -- what the items of a list are seen as
 abbrev pub each_of : {X Y : Type 0} → List X → (X → Y) → List Y
@@ -55,8 +49,7 @@ module _ {K V P S R : Type 0} where
   -- a shard registers a predicate under an identifier, in the room that was made for it
   pub record Commits (predicate : P) (id : ℕ) (old new : Guarded K V P S R) : Type 0 where
     pub state : CommitsAsDrawn old.moment id predicate old.state new.state
-    pub writes : new.writes ≡ old.writes
-    pub moment : new.moment ≡ old.moment
+    pub rest : new ≡ record old { state = new.state }
 
   -- the shards before a place register a predicate, each under the identifier at its place, and the others do nothing
   pub record CommitsFirst (predicate : P) (ids : List ℕ) (count : ℕ)

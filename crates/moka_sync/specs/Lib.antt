@@ -4,6 +4,7 @@ pub use Rattle.sync_desk.specs.Slots.Refusals
 pub use Rattle.moka.specs.Building
 pub mod Turning
 pub mod Accessing
+pub mod Holding
 pub mod Covering
 pub mod Showing
 pub mod Selecting

@@ -14,7 +14,7 @@ module _ {S : Type 0} where
   desk_number hash None key = 0
   desk_number hash (Some spread) key = part_of spread.bits (hash spread.hasher key)
 
-  -- by so many bits, and this hasher
-  abbrev pub SpreadsBy : ℕ → S → Option (Spread S) → Type 0
-  SpreadsBy bits hasher None = ⊥
-  SpreadsBy bits hasher (Some spread) = (spread.bits ≡ bits) × (spread.hasher ≡ hasher)
+  -- keys that are spread are so by this hasher
+  abbrev pub SpreadsBy : S → Option (Spread S) → Type 0
+  SpreadsBy hasher None = Unit {0}
+  SpreadsBy hasher (Some spread) = spread.hasher ≡ hasher

@@ -7,6 +7,7 @@ ghost use Rattle.moka.specs.Building.{blank, fault_of, segments_fault};
 ghost use Rattle.moka.specs.declared.errors.BuildError.{BuildError};
 ghost use Rattle.moka.specs.declared.errors.BuildError.TheVariants.{OutOfMemory};
 ghost use Rattle.moka_sync.specs.Showing.{ShowsPlan};
+ghost use Rattle.moka_sync.specs.Spreading.{SpreadsBy};
 
 use crate::cache::{Cache, SharedCache};
 use engine_reference::{Bundle, Expiry, Predicate, Rules, Weigher};
@@ -75,9 +76,46 @@ pub trait Build<K: Eq + Hash, V, E: Env>: Sized {
         ensures shows { IfOk result (λ cache. shown self
             (option_map string_bytes (arc_value cache.inner).name)
             (arc_value cache.inner).policy) }
+        ensures hasher { IfOk result
+            (λ cache. SpreadsBy hasher (arc_value cache.inner).spread) }
         ensures sound { OnOk result (fault self ≡ None) }
         ensures cause { IfErr result
             (λ e. (fault self ≡ Some e) ⊎ ((e ≡ OutOfMemory) × (fault self ≡ None))) };
+}
+
+/// Builds a cache whose calls all take one lock. Unless it is timed, none of its values may expire.
+fn build_under_one_lock<
+    K: Eq + Hash + Drop,
+    V: Clone + Drop,
+    X: Expiry<K, V> + Drop,
+    W: Weigher<K, V> + Drop,
+    P: Predicate<K, V>,
+    F: Drop,
+    C: OneLock + Drop,
+    S: BuildHasher + Drop,
+    E: Env + Drop,
+>(
+    builder: CacheBuilder<X, W, P, F, C>,
+    alloc: Global,
+    hasher: S,
+    env: E,
+    is_timed: bool,
+) -> Result<SharedCache<K, V, S, Bundle<X, W, P, F>, E, C>, BuildError>
+    ensures shows { IfOk result (λ cache. ShowsPlan builder.plan
+        (option_map string_bytes (arc_value cache.inner).name) (arc_value cache.inner).policy) }
+    ensures hasher { IfOk result (λ cache. SpreadsBy hasher (arc_value cache.inner).spread) }
+    ensures sound { OnOk result (fault_of builder.plan ≡ None) }
+    ensures cause { IfErr result (λ e. (fault_of builder.plan ≡ Some e)
+        ⊎ ((e ≡ OutOfMemory) × (fault_of builder.plan ≡ None))) }
+{
+    let moment = env.now();
+    match builder.build_state(alloc, hasher, moment) {
+        Ok(state) => match SharedCache::over(alloc, state, env, is_timed) {
+            Ok(cache) => Ok(cache),
+            Err(_) => Err(BuildError::OutOfMemory),
+        },
+        Err(fault) => Err(fault),
+    }
 }
 
 impl<
@@ -115,14 +153,7 @@ impl<
         hasher: S,
         env: E,
     ) -> Result<SharedCache<K, V, S, Bundle<X, W, P, F>, E, C>, BuildError> {
-        let moment = env.now();
-        match self.build_state(alloc, hasher, moment) {
-            Ok(state) => match SharedCache::over(alloc, state, env) {
-                Ok(cache) => Ok(cache),
-                Err(_) => Err(BuildError::OutOfMemory),
-            },
-            Err(fault) => Err(fault),
-        }
+        build_under_one_lock(self, alloc, hasher, env, true)
     }
 }
 
@@ -144,7 +175,8 @@ impl<K: Eq + Hash + Drop, V: Clone + Drop, E: Env + Drop> SharedCache<
             (arc_value cache.inner).policy) }
         ensures cause { IfErr result (λ e. e ≡ OutOfMemory) }
     {
-        CacheBuilder::new(max_capacity).build(alloc, env)
+        let builder = CacheBuilder::new(max_capacity);
+        build_under_one_lock(builder, alloc, StdHasher::new(), env, false)
     }
 
     /// Returns a builder with nothing set: no capacity, no times, TinyLFU, one segment.
@@ -182,9 +214,8 @@ impl<K: Eq + Hash + Drop, V: Clone + Drop, E: Env + Drop> SharedCache<
         ensures cause { IfErr result (λ e. (segments_fault segments ≡ Some e)
             ⊎ ((e ≡ OutOfMemory) × (segments_fault segments ≡ None))) }
     {
-        CacheBuilder::new(max_capacity)
-            .segments(segments)
-            .build(alloc, env)
+        let builder = CacheBuilder::new(max_capacity).segments(segments);
+        build_under_one_lock(builder, alloc, StdHasher::new(), env, false)
     }
 
     /// Returns a builder with this number of segments, 1 to 65,536, rounded up to a power of two, and nothing else set. `build` refuses 0

@@ -1,13 +1,16 @@
 //! The cache, and its calls that take the lock once.
-ghost use Rattle.std.specs.Prelude.{◌≡◌, IfErr, IfOk, option_map};
+ghost use Rattle.std.specs.Prelude.{◌≡◌, None, IfErr, IfOk, OnOk, option_map};
 ghost use Rattle.std.specs.Arc.{arc_value};
 ghost use Rattle.std.specs.String.{string_bytes};
 ghost use Rattle.front_reference.specs.declared.errors.CacheError.TheVariants as errors;
 ghost use Rattle.front_state.specs.Reading.{ShowsPolicy};
+ghost use Rattle.moka_sync.specs.Holding.{DidClear, DoneUnderEach, DoneUnderLock, DidGet, DidInsert, DidInvalidate, DidRemove, DidRun, DidSee};
+ghost use Rattle.moka_sync.specs.Spreading.{desk_count, desk_number};
 ghost use Rattle.sync_desk.specs.Slots.Refusals.{IsShortage};
 
 use crate::inner::Inner;
-use engine_reference::{Policy, Rules};
+use engine_reference::{Hashes, Policy, Rules};
+use front_parts::HasWays;
 use front_reference::CacheError;
 use front_state::{LentState, Segmented, Single};
 use std::alloc::{AllocError, Global};
@@ -39,8 +42,9 @@ pub type SegmentedCache<K, V, S, R, E> = SharedCache<K, V, S, R, E, Segmented>;
 /// Each call takes a handle `rt`, by which it may wait for the lock, and takes the lock once. With shards, a call on a key takes the lock
 /// of the key's shard, and one on the whole cache takes each lock once, one after another. A call that makes a value or computes takes it
 /// several times, and its closures run in between, so they may use the same cache. Each call has a moment, the later of the environment's,
-/// which is read before the lock is taken, and the last call's, and the next step. Whenever the lock is taken, what it guards keeps what a
-/// lent cache keeps between calls. If a call that takes the lock once is refused, it has changed nothing.
+/// which is read before the lock is taken, and the last call's, and the next step. In a cache that `new` creates, where nothing expires,
+/// only `run_pending_tasks` and each 64th call read one, and the others come at the last call's. Whenever the lock is taken, what it guards
+/// keeps what a lent cache keeps between calls. If a call that takes the lock once is refused, it has changed nothing.
 ///
 /// **Clones, comparisons and hashes of keys and values run under the lock, and so do the rules (`Expiry`, `Weigher`, `Predicate`) and the
 /// environment's generator. None of them may call the cache, or it waits for itself forever.**
@@ -85,12 +89,14 @@ impl<
         alloc: Global,
         state: LentState<K, V, S, R, C>,
         env: E,
+        is_timed: bool,
     ) -> Result<Self, AllocError>
+        ensures spread { IfOk result (λ cache. (arc_value cache.inner).spread ≡ None) }
         ensures name { IfOk result (λ cache.
             option_map string_bytes (arc_value cache.inner).name ≡ state.name) }
         ensures policy { IfOk result (λ cache. ShowsPolicy state (arc_value cache.inner).policy) }
     {
-        let made = Inner::one(alloc, state, env)?;
+        let made = Inner::one(alloc, state, env, is_timed)?;
         let inner = Arc::new(alloc, made)?;
         Ok(SharedCache { inner, alloc })
     }
@@ -143,6 +149,9 @@ impl<
     /// `Shared<X>`.
     pub fn get(&self, rt: &impl Wait, key: &K) -> Result<Option<V>, CacheError>
         requires exact { (x y : V) → V.is_clone x y → y ≡ x }
+        ensures did { DoneUnderLock (desk_number (⟦<S as Hashes<K>>⟧.hash)
+            (arc_value self.now.inner).spread key.now)
+            (DidGet ⟦<R as HasWays<K, V, S>>⟧.ways key.now result) }
         ensures cause { IfErr result IsShortage }
     {
         let mut guard = self.inner.lock_of(rt, key);
@@ -152,7 +161,11 @@ impl<
 
     /// Returns whether a key has a visible value: one that is neither expired nor invalidated. The call does not count as a use, and never
     /// fails.
-    pub fn contains_key(&self, rt: &impl Wait, key: &K) -> bool {
+    pub fn contains_key(&self, rt: &impl Wait, key: &K) -> bool
+        ensures { DoneUnderLock (desk_number (⟦<S as Hashes<K>>⟧.hash)
+            (arc_value self.now.inner).spread key.now)
+            (DidSee ⟦<R as HasWays<K, V, S>>⟧.ways key.now result) }
+    {
         let mut guard = self.inner.lock_of(rt, key);
         let desk = &mut *guard;
         desk.contains_key(key)
@@ -162,6 +175,9 @@ impl<
     /// decides which values stay. A cache of capacity 0 stores nothing and returns `Ok`. Returns `OutOfMemory` if there is not enough
     /// memory, and `UsedUp` if 2^64 - 1 calls have been made or the 64-bit numbers of writes are used up.
     pub fn insert(&self, rt: &impl Wait, key: K, value: V) -> Result<(), CacheError>
+        ensures did { DoneUnderLock (desk_number (⟦<S as Hashes<K>>⟧.hash)
+            (arc_value self.now.inner).spread key)
+            (DidInsert ⟦<R as HasWays<K, V, S>>⟧.ways key value result) }
         ensures cause { IfErr result IsShortage }
     {
         let mut guard = self.inner.lock_of(rt, &key);
@@ -174,6 +190,9 @@ impl<
     /// writes are used up. Which values can be proved is said at `get`.
     pub fn remove(&self, rt: &impl Wait, key: &K) -> Result<Option<V>, CacheError>
         requires exact { (x y : V) → V.is_clone x y → y ≡ x }
+        ensures did { DoneUnderLock (desk_number (⟦<S as Hashes<K>>⟧.hash)
+            (arc_value self.now.inner).spread key.now)
+            (DidRemove ⟦<R as HasWays<K, V, S>>⟧.ways key.now result) }
         ensures cause { IfErr result IsShortage }
     {
         let mut guard = self.inner.lock_of(rt, key);
@@ -184,6 +203,9 @@ impl<
     /// Removes a key like `remove`, with the same errors, without returning its value. Which values can be proved is said at `get`.
     pub fn invalidate(&self, rt: &impl Wait, key: &K) -> Result<(), CacheError>
         requires exact { (x y : V) → V.is_clone x y → y ≡ x }
+        ensures did { DoneUnderLock (desk_number (⟦<S as Hashes<K>>⟧.hash)
+            (arc_value self.now.inner).spread key.now)
+            (DidInvalidate ⟦<R as HasWays<K, V, S>>⟧.ways key.now result) }
         ensures cause { IfErr result IsShortage }
     {
         let mut guard = self.inner.lock_of(rt, key);
@@ -195,10 +217,14 @@ impl<
     /// allocates nothing. Returns `UsedUp` if 2^64 - 1 calls have been made. With shards, a value that is written during the call may be
     /// covered or not, and the shards before the one that refused are cleared.
     pub fn invalidate_all(&self, rt: &impl Wait) -> Result<(), CacheError>
+        ensures clears { OnOk result (DoneUnderEach
+            (desk_count (arc_value self.now.inner).spread)
+            (DidClear {K = K} {V = V} {P = R.Predicate} {S = S} {R = R})) }
         ensures cause { IfErr result (λ e. e ≡ errors.UsedUp) }
     {
-        for desk in self.inner.desks.iter() {
-            let mut guard = desk.lock(rt);
+        let inner = &*self.inner;
+        for number in 0..inner.desks.len() {
+            let mut guard = inner.get(number).lock(rt);
             let desk = &mut *guard;
             desk.invalidate_all()?;
         }
@@ -210,10 +236,13 @@ impl<
     /// when it is due: at 64 reads or writes of a segment, or 300 milliseconds after its last run. (No run is cut short, as one of `moka`
     /// may be.)
     pub fn run_pending_tasks(&self, rt: &impl Wait) -> Result<(), CacheError>
+        ensures runs { OnOk result (DoneUnderEach
+            (desk_count (arc_value self.now.inner).spread) (DidRun {S = S} R.answers)) }
         ensures cause { IfErr result (λ e. e ≡ errors.UsedUp) }
     {
-        for desk in self.inner.desks.iter() {
-            let mut guard = desk.lock(rt);
+        let inner = &*self.inner;
+        for number in 0..inner.desks.len() {
+            let mut guard = inner.get(number).lock_now(rt);
             let desk = &mut *guard;
             desk.run_pending_tasks()?;
         }

@@ -1,8 +1,10 @@
 //! A predicate in all shards or in none, under the locks of all.
 ghost use Rattle.std.specs.Prelude.{◌≡◌, ◌<◌, ◌≤◌, ℕ, [], Some, IfErr, IfOk, OnErr, OnOk, length, slice_get, slice_set, vec_capacity};
+ghost use Rattle.std.specs.Sync.Mutex.{mutex_guard_value};
 ghost use Rattle.front_parts.specs.Wholes.Covering.{AreOnly};
 ghost use Rattle.front_parts.specs.Wholes.Firsts.{changed_first};
-ghost use Rattle.moka_sync.specs.Covering.{Commits, CommitsFirst, CoversShards, Guarded, IsCauseToCoverShards, IsPrepared, MayCover, MayCoverEach, MayRefuse, prepared, released};
+ghost use Rattle.moka_sync.specs.Covering.{Commits, CommitsFirst, CoversShards, IsCauseToCoverShards, IsPrepared, MayCover, MayCoverEach, MayRefuse, each_of, prepared, released};
+ghost use Rattle.moka_sync.specs.Holding.{Guarded};
 ghost use Rattle.front_state.specs.Sharding.{FirstHasRoom};
 
 use engine_reference::Rules;
@@ -16,8 +18,8 @@ use std::marker::Model;
 use std::sync::MutexGuard;
 use sync_desk::Desk;
 
-/// All shards of a cache, whose locks are held. Contracts see the state, the last writes and the moment of each, in the order of
-/// the shards.
+/// All shards of a cache, whose locks are held. Contracts see of each all but its generator and who waits, in the
+/// order of the shards.
 #[derive(Drop)]
 pub struct AllDesks<'a, K: Eq + Hash, V, S: BuildHasher, R: Rules<K, V>, G> {
     guards: Vec<MutexGuard<'a, Desk<K, V, S, R, G, Sharded>>>,
@@ -26,11 +28,13 @@ pub struct AllDesks<'a, K: Eq + Hash, V, S: BuildHasher, R: Rules<K, V>, G> {
 impl<'a, K: Eq + Hash, V, S: BuildHasher, R: Rules<K, V>, G> Model for AllDesks<'a, K, V, S, R, G> {
     ghost use Rattle.std.specs.Prelude.{List};
     ghost use Rattle.std.specs.Sync.Mutex.{mutex_guard_value};
-    ghost use Rattle.moka_sync.specs.Covering.{Guarded, each_of};
+    ghost use Rattle.moka_sync.specs.Covering.{each_of};
+    ghost use Rattle.moka_sync.specs.Holding.{Guarded};
 
     ghost Value = { List (Guarded K V R.Predicate S R) };
 
     ghost view = { λ c. each_of c.guards.items (λ g. record {
+      number = (mutex_guard_value g).number;
       state = (mutex_guard_value g).state;
       writes = (mutex_guard_value g).writes.steps;
       moment = (mutex_guard_value g).moment;
@@ -46,7 +50,14 @@ impl<
     G: Rng + Drop,
 > AllDesks<'a, K, V, S, R, G> {
     /// The locks that are held, in the order of the shards.
-    pub(crate) fn new(guards: Vec<MutexGuard<'a, Desk<K, V, S, R, G, Sharded>>>) -> Self {
+    pub(crate) fn new(guards: Vec<MutexGuard<'a, Desk<K, V, S, R, G, Sharded>>>) -> Self
+        ensures { result ≡ each_of guards.entry.items (λ g. record {
+          number = (mutex_guard_value g).number;
+          state = (mutex_guard_value g).state;
+          writes = (mutex_guard_value g).writes.steps;
+          moment = (mutex_guard_value g).moment;
+        }) }
+    {
         AllDesks { guards }
     }
 

@@ -1,10 +1,12 @@
 //! What the handles of a cache share: desks, each under a lock of its own, and the properties of the cache that never change.
 ghost use Rattle.std.specs.Prelude.{◌≡◌, ◌+◌, ◌<◌, ◌≤◌, ◌^◌, None, Some, true, length, suc, IfErr, IfOk, OnOk, option_map, slice_get, vec_len};
 ghost use Rattle.std.specs.String.{string_bytes};
+ghost use Rattle.std.specs.Sync.Mutex.{mutex_guard_value};
 ghost use Rattle.crossbeam_utils.specs.Padded.{padded_value};
 ghost use Rattle.front_reference.specs.declared.errors.CacheError.TheVariants as errors;
 ghost use Rattle.front_state.specs.Reading.{ShowsPolicy};
-ghost use Rattle.moka_sync.specs.Spreading.{SpreadsBy, desk_count, desk_number};
+ghost use Rattle.moka_sync.specs.Holding.{BearTheirPlaces};
+ghost use Rattle.moka_sync.specs.Spreading.{desk_count, desk_number};
 
 use crate::shared::SharedDesk;
 use crate::spreading::Spread;
@@ -29,6 +31,7 @@ pub(crate) struct Inner<K: Eq + Hash, V, S: BuildHasher, R: Rules<K, V>, E: Env,
     pub(crate) name: Option<String>,
     pub(crate) policy: Policy,
     ghost counted: { vec_len desks ≡ desk_count spread },
+    ghost numbered: { BearTheirPlaces desks.items (λ d. (padded_value d).number) },
 }
 
 /// A copy of a cache's name.
@@ -42,7 +45,7 @@ fn copy_name(alloc: Global, name: Option<&str>) -> Result<Option<String>, AllocE
     }
 }
 
-/// Adds a padded desk for a shard, with an environment of its own.
+/// Adds a padded desk for a shard, with an environment of its own. The desk's number is its place.
 fn add_desk<
     K: Eq + Hash + Drop,
     V: Clone + Drop,
@@ -53,12 +56,17 @@ fn add_desk<
     alloc: Global,
     state: LentState<K, V, S, R, Sharded>,
     env: &mut E,
+    is_timed: bool,
     desks: &mut Vec<CachePadded<SharedDesk<K, V, S, R, E, Sharded>>>,
 ) -> Result<(), AllocError>
-    ensures { OnOk result (vec_len desks.new ≡ suc (vec_len desks.old)) }
+    requires { BearTheirPlaces desks.old.items (λ d. (padded_value d).number) }
+    ensures count { OnOk result (vec_len desks.new ≡ suc (vec_len desks.old)) }
+    ensures numbered { OnOk result
+        (BearTheirPlaces desks.new.items (λ d. (padded_value d).number)) }
 {
     let own = env.fork()?;
-    desks.push(CachePadded::new(SharedDesk::new(alloc, state, own)))?;
+    let desk = SharedDesk::numbered(alloc, state, own, is_timed, desks.len());
+    desks.push(CachePadded::new(desk))?;
     Ok(())
 }
 
@@ -73,13 +81,16 @@ fn desks_of<
     alloc: Global,
     states: Vec<LentState<K, V, S, R, Sharded>>,
     env: E,
+    is_timed: bool,
 ) -> Result<Vec<CachePadded<SharedDesk<K, V, S, R, E, Sharded>>>, AllocError>
-    ensures { IfOk result (λ desks. vec_len desks ≡ length states.items) }
+    ensures count { IfOk result (λ desks. vec_len desks ≡ length states.items) }
+    ensures numbered { IfOk result
+        (λ desks. BearTheirPlaces desks.items (λ d. (padded_value d).number)) }
 {
     let mut env = env;
     let mut desks = Vec::with_capacity(alloc, states.len())?;
     for state in states {
-        add_desk(alloc, state, &mut env, &mut desks)?;
+        add_desk(alloc, state, &mut env, is_timed, &mut desks)?;
     }
     Ok(desks)
 }
@@ -95,22 +106,21 @@ impl<
     pub(crate) fn of_shards(
         alloc: Global,
         states: Vec<LentState<K, V, S, R, Sharded>>,
-        bits: u32,
-        hasher: Shared<S>,
+        spread: Spread<S>,
         env: E,
+        is_timed: bool,
         name: Option<String>,
         policy: Policy,
     ) -> Result<Self, AllocError>
-        requires few { bits ≤ 16 }
-        requires counted { length states.items ≡ 2 ^ bits }
-        ensures spread { IfOk result (λ made. SpreadsBy bits hasher made.spread) }
+        requires counted { length states.items ≡ 2 ^ spread.bits }
+        ensures spread { IfOk result (λ made. made.spread ≡ Some spread) }
         ensures name { IfOk result (λ made. made.name ≡ name) }
         ensures policy { IfOk result (λ made. made.policy ≡ policy) }
     {
-        let desks = desks_of(alloc, states, env)?;
+        let desks = desks_of(alloc, states, env, is_timed)?;
         Ok(Inner {
             desks,
-            spread: Some(Spread { bits, hasher }),
+            spread: Some(spread),
             next_asked: AtomicUsize::new(0),
             name,
             policy,
@@ -131,6 +141,7 @@ impl<
         alloc: Global,
         state: LentState<K, V, S, R, C>,
         env: E,
+        is_timed: bool,
     ) -> Result<Self, AllocError>
         ensures spread { IfOk result (λ made. made.spread ≡ None) }
         ensures name { IfOk result (λ made. option_map string_bytes made.name ≡ state.name) }
@@ -139,7 +150,8 @@ impl<
         let name = copy_name(alloc, state.name())?;
         let policy = state.policy();
         let mut desks = Vec::with_capacity(alloc, 1)?;
-        desks.push(CachePadded::new(SharedDesk::new(alloc, state, env)))?;
+        let desk = SharedDesk::numbered(alloc, state, env, is_timed, 0);
+        desks.push(CachePadded::new(desk))?;
         Ok(Inner {
             desks,
             spread: None,
@@ -163,9 +175,11 @@ impl<
 
     /// The desk of the key that a name names.
     pub(crate) fn of_name<Q: HashedName<K>>(&self, name: &Q) -> &SharedDesk<K, V, S, R, E, C>
-        ensures { option_map padded_value (slice_get self.now.desks.items
+        ensures desk { option_map padded_value (slice_get self.now.desks.items
             (desk_number (⟦<S as Hashes<K>>⟧.hash) self.now.spread (Q.named_key name.now)))
             ≡ Some result.now }
+        ensures number { result.now.number
+            ≡ desk_number (⟦<S as Hashes<K>>⟧.hash) self.now.spread (Q.named_key name.now) }
     {
         self.get(self.number_of_name(name))
     }
@@ -181,8 +195,10 @@ impl<
 
     /// The desk of a key.
     pub(crate) fn of(&self, key: &K) -> &SharedDesk<K, V, S, R, E, C>
-        ensures { option_map padded_value (slice_get self.now.desks.items
+        ensures desk { option_map padded_value (slice_get self.now.desks.items
             (desk_number (⟦<S as Hashes<K>>⟧.hash) self.now.spread key.now)) ≡ Some result.now }
+        ensures number { result.now.number
+            ≡ desk_number (⟦<S as Hashes<K>>⟧.hash) self.now.spread key.now }
     {
         self.of_name(&LentKey { key })
     }
@@ -192,7 +208,10 @@ impl<
         &self,
         rt: &H,
         name: &Q,
-    ) -> MutexGuard<'_, Desk<K, V, S, R, E::Generator, C>> {
+    ) -> MutexGuard<'_, Desk<K, V, S, R, E::Generator, C>>
+        ensures { (mutex_guard_value result).number
+            ≡ desk_number (⟦<S as Hashes<K>>⟧.hash) self.now.spread (Q.named_key name.now) }
+    {
         self.of_name(name).lock(rt)
     }
 
@@ -201,20 +220,26 @@ impl<
         &self,
         rt: &H,
         key: &K,
-    ) -> MutexGuard<'_, Desk<K, V, S, R, E::Generator, C>> {
+    ) -> MutexGuard<'_, Desk<K, V, S, R, E::Generator, C>>
+        ensures { (mutex_guard_value result).number
+            ≡ desk_number (⟦<S as Hashes<K>>⟧.hash) self.now.spread key.now }
+    {
         self.of(key).lock(rt)
     }
 
     /// The first desk, and the only one unless there are shards.
-    pub(crate) fn first(&self) -> &SharedDesk<K, V, S, R, E, C> {
-        &*self.desks[0]
+    pub(crate) fn first(&self) -> &SharedDesk<K, V, S, R, E, C>
+        ensures { result.now.number ≡ 0 }
+    {
+        self.get(0)
     }
 
     /// A desk by its number.
     pub(crate) fn get(&self, number: usize) -> &SharedDesk<K, V, S, R, E, C>
         requires { number < vec_len self.now.desks }
-        ensures { option_map padded_value (slice_get self.now.desks.items number)
+        ensures desk { option_map padded_value (slice_get self.now.desks.items number)
             ≡ Some result.now }
+        ensures number { result.now.number ≡ number }
     {
         &*self.desks[number]
     }

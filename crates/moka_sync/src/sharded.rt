@@ -2,11 +2,13 @@
 ghost use Rattle.std.specs.Prelude.{◌≡◌, ◌⊎◌, ◌<◌, ◌≤◌, ◌^◌, ℕ, None, Some, true, IfErr, IfOk, OnOk, length, option_map};
 ghost use Rattle.std.specs.Arc.{arc_value};
 ghost use Rattle.std.specs.String.{string_bytes};
-ghost use Rattle.moka.specs.Building.{blank, segments_fault};
+ghost use Rattle.moka.specs.Building.{blank, fault_of, segments_fault};
 ghost use Rattle.moka.specs.declared.errors.BuildError.TheVariants.{OutOfMemory};
+ghost use Rattle.moka_sync.specs.Covering.{CoversShards};
+ghost use Rattle.moka_sync.specs.Holding.{BearTheirPlaces, DoneUnderAll};
 ghost use Rattle.moka_sync.specs.Showing.{ShowsPlan, ShowsShard, ShowsShards};
 ghost use Rattle.moka_sync.specs.Sizing.{IsShardCount};
-ghost use Rattle.moka_sync.specs.Spreading.{desk_number};
+ghost use Rattle.moka_sync.specs.Spreading.{SpreadsBy, desk_count, desk_number};
 ghost use Rattle.sync_desk.specs.Slots.Refusals.{IsCoverRefusal};
 
 use crate::building::Build;
@@ -14,6 +16,7 @@ use crate::cache::SharedCache;
 use crate::covering::AllDesks;
 use crate::inner::Inner;
 use crate::sizing::shards_for;
+use crate::spreading::Spread;
 use engine_reference::{Bundle, Expiry, Hashes, Policy, Predicate, Rules, Weigher};
 use front_reference::{CacheError, Shared};
 use front_state::{LentState, Sharded};
@@ -58,12 +61,19 @@ impl<
     E: Fork + Drop,
 > SharedCache<K, V, S, R, E, Sharded> {
     /// Makes shards shared, each with an environment of its own.
-    fn over_shards(alloc: Global, shards: Shards<K, V, S, R>, env: E) -> Result<Self, AllocError>
+    fn over_shards(
+        alloc: Global,
+        shards: Shards<K, V, S, R>,
+        env: E,
+        is_timed: bool,
+    ) -> Result<Self, AllocError>
         requires few { shards.bits ≤ 16 }
         requires counted { length shards.states.items ≡ 2 ^ shards.bits }
         ensures name { IfOk result (λ cache. (arc_value cache.inner).name ≡ shards.name) }
         ensures policy { IfOk result (λ cache.
             ShowsShards shards.capacity shards.states.items (arc_value cache.inner).policy) }
+        ensures hasher { IfOk result
+            (λ cache. SpreadsBy shards.hasher (arc_value cache.inner).spread) }
     {
         let Shards {
             states,
@@ -73,9 +83,44 @@ impl<
             capacity,
         } = shards;
         let policy = policy_of(&states[0], states.len(), capacity);
-        let made = Inner::of_shards(alloc, states, bits, hasher, env, name, policy)?;
+        let spread = Spread { bits, hasher };
+        let made = Inner::of_shards(alloc, states, spread, env, is_timed, name, policy)?;
         let inner = Arc::new(alloc, made)?;
         Ok(SharedCache { inner, alloc })
+    }
+}
+
+/// Builds a cache of several shards. Unless it is timed, none of its values may expire.
+fn build_in_shards<
+    K: Eq + Hash + Drop,
+    V: Clone + Drop,
+    X: Expiry<K, V> + Drop,
+    W: Weigher<K, V> + Drop,
+    P: Predicate<K, V>,
+    F: Drop,
+    S: BuildHasher + Drop,
+    E: Fork + Drop,
+>(
+    builder: CacheBuilder<X, W, P, F, Sharded>,
+    alloc: Global,
+    hasher: S,
+    env: E,
+    is_timed: bool,
+) -> Result<SharedCache<K, V, S, Bundle<X, W, P, F>, E, Sharded>, BuildError>
+    ensures shows { IfOk result (λ cache. ShowsPlan builder.plan
+        (option_map string_bytes (arc_value cache.inner).name) (arc_value cache.inner).policy) }
+    ensures hasher { IfOk result (λ cache. SpreadsBy hasher (arc_value cache.inner).spread) }
+    ensures sound { OnOk result (fault_of builder.plan ≡ None) }
+    ensures cause { IfErr result (λ e. (fault_of builder.plan ≡ Some e)
+        ⊎ ((e ≡ OutOfMemory) × (fault_of builder.plan ≡ None))) }
+{
+    let moment = env.now();
+    match builder.build_shards(alloc, hasher, moment) {
+        Ok(shards) => match SharedCache::over_shards(alloc, shards, env, is_timed) {
+            Ok(cache) => Ok(cache),
+            Err(_) => Err(BuildError::OutOfMemory),
+        },
+        Err(fault) => Err(fault),
     }
 }
 
@@ -113,14 +158,7 @@ impl<
         hasher: S,
         env: E,
     ) -> Result<SharedCache<K, V, S, Bundle<X, W, P, F>, E, Sharded>, BuildError> {
-        let moment = env.now();
-        match self.build_shards(alloc, hasher, moment) {
-            Ok(shards) => match SharedCache::over_shards(alloc, shards, env) {
-                Ok(cache) => Ok(cache),
-                Err(_) => Err(BuildError::OutOfMemory),
-            },
-            Err(fault) => Err(fault),
-        }
+        build_in_shards(self, alloc, hasher, env, true)
     }
 }
 
@@ -154,9 +192,8 @@ impl<K: Eq + Hash + Drop, V: Clone + Drop, E: Fork + Drop> SharedCache<
         ensures cause { IfErr result (λ e. (segments_fault shards ≡ Some e)
             ⊎ ((e ≡ OutOfMemory) × (segments_fault shards ≡ None))) }
     {
-        CacheBuilder::new(max_capacity)
-            .shards(shards)
-            .build(alloc, env)
+        let builder = CacheBuilder::new(max_capacity).shards(shards);
+        build_in_shards(builder, alloc, StdHasher::new(), env, false)
     }
 
     /// Creates a cache that holds at most this many entries, with nothing else set, in as many shards as suit the cores that this process
@@ -219,7 +256,11 @@ impl<
     fn lock_all<'a, H: Wait>(
         &'a self,
         rt: &H,
-    ) -> Result<AllDesks<'a, K, V, S, R, E::Generator>, AllocError> {
+    ) -> Result<AllDesks<'a, K, V, S, R, E::Generator>, AllocError>
+        ensures many { IfOk result
+            (λ all. length all ≡ desk_count (arc_value self.now.inner).spread) }
+        ensures numbered { IfOk result (λ all. BearTheirPlaces all (λ d. d.number)) }
+    {
         let inner: &'a Inner<K, V, S, R, E, Sharded> = &*self.inner;
         let count = inner.desks.len();
         let moment = inner.first().moment();
@@ -242,6 +283,9 @@ impl<
         rt: &impl Wait,
         predicate: R::Predicate,
     ) -> Result<(), CacheError>
+        ensures did { OnOk result (DoneUnderAll
+            (desk_count (arc_value self.now.inner).spread)
+            (CoversShards {K = K} {V = V} {S = S} {R = R} predicate)) }
         ensures cause { IfErr result IsCoverRefusal }
     {
         let alloc = self.alloc;

@@ -1,6 +1,7 @@
 //! Calls on all segments: predicates, notices, maintenance by another name.
-ghost use Rattle.std.specs.Prelude.{◌≡◌, IfErr};
+ghost use Rattle.std.specs.Prelude.{◌≡◌, ℕ, Some, IfErr, IfSome};
 ghost use Rattle.front_reference.specs.declared.errors.CacheError.TheVariants as errors;
+ghost use Rattle.moka_sync.specs.Holding.{DidCover, DoneUnderLock, DidTell};
 ghost use Rattle.sync_desk.specs.Slots.Refusals.{IsCoverRefusal};
 
 use crate::cache::SharedCache;
@@ -52,6 +53,8 @@ impl<
         rt: &impl Wait,
         predicate: R::Predicate,
     ) -> Result<PredicateId, CacheError>
+        ensures did { DoneUnderLock 0
+            (DidCover {K = K} {V = V} {S = S} {R = R} predicate result) }
         ensures cause { IfErr result IsCoverRefusal }
     {
         let mut guard = self.inner.first().lock(rt);
@@ -79,6 +82,8 @@ impl<
         rt: &impl Wait,
         predicate: R::Predicate,
     ) -> Result<(), CacheError>
+        ensures did { DoneUnderLock 0
+            (DidCover {K = K} {V = V} {S = S} {R = R} predicate result) }
         ensures cause { IfErr result IsCoverRefusal }
     {
         let mut guard = self.inner.first().lock(rt);
@@ -120,19 +125,21 @@ impl<
     ///     log(&notice.key, notice.cause);
     /// }
     /// ```
-    pub fn next_notice(&self, rt: &impl Wait) -> Option<Notice<Shared<K>, V>> {
+    pub fn next_notice(&self, rt: &impl Wait) -> Option<Notice<Shared<K>, V>>
+        ensures { IfSome result (λ notice. (number : ℕ) × DoneUnderLock number
+            (DidTell {P = R.Predicate} {S = S} {R = R} (Some notice))) }
+    {
         let inner = &*self.inner;
         let count = inner.desks.len();
         let first = inner.ask_next();
         for step in 0..count {
             let number = first.wrapping_add(step) % count;
-            let mut guard = inner.desks[number].lock_untimed(rt);
+            let mut guard = inner.get(number).lock_untimed(rt);
             let desk = &mut *guard;
-            let notice = desk.next_notice();
-            drop(guard);
-            if notice.is_some() {
+            if let Some(notice) = desk.next_notice() {
+                drop(guard);
                 inner.next_asked.store(number, Ordering::SeqCst);
-                return notice;
+                return Some(notice);
             }
         }
         None

@@ -1,6 +1,6 @@
 //! What the lock guards.
 ghost use Rattle.std.specs.HashMap.{IsEmpty};
-ghost use Rattle.std.specs.Prelude.{◌≡◌, ◌<◌, None, IfSome, max, replicate};
+ghost use Rattle.std.specs.Prelude.{◌≡◌, ◌<◌, ◌%◌, ◌==◌, None, IfSome, max, replicate};
 ghost use Rattle.front_reference.specs.Fronts.{ComesAfter};
 ghost use Rattle.front_reference.specs.Wholes.{total_number, total_weight};
 ghost use Rattle.front_state.specs.Calls.{hash_in};
@@ -20,14 +20,15 @@ use std::hash::{BuildHasher, Hash};
 
 /// A cache's state with its generator, and the turns that are led or waited for. Each call has its moment, the later of the moment that was
 /// handed in last (`at`) and the state's, and its step, the one after the state's. Only `at` changes the moment that was handed in, and only
-/// a call with a predicate draws from the generator.
+/// a call with a predicate draws from the generator. The number never changes; by it a caller sees which desk a lock guards.
 #[derive(Drop)]
 pub struct Desk<K: Eq + Hash, V, S: BuildHasher, R: Rules<K, V>, G, C = Single> {
     pub(crate) alloc: Global,
+    pub(crate) number: usize,
+    pub(crate) moment: Instant,
     pub(crate) state: LentState<K, V, S, R, C>,
     pub(crate) slots: Slots<V, Shared<R::Fault>>,
     pub(crate) writes: Writes,
-    pub(crate) moment: Instant,
     pub(crate) generator: G,
 }
 
@@ -39,8 +40,10 @@ impl<
     G: Rng + Drop,
     C: Drop,
 > Desk<K, V, S, R, G, C> {
-    /// Creates what a lock guards, of a state with no turn under way and the generator that gives its random words. Its moment is 0.
+    /// Creates what a lock guards, of a state with no turn under way and the generator that gives its random words. Its number and its
+    /// moment are 0.
     pub fn new(alloc: Global, state: LentState<K, V, S, R, C>, generator: G) -> Self
+        ensures number { result.number ≡ 0 }
         ensures state { result.state ≡ state }
         ensures slots { IsEmpty result.slots.slots }
         ensures writes { result.writes.steps ≡ replicate 64 0 }
@@ -49,12 +52,37 @@ impl<
     {
         Desk {
             alloc,
+            number: 0,
+            moment: Instant::from_nanos(0),
             state,
             slots: Slots::new(alloc),
             writes: Writes::new(),
-            moment: Instant::from_nanos(0),
             generator,
         }
+    }
+
+    /// Gives the desk another number.
+    pub fn numbered(self, number: usize) -> Self
+        ensures { result ≡ record self { number = number } }
+    {
+        let mut desk = self;
+        desk.number = number;
+        desk
+    }
+
+    /// Returns the desk's number.
+    pub fn number(&self) -> usize
+        ensures { result ≡ self.now.number }
+    {
+        self.number
+    }
+
+    /// Returns whether the step of the next call is a multiple of 64.
+    pub fn is_at_64th_step(&self) -> bool
+        ensures { result ≡ self.now.state.step % 64 == 63 }
+    {
+        let At { step, .. } = self.state.last_call();
+        step % 64 == 63
     }
 
     /// Hands in the moment of the calls that come next. A moment before the state's last counts as the last.

@@ -31,6 +31,8 @@ mod calls;
 #[cfg(test)]
 mod choosing;
 #[cfg(test)]
+mod clock;
+#[cfg(test)]
 mod covering;
 #[cfg(test)]
 mod crowds;

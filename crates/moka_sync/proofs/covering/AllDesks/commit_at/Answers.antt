@@ -24,4 +24,4 @@ returns g c =
     let old = mutex_guard_with_value guard c.deref_mut-desk.result.now in
     let new = mutex_guard_with_value guard c.commit_cover.new.self in
     let alike : old ≡ guard = ap (λ desk. mutex_guard_with_value guard desk) c.deref_mut-desk.ensures.value in
-    at_committed _ c.self.inside.guards.items c.args.self.now c.args.number guard old new c.self.view_is c.index_mut.ensures.value alike c.args.predicate c.args.id c.commit_cover.ensures.commits (ap (λ desk. desk.writes.steps) c.commit_cover.ensures.rest) (ap (λ desk. desk.moment) c.commit_cover.ensures.rest)
+    at_committed _ c.self.inside.guards.items c.args.self.now c.args.number guard old new c.self.view_is c.index_mut.ensures.value alike c.args.predicate c.args.id c.commit_cover.ensures.commits (ap (λ desk. record { number = desk.number; state = desk.state; writes = desk.writes.steps; moment = desk.moment }) c.commit_cover.ensures.rest)

@@ -9,7 +9,7 @@ returns-clause-ok g c =
     let old = mutex_guard_with_value guard c.deref_mut-desk.result.now in
     let new = mutex_guard_with_value guard c.prepare_cover.new.self in
     let alike : old ≡ guard = ap (λ desk. mutex_guard_with_value guard desk) c.deref_mut-desk.ensures.value in
-    at_prepared _ c.self.inside.guards.items c.args.self.now c.args.number guard old new c.self.view_is c.index_mut.ensures.value alike _ _ c.prepare_cover.result c.prepare_cover.ensures.prepares (ap (λ desk. desk.writes.steps) c.prepare_cover.ensures.rest) (ap (λ desk. desk.moment) c.prepare_cover.ensures.rest)
+    at_prepared _ c.self.inside.guards.items c.args.self.now c.args.number guard old new c.self.view_is c.index_mut.ensures.value alike _ _ c.prepare_cover.result c.prepare_cover.ensures.prepares (ap (λ desk. record { number = desk.number; state = desk.state; writes = desk.writes.steps; moment = desk.moment }) c.prepare_cover.ensures.rest)
 
 pub returns-clause-may : goal.returns-clause-may
 returns-clause-may g c =
@@ -24,7 +24,7 @@ returns-clause-err g c =
     let old = mutex_guard_with_value guard c.deref_mut-desk.result.now in
     let new = mutex_guard_with_value guard c.prepare_cover.new.self in
     let alike : old ≡ guard = ap (λ desk. mutex_guard_with_value guard desk) c.deref_mut-desk.ensures.value in
-    at_refused _ c.self.inside.guards.items c.args.self.now c.args.number guard old new c.self.view_is c.index_mut.ensures.value alike c.prepare_cover.result c.requires c.prepare_cover.ensures.err (ap (λ desk. desk.writes.steps) c.prepare_cover.ensures.rest) (ap (λ desk. desk.moment) c.prepare_cover.ensures.rest)
+    at_refused _ c.self.inside.guards.items c.args.self.now c.args.number guard old new c.self.view_is c.index_mut.ensures.value alike c.prepare_cover.result c.requires c.prepare_cover.ensures.err (ap (λ desk. record { number = desk.number; state = desk.state; writes = desk.writes.steps; moment = desk.moment }) c.prepare_cover.ensures.rest)
 
 pub returns-clause-cause : goal.returns-clause-cause
 returns-clause-cause g c =

@@ -17,4 +17,4 @@ returns g c =
     let old = mutex_guard_with_value guard c.deref_mut-desk.result.now in
     let new = mutex_guard_with_value guard c.release_cover.new.self in
     let alike : old ≡ guard = ap (λ desk. mutex_guard_with_value guard desk) c.deref_mut-desk.ensures.value in
-    at_released _ c.self.inside.guards.items c.args.self.now c.args.number guard old new c.self.view_is c.index_mut.ensures.value alike c.release_cover.ensures.state (ap (λ desk. desk.writes.steps) c.release_cover.ensures.rest) (ap (λ desk. desk.moment) c.release_cover.ensures.rest)
+    at_released _ c.self.inside.guards.items c.args.self.now c.args.number guard old new c.self.view_is c.index_mut.ensures.value alike c.release_cover.ensures.state (ap (λ desk. record { number = desk.number; state = desk.state; writes = desk.writes.steps; moment = desk.moment }) c.release_cover.ensures.rest)

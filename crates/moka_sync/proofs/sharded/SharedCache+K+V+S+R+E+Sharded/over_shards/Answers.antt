@@ -1,4 +1,4 @@
-use Rattle.std.proofs.Common.{◌≡◌, ◌∙◌, ap, arith, option_map, refl}
+use Rattle.std.proofs.Common.{◌≡◌, ◌∙◌, ap, arith, option_map}
 use Rattle.std.specs.Arc.{arc_value}
 use Rattle.std.specs.Duration.{as_nanos}
 use Rattle.engine_reference.specs.declared.rules.settings.Policy.{Policy}

@@ -1,0 +1,13 @@
+use Rattle.std.proofs.Common.{ap}
+use Rattle.moka_sync.proofs.cache.SharedCache.get.Goals as goal
+
+pub returns-clause-did : goal.returns-clause-did
+returns-clause-did g c =
+    let d = c.deref_mut-desk.result.now in
+    let e = c.get.new.self in
+    record {
+      old = record { number = d.number; state = d.state; writes = d.writes.steps; moment = d.moment };
+      new = record { number = e.number; state = e.state; writes = e.writes.steps; moment = e.moment };
+      numbered = let a = ap (λ desk. desk.number) c.deref_mut-desk.ensures.value in cc (a, c.lock_of-guard.ensures, c.deref.ensures);
+      fact = record { found = c.get.ensures.found; err = c.get.ensures.err; rest = ap (λ desk. record { number = desk.number; state = desk.state; writes = desk.writes.steps; moment = desk.moment }) c.get.ensures.rest };
+    }

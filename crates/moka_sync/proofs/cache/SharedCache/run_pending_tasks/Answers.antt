@@ -1,0 +1,27 @@
+use Rattle.std.proofs.Common.{◌≡◌, ◌∙◌, ap, arith, subst}
+use Rattle.moka_sync.proofs.Holding.{done-more}
+use Rattle.std.specs.Arc.{arc_value}
+use Rattle.moka_sync.specs.Holding.{DidRun, DoneUnderEach}
+use Rattle.moka_sync.specs.Spreading.{desk_count}
+use Rattle.moka_sync.proofs.cache.SharedCache.run_pending_tasks.Goals as goal
+
+pub loop-number-init : goal.loop-number-init
+loop-number-init g c = λ number low. absurd (omega arith)
+
+pub loop-number-preserved : goal.loop-number-preserved
+loop-number-preserved g c =
+    let d = c.deref_mut-desk.result.now in
+    let e = c.run_pending_tasks.new.self in
+    done-more c.loop-number.number (DidRun g.R.Rules.answers) c.loop-number.invariant (record {
+      old = record { number = d.number; state = d.state; writes = d.writes.steps; moment = d.moment };
+      new = record { number = e.number; state = e.state; writes = e.writes.steps; moment = e.moment };
+      numbered = ap (λ desk. desk.number) c.deref_mut-desk.ensures.value ∙ c.lock_now-guard.ensures ∙ c.get.ensures.number;
+      fact = record { runs = c.in_ok-run_pending_tasks.ensures.runs; rest = ap (λ desk. record { number = desk.number; state = desk.state; writes = desk.writes.steps; moment = desk.moment }) c.run_pending_tasks.ensures.rest };
+    })
+
+pub returns-clause-runs : goal.returns-clause-runs
+returns-clause-runs g c =
+    let inner = arc_value c.args.self.now.inner in
+    let all : c.loop-number.number ≡ c.len-number-end.result = omega (arith, c.loop-number-test.false, c.loop-number.auto.number-end) in
+    let many : c.len-number-end.result ≡ desk_count inner.spread = cc (c.len-number-end.ensures, c.deref-inner.ensures, inner.counted) in
+    subst (λ n. DoneUnderEach n (DidRun g.R.Rules.answers)) (all ∙ many) c.loop-number.invariant
