@@ -6,7 +6,7 @@ COMMAND starts the service, as in memcache_clients.py. Requests are those to whi
 counted up only from what has as many digits, since memcached keeps the length of a number that gets shorter, and are below 2^63, since
 above that memcached looks for a minus sign in the memory behind the item; a `ma` has no `T`, since memcached may give it to an item that
 it replaces; and what is appended to is not leased. Uniques are compared
-too: both give them one by one, but memcached also to a `flush_all`, which is left out. What else differs is a table in
+too: both give them one by one, but memcached also to a `flush_all`, which is left out. At the end both have to have counted the same. What else differs is a table in
 crates/memcache_model/README.md. It needs `memcached` on the path, uses loopback only, and ends by itself, with status 1 at the first
 difference.
 """
@@ -32,6 +32,16 @@ EXPIRIES = [b"0", b"0", b"0", b"1000", b"-1", b"+1500", b"2592000", b"2147483647
 PASSED = [b"-1", b"2147483648", b"4294967295", b"9223372036854775807"]
 # Flags that the command at hand has no use for.
 UNUSED = {b"mg": [b"F3", b"D3", b"J4", b"C5", b"MX", b"I", b"P1", b"L"], b"ms": [b"s", b"t", b"f", b"v", b"N1000", b"R7", b"D3", b"J4"], b"md": [b"s", b"v", b"N1000", b"R7", b"F3", b"MX"], b"ma": [b"s", b"f", b"R7", b"F3", b"I"]}
+
+# Statistics that both count alike. Of a look-up that makes an item memcached says that it found one.
+COUNTS = ["cmd_get", "cmd_set", "cmd_touch", "delete_hits", "delete_misses", "incr_hits", "incr_misses", "decr_hits", "decr_misses", "cas_hits", "cas_misses", "cas_badval", "touch_hits", "touch_misses"]
+
+
+def counted(client):
+    """What was counted, by name."""
+    lines = [line.split() for line in client.ask(b"stats\r\n").decode().splitlines() if line.startswith("STAT ")]
+    figures = {name: figure for _, name, figure in lines}
+    return {name: int(figures[name]) for name in COUNTS}
 
 
 def spiced(draw, verb, flags):
@@ -153,7 +163,11 @@ def main():
                 print(f"behind {done} requests:", several, "memcached:", said, "service:", told, sep="\n")
                 return 1
             done += len(several)
-        print(f"{done} requests, each reply the same")
+        said, told = counted(theirs), counted(ours)
+        if said != told:
+            print(f"behind {done} requests, by name what memcached and the service counted:", {name: (said[name], told[name]) for name in COUNTS if said[name] != told[name]}, sep="\n")
+            return 1
+        print(f"{done} requests, each reply and each count the same")
     return 0
 
 

@@ -15,7 +15,7 @@ use cached_config::ItemLimits;
 use cached_server::{Ending, Fault, Machine};
 use crossbeam_channel::Sender;
 use memcache_cache::{LentShelf, MemcacheLink};
-use memcache_service::{Service, Setup, Shelf, Tally};
+use memcache_service::{Service, Setup, Shelf};
 use moka::EvictionPolicy;
 use std::alloc::Global;
 use std::io::{Read, Write};
@@ -161,13 +161,13 @@ impl<T: Shelf, R: Clock + Drop> Steward for MemcacheSteward<T, R> {
     fn tally(&self, counts: &mut Counts) {
         let counters = self.service.counters();
         counts.found = Found {
-            hits: counters.get(Tally::GetHits),
-            misses: counters.get(Tally::GetMisses),
+            hits: counters.get_hits,
+            misses: counters.get_misses,
             replies: 0,
             errors: 0,
         };
-        counts.departures.expired = counters.get(Tally::Expired);
-        counts.departures.size = counters.get(Tally::Evictions);
+        counts.departures.expired = counters.expired;
+        counts.departures.size = counters.evictions;
     }
 }
 

@@ -28,11 +28,12 @@ use Rattle.front_reference.specs.Parts.{Inserts, TakesOut, takes_nothing}
 use Rattle.front_reference.specs.Wholes.{first_or, next_told, taken_or, without_told}
 use Rattle.memcache_cache.proofs.Parts.{Left, bare-seen, clears, inserts, looked, passes, takes_out}
 use Rattle.memcache_cache.specs.Rules.{item_answers}
+use Rattle.memcache_model.specs.declared.counters.Counters.{Counters}
 use Rattle.memcache_cache.specs.Showing.{AreTold, shelved_by}
 use Rattle.memcache_cache.specs.declared.rules.ItemRules.{ItemRules}
 use Rattle.std.specs.Str.{bytes_eq}
 use Rattle.memcache_model.specs.Items.{Item, Items, nothing, unexpired, with_item}
-use Rattle.memcache_service.specs.Shelves.{AreLeft, Becomes, OnlyLeave, Shelved, ShowsNothing}
+use Rattle.memcache_service.specs.Shelves.{AreLeft, Becomes, CountsRemovals, OnlyLeave, Shelved, ShowsNothing}
 
 -- ---- lists of parts
 
@@ -270,3 +271,7 @@ module _ {K V P S R : Type 0} where
 -- one notice more was taken
 pub told_more : {P S R : Type 0} (old mid new : Front (List ℕ) Item P S R) → AreTold old mid → new ≡ record mid { parts = without_told mid.parts } → AreTold old new
 told_more old mid new told is = (suc told.0, is ∙ ap (λ (f : Front (List ℕ) Item _ _ _). record f { parts = without_told f.parts }) told.1)
+
+-- of what was counted twice nothing else was counted
+pub counted_on : (old mid new : Counters) → CountsRemovals old mid → CountsRemovals mid new → CountsRemovals old new
+counted_on old mid new first second = second ∙ ap (λ (c : Counters). record c { expired = new.expired; evictions = new.evictions }) first

@@ -1,6 +1,7 @@
 -- What an exchange with the service leaves.
-use Rattle.std.proofs.Common.{◌≡◌, ◌≢◌, ◌⊎◌, inl, inr, ◌∙◌, refl, sym, ap, subst, ℕ, Bool, true, false, not, List, [], Option, None, Some, Result, Ok, Err, IfOk, OnErr, MatchResult}
+use Rattle.std.proofs.Common.{◌≡◌, ◌≢◌, ◌⊎◌, inl, inr, ◌∙◌, refl, sym, ap, subst, ℕ, Bool, true, false, not, List, [], Option, None, Some, Result, Ok, Err, IfOk, OnErr, length, MatchResult}
 use Rattle.std.proofs.lemmas.Option.{none-some}
+use Rattle.memcache_model.specs.Counts.{reads}
 use Rattle.memcache_service.specs.Serving.{HasFed, IsDoneFor}
 use Rattle.memcache_service.specs.Talks.{FailsToFeed, Feeds, Takes, connection_of}
 use Rattle.memcache_service.specs.declared.connection.Connection.{Connection}
@@ -36,12 +37,12 @@ module _ {T : Type 0} {shelf : Ghosts T} (conn : ℕ) where
       (subst (λ (z : List ℕ). Takes conn z p q) none both.0, both.1)
 
   -- a piece was fed
-  pub fed : {E : Type 0} (piece : List ℕ) (ended : Bool) (p q : Service T shelf) → KnowsConnection conn false p → (r : Result Bool E) → (connection_of conn p ≢ None → IfOk r (λ goes_on. IsDoneFor conn (HasFed shelf q.moment piece goes_on) p.connections q.connections p.stock q.stock)) → OnErr r (FailsToFeed conn piece p q) → MatchResult r (λ goes_on. ended ≡ not goes_on) (λ e. ended ≡ true) → (Feeds conn piece p q ⊎ FailsToFeed conn piece p q) × KnowsConnection conn ended q
+  pub fed : {E : Type 0} (piece : List ℕ) (ended : Bool) (p q : Service T shelf) → KnowsConnection conn false p → (r : Result Bool E) → (connection_of conn p ≢ None → IfOk r (λ goes_on. IsDoneFor conn (reads (length piece)) (HasFed shelf q.moment piece goes_on) p.connections q.connections p.stock q.stock)) → OnErr r (FailsToFeed conn piece p q) → MatchResult r (λ goes_on. ended ≡ not goes_on) (λ e. ended ≡ true) → (Feeds conn piece p q ⊎ FailsToFeed conn piece p q) × KnowsConnection conn ended q
   fed piece ended p q has (Ok goes_on) feeds lacks is =
       let done = feeds (there (connection_of conn p) has.connection has.is) in
       let same : done.before ≡ has.connection = same-some (connection_of conn p) done.before has.connection done.was has.is in
       let still : done.before.is_closed ≡ false = ap (λ (k : Connection). k.is_closed) same ∙ has.closed in
       let closed : done.after.is_closed ≡ ended = sym (not-not done.after.is_closed) ∙ sym (ap not done.done.0) ∙ sym is in
-      (inl (record { before = done.before; after = done.after; counted = done.counted; was = done.was; is = done.is; done = (still, done.done.1 still) }), record { connection = done.after; is = done.is.changed; closed = closed })
+      (inl (record { before = done.before; after = done.after; was = done.was; is = done.is; done = (still, done.done.1 still) }), record { connection = done.after; is = done.is.changed; closed = closed })
   fed piece ended p q has (Err e) feeds lacks is =
       (inr lacks, record { connection = lacks.after; is = lacks.is.changed; closed = lacks.done.1 ∙ sym is })

@@ -1,5 +1,6 @@
 -- What a turn of a connection leaves of the others.
-use Rattle.std.proofs.Common.{◌≡◌, ◌≢◌, ◌≤◌, inl, inr, ◌∙◌, refl, ap, arith, ℕ, Bool, false, List, [], Option, None, Some, Result, Ok, Err, IfOk, OnErr}
+use Rattle.std.proofs.Common.{◌≡◌, ◌≢◌, ◌≤◌, inl, inr, ◌∙◌, refl, ap, arith, ℕ, Bool, false, List, [], Option, None, Some, Result, Ok, Err, IfOk, OnErr, length}
+use Rattle.memcache_model.specs.Counts.{reads}
 use Rattle.memcache_service.specs.Serving.{HasFed, IsDoneFor}
 use Rattle.memcache_service.specs.Talking.{later_of}
 use Rattle.memcache_service.specs.Talks.{FailsToFeed, Takes, connection_of, moment_of_last_call}
@@ -23,7 +24,7 @@ module _ {T : Type 0} {shelf : Ghosts T} (conn : ℕ) where
       go (Some x) is = (takes (there (connection_of conn p) x is)).is.others
 
   pub feed-beside : {E : Type 0} (piece : List ℕ) (p q : Service T shelf) (r : Result Bool E)
-      → (connection_of conn p ≢ None → IfOk r (λ goes_on. IsDoneFor conn (HasFed shelf q.moment piece goes_on) p.connections q.connections p.stock q.stock))
+      → (connection_of conn p ≢ None → IfOk r (λ goes_on. IsDoneFor conn (reads (length piece)) (HasFed shelf q.moment piece goes_on) p.connections q.connections p.stock q.stock))
       → OnErr r (FailsToFeed conn piece p q) → (connection_of conn p ≡ None → (r ≡ Ok false) × (q.connections ≡ p.connections) × (q.stock ≡ p.stock)) → LeavesBeside conn p q
   feed-beside piece p q (Err e) feeds lacks absent = lacks.is.others
   feed-beside piece p q (Ok goes_on) feeds lacks absent = go (connection_of conn p) refl

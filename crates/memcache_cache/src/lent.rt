@@ -5,7 +5,7 @@ ghost use Rattle.memcache_cache.specs.Showing.{shelved_by};
 ghost use Rattle.memcache_cache.specs.Weights.{IsItemCache};
 ghost use Rattle.memcache_model.specs.Items.{unexpired, with_item};
 ghost use Rattle.memcache_model.specs.Outcomes.{new_item};
-ghost use Rattle.memcache_service.specs.Shelves.{Becomes, MayComeAt, SeesLive, ShowsNothing};
+ghost use Rattle.memcache_service.specs.Shelves.{Becomes, CountsRemovals, MayComeAt, SeesLive, ShowsNothing};
 
 use crate::rules::ItemRules;
 use audit_model::Key;
@@ -13,7 +13,8 @@ use engine_reference::Rules;
 use front_parts::{EvictionPolicy, HasWays, Notice, RemovalCause, Settings};
 use front_reference::{At, ClonedKey, Shared};
 use front_state::{LentState, Single};
-use memcache_service::{Counters, Shelf, StoredItem, Tally};
+use memcache_model::{Counters, up};
+use memcache_service::{Shelf, StoredItem};
 use policy_base::Instant;
 use std::alloc::{AllocError, Global};
 use std::hash::BuildHasher;
@@ -178,10 +179,12 @@ fn emptied(alloc: Global, moment: u64) -> Result<StoredItem, AllocError>
 }
 
 /// Counts an item that left by itself; one without a unique was removed.
-fn count_removal(counters: &mut Counters, notice: &Notice<Shared<Key>, StoredItem>) {
+fn count_removal(counters: &mut Counters, notice: &Notice<Shared<Key>, StoredItem>)
+    ensures { CountsRemovals counters.old counters.new }
+{
     match notice.cause {
-        RemovalCause::Size => counters.up(Tally::Evictions),
-        RemovalCause::Expired if notice.value.unique() != 0 => counters.up(Tally::Expired),
+        RemovalCause::Size => up(&mut counters.evictions),
+        RemovalCause::Expired if notice.value.unique() != 0 => up(&mut counters.expired),
         _ => {}
     }
 }

@@ -7,4 +7,6 @@ pub mod Replies
 pub mod Outcomes
 pub mod Meta
 pub mod Answers
+pub mod Counts
+pub mod Statistics
 pub mod Leases

@@ -2,10 +2,12 @@
 #![tactic(auto)]
 
 mod command;
+mod counters;
 mod fault;
 pub mod laws;
 
 pub use command::{Direction, Exptime, Meta, Storage, Verb};
+pub use counters::{Counters, Looks, add, up};
 pub use fault::ProtocolError;
 
 /// The maximum number of bytes of a key.

@@ -46,7 +46,7 @@ module _ {T : Type 0} (shelf : Ghosts T) (moment most : ℕ) (first : Stock T) w
     served =
         subst (λ (after : List ℕ). AreServed shelf moment most first bytes skip said new left a.skip after false) (sym (ap (λ (k : Connection). k.output.items) same))
         (subst (λ (ends : Bool). AreServed shelf moment most first bytes skip said new left a.skip a.output.items ends) still ran.served);
-    spared = record { shelf = refl; uniques = refl; flush = refl; most = refl };
+    spared = record { shelf = refl; uniques = refl; flush = refl; most = refl; counters = refl };
   }
 
   -- or none ran
@@ -56,5 +56,5 @@ module _ {T : Type 0} (shelf : Ghosts T) (moment most : ℕ) (first : Stock T) w
     left = bytes;
     skip = skip;
     served = subst (λ (z : List ℕ). AreServed shelf moment most first bytes skip said first bytes skip z false) (sym same) no_more;
-    spared = record { shelf = refl; uniques = refl; flush = refl; most = refl };
+    spared = record { shelf = refl; uniques = refl; flush = refl; most = refl; counters = refl };
   }

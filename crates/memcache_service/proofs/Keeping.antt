@@ -1,14 +1,20 @@
 -- What a call leaves that did what it was to do, or was refused.
-use Rattle.std.proofs.Common.{◌≡◌, ℕ, ⊎_elim, inl, inr, ◌∙◌, refl, sym, subst, ap, true, true≢false, List, Some, Result, Ok, Err, IfOk, OnErr}
+use Rattle.std.proofs.Common.{◌≡◌, ℕ, ⊎_elim, inl, inr, ◌∙◌, refl, sym, subst, ap, true, true≢false, List, Some, Result, Ok, Err, IfOk, OnOk, OnErr}
 use Rattle.std.proofs.lemmas.Bool.{cases_Bool}
 use Rattle.std.proofs.lemmas.Slice.Eq.{bytes_eq-Decides}
+use Rattle.std.specs.Result.{result_unwrap_or}
 use Rattle.std.specs.Str.{bytes_eq}
 use Rattle.memcache_model.specs.Commands.{Command}
 use Rattle.memcache_model.specs.Commands as model
-use Rattle.memcache_model.specs.Items.{Item, with_item}
+use Rattle.memcache_model.specs.Items.{Item, Items, with_item}
 use Rattle.memcache_model.specs.Outcomes.{Outcome}
+use Rattle.memcache_model.specs.Statistics.{Facts, counted_by}
+use Rattle.memcache_model.specs.declared.counters.Counters.{Counters}
+use Rattle.memcache_service.specs.Lines.{said_from}
+use Rattle.memcache_service.specs.declared.replies.Reply.{Reply}
+use Rattle.memcache_service.specs.declared.replies.Reply.TheVariants.{NoMemory}
 use Rattle.memcache_service.specs.Shelves.{MayComeAt, Shelved, live_on}
-use Rattle.memcache_service.specs.Stocks.{Did, EndsStatistics, LeavesStock, LeavesAll, Spares, is_short, stock_at}
+use Rattle.memcache_service.specs.Stocks.{CountsIfRoom, Did, TellsStatistics, LeavesStock, LeavesAll, Spares, is_short, stock_at}
 use Rattle.memcache_service.specs.declared.stock.Stock.{Stock}
 
 -- a call may follow at the moment of one that did what it was to do, or was refused
@@ -41,24 +47,30 @@ same_item view moment key item old new is kept = record {
         (cases_Bool (bytes_eq k key))
 
 -- a short command tells no statistics
-pub short_ends : (command : Command) (text : List ℕ) → is_short command ≡ true → EndsStatistics command text
-short_ends (model.get uniques keys) text e = absurd (true≢false (sym e))
-short_ends (model.gat uniques exptime keys) text e = absurd (true≢false (sym e))
-short_ends (model.store storage key flags exptime block) text e = tt
-short_ends (model.oversize storage key) text e = tt
-short_ends (model.delete key) text e = tt
-short_ends (model.arithmetic direction key delta) text e = tt
-short_ends (model.touch key exptime) text e = tt
-short_ends (model.flush_all exptime) text e = tt
-short_ends (model.stats words) text e = absurd (true≢false (sym e))
-short_ends model.version text e = tt
-short_ends model.verbosity text e = tt
-short_ends model.quit text e = tt
-short_ends model.meta_no_op text e = tt
-short_ends (model.meta kind key flags) text e = absurd (true≢false (sym e))
-short_ends (model.meta_set key flags block) text e = absurd (true≢false (sym e))
-short_ends (model.meta_oversize key flags) text e = tt
-short_ends (model.malformed error) text e = tt
+pub short_ends : (command : Command) (facts : (items bytes : ℕ) → Facts) (counts : Counters) (text : List ℕ) → is_short command ≡ true → TellsStatistics command facts counts text
+short_ends (model.get uniques keys) facts counts text e = absurd (true≢false (sym e))
+short_ends (model.gat uniques exptime keys) facts counts text e = absurd (true≢false (sym e))
+short_ends (model.store storage key flags exptime block) facts counts text e = tt
+short_ends (model.oversize storage key) facts counts text e = tt
+short_ends (model.delete key) facts counts text e = tt
+short_ends (model.arithmetic direction key delta) facts counts text e = tt
+short_ends (model.touch key exptime) facts counts text e = tt
+short_ends (model.flush_all exptime) facts counts text e = tt
+short_ends (model.stats words) facts counts text e = absurd (true≢false (sym e))
+short_ends model.version facts counts text e = tt
+short_ends model.verbosity facts counts text e = tt
+short_ends model.quit facts counts text e = tt
+short_ends model.meta_no_op facts counts text e = tt
+short_ends (model.meta kind key flags) facts counts text e = absurd (true≢false (sym e))
+short_ends (model.meta_set key flags block) facts counts text e = absurd (true≢false (sym e))
+short_ends (model.meta_oversize key flags) facts counts text e = tt
+short_ends (model.malformed error) facts counts text e = tt
+
+-- and is counted, unless it is refused
+pub short_counts : {T E : Type 0} (command : Command) (items : Items) (old new : Stock T) (start : ℕ) (written : List ℕ) (r : Result Reply E) (reply : Reply) → is_short command ≡ true → reply ≡ result_unwrap_or r NoMemory
+    → OnOk r (is_short command ≡ true → new.counters ≡ counted_by command items old.counters) → OnErr r (Spares old new) → CountsIfRoom command items (said_from start written reply) old.counters new.counters
+short_counts command items old new start written (Ok x) reply short is counts refused = inl (counts short)
+short_counts command items old new start written (Err e) reply short is counts refused = rw is (inr (inl (inl refl), refused.counters))
 
 -- what it stands for, by its parts
 pub stands : {T : Type 0} (view : T → Shelved) (moment : ℕ) (a b : Stock T) → view a.shelf ≡ view b.shelf → a.uniques ≡ b.uniques → a.flush ≡ b.flush → stock_at view moment a ≡ stock_at view moment b

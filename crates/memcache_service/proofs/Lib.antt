@@ -8,4 +8,6 @@ mod Packed
 mod Parting
 mod Placing
 mod Putting
+mod Shortly
+mod Telling
 mod Touching

@@ -8,7 +8,7 @@ use Rattle.memcache_model.specs.declared.fault.ProtocolError.TheVariants.{Foreig
 use Rattle.memcache_service.specs.Stocks.{WritesReply, Spares, kept_until}
 use Rattle.memcache_service.specs.declared.connection.Connection.{Connection}
 use Rattle.memcache_service.specs.declared.shelf.Shelf.{Ghosts}
-use Rattle.memcache_service.specs.declared.counters.Counters.{Counters}
+use Rattle.memcache_model.specs.declared.counters.Counters.{Counters}
 use Rattle.memcache_service.specs.declared.stock.Stock.{Stock}
 
 -- a connection ends behind this command
@@ -77,16 +77,15 @@ AreServedAlike {T} shelf =
     → AreServed shelf moment most first bytes 0 before new left 0 after ends
     → AreServed shelf moment most first (bytes ++ more) 0 before new (left ++ more) 0 after ends
 
--- something was done for one of some connections, over the stock, in which it was counted. The other connections stay as they were
-pub record IsDoneFor {T : Type 0} (conn : ℕ)
+-- something was done for one of some connections, over the stock, in which bytes were counted. The other connections stay as they were
+pub record IsDoneFor {T : Type 0} (conn : ℕ) (counts : Counters → Counters)
     (does : (before after : Connection) → (first new : Stock T) → Type 0)
     (old new : Slab Connection) (stock then : Stock T) : Type 0 where
   pub before : Connection
   pub after : Connection
-  pub counted : Counters
   pub was : get old conn ≡ Some before
   pub is : Updates old new conn (Some after)
-  pub done : does before after (record stock { counters = counted }) then
+  pub done : does before after (record stock { counters = counts stock.counters }) then
 
 -- a connection that had not ended was fed a piece, and goes on or not; one that had ended stays as it was
 abbrev pub HasFed : {T : Type 0} → Ghosts T → (moment : ℕ) → (piece : List ℕ)

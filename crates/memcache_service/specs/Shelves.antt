@@ -6,6 +6,7 @@ use Rattle.std.specs.List.{list_any}
 use Rattle.std.specs.Option.{option_map, option_map_or}
 use Rattle.std.specs.Str.{bytes_eq}
 use Rattle.memcache_model.specs.Items.{Item, Items, unexpired}
+use Rattle.memcache_model.specs.declared.counters.Counters.{Counters}
 
 -- the items of keys by the moment, of which some may have expired, the moment of the last call, and what all items may weigh
 pub record Shelved : Type 0 where
@@ -47,6 +48,11 @@ pub record SeesLive {F O A : Type 0}
   pub left : MutBor O
   pub met : see.post f (found, (shown, tt)) (answer, (left, tt))
   pub leaves : left.now ≡ new
+
+-- nothing was counted but what left by itself
+abbrev pub CountsRemovals : (old new : Counters) → Type 0
+CountsRemovals old new =
+    new ≡ record old { expired = new.expired; evictions = new.evictions }
 
 -- the key, if it is the only one
 abbrev pub lone_key : List (List ℕ) → Option (List ℕ)

@@ -1,12 +1,15 @@
 -- What a stock stands for, and what a command does to it.
-use Rattle.std.specs.Prelude.{◌≡◌, ℕ, ◌⊎◌, ◌||◌, Bool, true, false, not, List, [], ◌∷◌, ◌++◌, length, take, if◌then◌else◌, Option, Some, None, is_some, codes}
-use Rattle.std.specs.Str.{bytes_eq}
+use Rattle.std.specs.Prelude.{◌≡◌, ℕ, ◌-◌, ◌/◌, ◌⊎◌, Bool, true, false, not, List, [], ◌++◌, length, take, if◌then◌else◌, Option, Some, None, is_some, codes}
+use Rattle.std.specs.Borrow.{Bor}
 use Rattle.memcache_model.specs.Commands.{Command, Request, get, gat, oversize, flush_all, stats, version, verbosity, quit, meta, meta_set, meta_oversize, meta_no_op, malformed}
 use Rattle.memcache_model.specs.Items as model
 use Rattle.memcache_model.specs.Answers.{Service, answer, touched}
-use Rattle.memcache_model.specs.Items.{Item, exptime_deadline, moment_has_come}
+use Rattle.memcache_model.specs.Counts.{added}
+use Rattle.memcache_model.specs.Items.{Item, Items, exptime_deadline, moment_has_come}
 use Rattle.memcache_model.specs.Meta.{count_fault, flags_fault, set_fault}
 use Rattle.memcache_model.specs.Outcomes.{Outcome, new_item, says_text, stores_item}
+use Rattle.memcache_model.specs.Statistics.{Facts, counted_by, stats_text}
+use Rattle.memcache_model.specs.declared.counters.Counters.{Counters}
 use Rattle.memcache_model.specs.declared.command.Exptime.TheVariants.{Seconds}
 use Rattle.memcache_model.specs.declared.command.Meta.{Meta}
 use Rattle.memcache_model.specs.declared.command.Meta.TheVariants.{Arithmetic}
@@ -14,7 +17,7 @@ use Rattle.memcache_model.specs.declared.command.Storage.TheVariants.{Set}
 use Rattle.memcache_model.specs.declared.fault.ProtocolError.{ProtocolError}
 use Rattle.memcache_service.specs.Lines.{reply_text, said_from}
 use Rattle.memcache_service.specs.declared.replies.Reply.{Reply}
-use Rattle.memcache_service.specs.declared.replies.Reply.TheVariants.{NoMemory, NoRoom, NoStatistics, Reset}
+use Rattle.memcache_service.specs.declared.replies.Reply.TheVariants.{NoMemory, NoRoom, NoStatistics, NotFound, Touched}
 use Rattle.memcache_service.specs.Shelves.{MayComeAt, Shelved, UsesOne, live_on}
 use Rattle.memcache_service.specs.declared.shelf.Shelf.{Ghosts}
 use Rattle.memcache_service.specs.declared.stock.Stock.{Stock}
@@ -67,43 +70,67 @@ IsRefusal text = (text ≡ reply_text NoMemory) ⊎ (text ≡ reply_text NoRoom)
 abbrev pub block_item : Block → Item
 block_item block = new_item block.bytes.now block.flags block.deadline
 
--- a word that statistics are told of
-abbrev pub is_topic : List ℕ → Bool
-is_topic word = bytes_eq word (codes "") || bytes_eq word (codes "settings")
-    || bytes_eq word (codes "items") || bytes_eq word (codes "slabs")
+-- a statistic as it is told
+abbrev pub figure_of : Bor (List ℕ) × ℕ → List ℕ × ℕ
+figure_of figure = (figure.0.now, figure.1)
 
--- how statistics end
-abbrev pub topic_end : (word : List ℕ) → List ℕ
-topic_end word = if is_topic word then codes "END\r\n" else codes "ERROR\r\n"
+-- what is told beside the counts; items and their bytes are as of the last maintenance
+abbrev pub facts_of : {T : Type 0} → (moment : ℕ) → Stock T → (items bytes : ℕ) → Facts
+facts_of moment stock items bytes = record {
+  uptime = (moment - stock.made) / 1000;
+  time = moment / 1000;
+  connections = stock.connections;
+  capacity = stock.capacity;
+  items = items;
+  bytes = bytes;
+  most = stock.most;
+}
 
--- the first word, or an empty one
-abbrev pub topic_of : List (List ℕ) → List ℕ
-topic_of [] = []
-topic_of (word ∷ words) = word
+-- the reply of a `stats` tells what was counted, unless memory is lacking
+abbrev pub TellsStatistics : Command → (facts : (items bytes : ℕ) → Facts) → Counters → List ℕ
+    → Type 0
+TellsStatistics (stats words) facts counts text =
+    (text ≡ reply_text NoStatistics)
+    ⊎ ((items bytes : ℕ) × (text ≡ stats_text words (facts items bytes) counts))
+TellsStatistics command facts counts text = Unit {0}
 
--- how the reply of a `stats` ends, by its words
-abbrev pub stats_end : List (List ℕ) → List ℕ
-stats_end words =
-    let word = topic_of words in
-    if bytes_eq word (codes "reset") then reply_text Reset else topic_end word
+-- a command was counted, or it was refused and was not
+abbrev pub CountsIfRoom : Command → Items → (text : List ℕ) → (old new : Counters) → Type 0
+CountsIfRoom command items text old new = (new ≡ counted_by command items old)
+    ⊎ ((IsRefusal text ⊎ (text ≡ reply_text NoStatistics)) × (new ≡ old))
 
--- the reply of a `stats` ends so, unless memory is lacking
-abbrev pub EndsStatistics : Command → List ℕ → Type 0
-EndsStatistics (stats words) text =
-    (text ≡ reply_text NoStatistics) ⊎ ((lines : List ℕ) × (text ≡ lines ++ stats_end words))
-EndsStatistics command text = Unit {0}
+-- so many items were stored, and maybe some left by themselves
+abbrev pub CountsStored : (stored : ℕ) → (old new : Counters) → Type 0
+CountsStored stored old new = new ≡ record old {
+  total_items = added old.total_items stored;
+  expired = new.expired;
+  evictions = new.evictions;
+}
+
+-- a request was counted
+abbrev pub HasCounted : {T : Type 0} → Command → Items → (text : List ℕ) → (old new : Stock T)
+    → Type 0
+HasCounted command items text old new =
+    (between : Counters) × CountsIfRoom command items text old.counters between
+    × CountsStored (new.uniques - old.uniques) between new.counters
 
 -- an item with more bytes is stored, if it may have them
 abbrev pub appends_to : List ℕ → Option Item → model.Stock → Outcome
 appends_to key None stock = says_text (codes "NOT_STORED\r\n") stock
 appends_to key (Some item) stock = stores_item (codes "STORED\r\n") key item stock
 
--- nothing was changed but the key that was named, and what was counted
+-- a touch says whether there was an item
+abbrev pub touch_reply : Option Item → Reply
+touch_reply None = NotFound
+touch_reply (Some item) = Touched
+
+-- nothing was changed but the key that was named
 pub record Spares {T : Type 0} (old new : Stock T) : Type 0 where
   pub shelf : new.shelf ≡ old.shelf
   pub uniques : new.uniques ≡ old.uniques
   pub flush : new.flush ≡ old.flush
   pub most : new.most ≡ old.most
+  pub counters : new.counters ≡ old.counters
 
 module _ {T : Type 0} (view : T → Shelved) where
   -- what it stands for at a moment, if no flush is due
@@ -179,7 +206,8 @@ module _ {T : Type 0} (shelf : Ghosts T) where
     pub does : DoesIfRoom shelf.view moment command (stock_at shelf.view moment old)
         (UsesOne shelf.uses moment (keys_read command) old.shelf new.shelf) old new
         (said_from (length before) after reply)
-    pub ends : EndsStatistics command (said_from (length before) after reply)
+    pub tells : TellsStatistics command (facts_of moment old) old.counters
+        (said_from (length before) after reply)
 
   -- a request used what it reads, behind a flush that was due, and before removals were counted
   pub record UsesOfStock (moment : ℕ) (keys : List (List ℕ)) (old new : Stock T) : Type 0 where
@@ -196,4 +224,5 @@ module _ {T : Type 0} (shelf : Ghosts T) where
     pub written : after ≡ before ++ (if request.quiet then [] else text)
     pub does : DoesIfRoom shelf.view moment request.command all
         (UsesOfStock moment (keys_read request.command) old new) old new text
-    pub ends : EndsStatistics request.command text
+    pub tells : TellsStatistics request.command (facts_of moment old) old.counters text
+    pub counted : HasCounted request.command all.items text old new

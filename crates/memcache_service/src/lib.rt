@@ -2,7 +2,6 @@
 #![tactic(auto)]
 
 mod connection;
-mod counters;
 mod item;
 pub mod laws;
 mod replies;
@@ -11,7 +10,6 @@ mod shelf;
 mod stock;
 
 pub use connection::Connection;
-pub use counters::{Counters, Tally};
 pub use item::StoredItem;
 pub use service::{Conn, Service};
 pub use shelf::Shelf;

@@ -155,17 +155,6 @@ pub fn say_number(output: &mut Vec<u8>, number: u64) -> Result<(), AllocError>
     say(output, digits.format(number).as_bytes())
 }
 
-/// Appends the line of a statistic. Returns an error if there is not enough memory.
-pub fn say_figure(output: &mut Vec<u8>, name: &[u8], number: u64) -> Result<(), AllocError>
-    ensures { vec_capacity output.old ≤ vec_capacity output.new }
-{
-    say(output, b"STAT ")?;
-    say(output, name)?;
-    say(output, b" ")?;
-    say_number(output, number)?;
-    say(output, b"\r\n")
-}
-
 /// Appends an item as a `get` tells it. Returns an error if there is not enough memory; then nothing is written.
 pub fn say_value(
     output: &mut Vec<u8>,

@@ -1,14 +1,15 @@
 //! A service: a stock of items, and the connections that use it.
 ghost use Rattle.slab.specs.Slab.{Updates, get};
-ghost use Rattle.std.specs.Prelude.{◌≡◌, ◌≢◌, ◌↔◌, ◌≤◌, ◌<◌, ◌^◌, ℕ, [], None, Ok, IfOk, IsTrue, MatchOption, OnErr, false, length};
+ghost use Rattle.std.specs.Prelude.{◌≡◌, ◌≢◌, ◌↔◌, ◌≤◌, ◌<◌, ◌^◌, ℕ, [], None, Ok, IfOk, IsTrue, MatchOption, MatchResult, OnErr, false, length};
+ghost use Rattle.memcache_model.specs.Counts.{no_counts, opens, reads, writes};
 ghost use Rattle.memcache_service.specs.Serving.{FailsToFeed, HasFed, IsDoneFor};
 ghost use Rattle.memcache_service.specs.Talking.{HasOpened, HasTaken, later_of};
 ghost use Rattle.memcache_service.specs.Shelves.{IsWithinCapacity, MayComeAt};
 
 use crate::connection::Connection;
-use crate::counters::{Counters, Tally};
 use crate::shelf::Shelf;
 use crate::stock::{Setup, Stock};
+use memcache_model::{Counters, add, up};
 use slab::Slab;
 use std::alloc::{AllocError, Global};
 
@@ -34,7 +35,7 @@ impl<T: Shelf> Service<T> {
         requires { MayComeAt (T.view shelf) moment }
         ensures shelf { IfOk result (λ made. made.stock.shelf ≡ shelf) }
         ensures fresh { IfOk result (λ made. (made.stock.uniques ≡ 0) × (made.stock.flush ≡ None)
-            × (made.moment ≡ moment)) }
+            × (made.moment ≡ moment) × (made.stock.counters ≡ no_counts)) }
         ensures most { IfOk result (λ made. made.stock.most ≡ setup.item_size) }
         ensures none { IfOk result (λ made. (conn : ℕ) → get made.connections conn ≡ None) }
     {
@@ -55,11 +56,14 @@ impl<T: Shelf> Service<T> {
           connections = self.new.stock.connections;
           counters = self.new.stock.counters;
         } }
+        ensures counts { MatchResult result
+            (λ conn. self.new.stock.counters ≡ opens self.old.stock.counters)
+            (λ e. self.new.stock.counters ≡ self.old.stock.counters) }
     {
         let alloc = self.stock.alloc;
         let conn = self.connections.insert(Connection::new(alloc))?;
         self.stock.connections = self.connections.len() as u64;
-        self.stock.counters.up(Tally::TotalConnections);
+        up(&mut self.stock.counters.total_connections);
         Ok(conn)
     }
 
@@ -78,10 +82,10 @@ impl<T: Shelf> Service<T> {
     /// be taken, and it is to be closed.
     pub fn feed(&mut self, conn: Conn, piece: &[u8], moment: u64) -> Result<bool, AllocError>
         ensures feeds { get self.old.connections conn ≢ None → IfOk result (λ goes_on.
-            IsDoneFor conn (HasFed T.Shelf self.new.moment piece.now goes_on)
+            IsDoneFor conn (reads (length piece.now)) (HasFed T.Shelf self.new.moment piece.now goes_on)
             self.old.connections self.new.connections self.old.stock self.new.stock) }
         ensures lacks { OnErr result
-            (IsDoneFor conn (FailsToFeed T.Shelf self.new.moment piece.now)
+            (IsDoneFor conn (reads (length piece.now)) (FailsToFeed T.Shelf self.new.moment piece.now)
             self.old.connections self.new.connections self.old.stock self.new.stock) }
         ensures absent { get self.old.connections conn ≡ None
             → (result ≡ Ok false) × (self.new.connections ≡ self.old.connections)
@@ -94,9 +98,7 @@ impl<T: Shelf> Service<T> {
         let now = later(self.moment, moment);
         match self.connections.get_mut(conn) {
             Some(connection) => {
-                self.stock
-                    .counters
-                    .add(Tally::BytesRead, piece.len() as u64);
+                add(&mut self.stock.counters.bytes_read, piece.len() as u64);
                 let fed = connection.feed(&mut self.stock, piece, now);
                 self.moment = now;
                 match fed {
@@ -141,7 +143,7 @@ impl<T: Shelf> Service<T> {
     /// Moves the replies of a connection out, in exchange for what `into` has as memory.
     pub fn take_output(&mut self, conn: Conn, into: &mut Vec<u8>)
         ensures takes { get self.old.connections conn ≢ None
-            → IsDoneFor conn (HasTaken into.new.items) self.old.connections self.new.connections
+            → IsDoneFor conn (writes (length into.new.items)) (HasTaken into.new.items) self.old.connections self.new.connections
             self.old.stock self.new.stock }
         ensures absent { get self.old.connections conn ≡ None
             → (into.new.items ≡ []) × (self.new.connections ≡ self.old.connections)
@@ -151,9 +153,7 @@ impl<T: Shelf> Service<T> {
         into.clear();
         if let Some(connection) = self.connections.get_mut(conn) {
             connection.take_output(into);
-            self.stock
-                .counters
-                .add(Tally::BytesWritten, into.len() as u64);
+            add(&mut self.stock.counters.bytes_written, into.len() as u64);
         }
     }
 }

@@ -1,11 +1,11 @@
 //! Items by key, in a cache.
 ghost use Rattle.std.specs.Prelude.{◌≡◌, ℕ, ◌≤◌, List, OnOk, OnErr, Some, None, option_map};
 ghost use Rattle.memcache_model.specs.Items.{Item, nothing, with_item};
-ghost use Rattle.memcache_service.specs.Shelves.{Becomes, IsWithinCapacity, MayComeAt, OnlyLeave, SeesLive, Shelved, live_on};
+ghost use Rattle.memcache_service.specs.Shelves.{Becomes, CountsRemovals, IsWithinCapacity, MayComeAt, OnlyLeave, SeesLive, Shelved, live_on};
 
-use crate::counters::Counters;
 use crate::item::StoredItem;
 use audit_model::Key;
+use memcache_model::Counters;
 use std::alloc::AllocError;
 
 /// Items by key, in a cache: an item that was put may have gone, in a call or between calls, but no other appears.
@@ -83,6 +83,7 @@ pub trait Shelf: Drop {
 
     /// Counts the items that left by themselves since this was last called.
     fn count_removals(&mut self, counters: &mut Counters)
+        ensures only { CountsRemovals counters.old counters.new }
         ensures shows { view self.new ≡ view self.old }
         ensures counted { counts self.old self.new };
 

@@ -1,17 +1,19 @@
 //! What requests do.
-ghost use Rattle.std.specs.Prelude.{◌≡◌, ◌≤◌, ◌+◌, ◌++◌, [], true, false, take, None, IfOk, OnOk, OnErr, vec_capacity, if◌then◌else◌};
+ghost use Rattle.std.specs.Prelude.{◌≡◌, ◌≤◌, ◌+◌, ◌++◌, [], true, false, length, take, None, IfOk, OnOk, OnErr, vec_capacity, if◌then◌else◌};
 ghost use Rattle.memcache_lines.specs.Said.{asks};
 ghost use Rattle.memcache_model.specs.Answers.{answer};
+ghost use Rattle.memcache_model.specs.Counts.{no_counts};
+ghost use Rattle.memcache_model.specs.Statistics.{counted_by};
 ghost use Rattle.memcache_model.specs.Items.{live_stock, moment_has_come, nothing};
 ghost use Rattle.memcache_service.specs.Lines.{reply_text, said_from};
 ghost use Rattle.memcache_service.specs.Shelves.{MayComeAt};
-ghost use Rattle.memcache_service.specs.Stocks.{AnswersCommand, Did, LeavesAll, WritesReply, Spares, is_short, kept_until, may_want, service_of, stock_at};
+ghost use Rattle.memcache_service.specs.Stocks.{AnswersCommand, CountsIfRoom, Did, LeavesAll, WritesReply, Spares, is_short, kept_until, may_want, service_of, stock_at};
 
-use crate::counters::{Counters, Tally};
 use crate::replies::{Reply, SHORT};
 use crate::shelf::Shelf;
 use audit_model::Key;
 use memcache_lines::{Command, Request};
+use memcache_model::{Counters, add};
 use std::alloc::{AllocError, Global};
 
 mod flags;
@@ -64,7 +66,8 @@ impl<T: Shelf> Stock<T> {
     pub fn new(alloc: Global, shelf: T, setup: Setup, moment: u64) -> Result<Stock<T>, AllocError>
         requires { MayComeAt (T.view shelf) moment }
         ensures shelf { IfOk result (λ made. made.shelf ≡ shelf) }
-        ensures fresh { IfOk result (λ made. (made.uniques ≡ 0) × (made.flush ≡ None)) }
+        ensures fresh { IfOk result (λ made. (made.uniques ≡ 0) × (made.flush ≡ None)
+            × (made.counters ≡ no_counts)) }
         ensures most { IfOk result (λ made. made.most ≡ setup.item_size) }
     {
         let key = Key::with_capacity(alloc, MAX_KEY)?;
@@ -103,7 +106,10 @@ impl<T: Shelf> Stock<T> {
         output.reserve(SHORT)?;
         self.flush_if_due(moment)?;
         let start = output.len();
+        let given = self.uniques;
         let reply = self.answer(&request.command, moment, output);
+        let stored = self.uniques.saturating_sub(given);
+        add(&mut self.counters.total_items, stored);
         self.shelf.count_removals(&mut self.counters);
         end_reply(request.quiet, start, reply, output);
         Ok(())
@@ -117,7 +123,8 @@ impl<T: Shelf> Stock<T> {
         ensures not_due { moment_has_come moment self.old.flush ≡ false → self.new ≡ self.old }
         ensures err { OnErr result (Spares self.old self.new) }
         ensures may_follow { MayComeAt (T.view self.new.shelf) moment }
-        ensures most { self.new.most ≡ self.old.most }
+        ensures same { self.new
+            ≡ record self.old { shelf = self.new.shelf; flush = self.new.flush } }
         ensures capacity { (T.view self.new.shelf).capacity ≡ (T.view self.old.shelf).capacity }
     {
         match self.flush {
@@ -140,7 +147,8 @@ impl<T: Shelf> Stock<T> {
             self.new) }
         ensures err { OnErr result (Spares self.old self.new) }
         ensures may_follow { MayComeAt (T.view self.new.shelf) moment }
-        ensures most { self.new.most ≡ self.old.most }
+        ensures same { self.new
+            ≡ record self.old { shelf = self.new.shelf; flush = self.new.flush } }
         ensures capacity { (T.view self.new.shelf).capacity ≡ (T.view self.old.shelf).capacity }
     {
         self.shelf.clear(moment)?;
@@ -154,6 +162,9 @@ impl<T: Shelf> Stock<T> {
         requires { MayComeAt (T.view self.old.shelf) moment }
         ensures answered { AnswersCommand T.Shelf moment (asks command.now) self.old self.new
             output.old.items output.new.items result }
+        ensures counted { CountsIfRoom (asks command.now) (stock_at T.view moment self.old).items
+            (said_from (length output.old.items) output.new.items result) self.old.counters
+            self.new.counters }
         ensures may_follow { MayComeAt (T.view self.new.shelf) moment }
         ensures most { self.new.most ≡ self.old.most }
         ensures capacity { vec_capacity output.old ≤ vec_capacity output.new }
@@ -200,6 +211,9 @@ impl<T: Shelf> Stock<T> {
         ensures ok { IfOk result (λ reply. is_short (asks command.now) ≡ true → Did T.view moment
             (answer (service_of self.old.most (reply_text reply)) moment (asks command.now)
             (stock_at T.view moment self.old)) self.old self.new (reply_text reply)) }
+        ensures counts { OnOk result (is_short (asks command.now) ≡ true → self.new.counters
+            ≡ counted_by (asks command.now) (stock_at T.view moment self.old).items
+            self.old.counters) }
         ensures err { OnErr result (Spares self.old self.new) }
         ensures wants { is_short (asks command.now) ≡ true
             → OnErr result (may_want (asks command.now) ≡ true) }

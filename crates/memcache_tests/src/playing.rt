@@ -2,7 +2,7 @@
 ghost use Rattle.std.specs.Prelude.{◌<◌};
 
 use memcache_cache::LentShelf;
-use memcache_service::{Conn, Service, Setup, Shelf, Tally};
+use memcache_service::{Conn, Service, Setup, Shelf};
 use moka::{EvictionPolicy, StdHasher};
 use std::alloc::{AllocError, Global};
 
@@ -126,12 +126,12 @@ impl Held {
     }
 }
 
-/// The bytes that statistics tell.
-fn told_bytes(told: &[u8]) -> Option<u64> {
+/// The figure of this name that statistics tell.
+fn figure(told: &[u8], name: &str) -> Option<u64> {
     let text = str::from_utf8(told).ok()?;
     for line in text.lines() {
         let mut words = line.split(" ");
-        if words.next() == Some("STAT") && words.next() == Some("bytes") {
+        if words.next() == Some("STAT") && words.next() == Some(name) {
             return words.next()?.parse().ok();
         }
     }
@@ -166,7 +166,7 @@ fn count_items<T: Shelf>(service: &mut Service<T>, told: &mut Vec<u8>) -> Result
 fn hold_keys<T: Shelf>(service: &mut Service<T>, told: &mut Vec<u8>) -> Result<Held, AllocError> {
     set_keys(service, told)?;
     ask(service, b"stats\r\n", told)?;
-    let bytes = told_bytes(told.as_slice()).ok_or(AllocError)?;
+    let bytes = figure(told.as_slice(), "bytes").ok_or(AllocError)?;
     let items = count_items(service, told)?;
     Ok(Held { items, bytes })
 }
@@ -256,7 +256,7 @@ fn deletes_large<T: Shelf>(alloc: Global, service: &mut Service<T>) -> Result<bo
     feed(service, conn, sent.as_slice(), 1000, START, &mut told)?;
     feed(service, conn, b"get a\r\n", 1000, START + 1000, &mut told)?;
     feed(service, conn, b"get a\r\n", 1000, START + 2000, &mut told)?;
-    let expired = service.counters().get(Tally::Expired);
+    let expired = service.counters().expired;
     Ok(
         expired == 0
             && told.as_slice() == b"STORED\r\nDELETED\r\nNOT_FOUND\r\nEND\r\nEND\r\n".as_slice(),
@@ -272,4 +272,76 @@ fn deletes_one(alloc: Global) -> Result<bool, AllocError> {
 /// The same. If it was refused for memory, all is done once more.
 pub fn is_large_deleted(alloc: Global) -> bool {
     matches!(deletes_one(alloc), Ok(true)) || matches!(deletes_one(alloc), Ok(true))
+}
+
+/// A request, and what is counted of it, by names of statistics; nothing else of `TALLIES` is.
+pub type Tallied = (&'static [u8], &'static [(&'static str, u64)]);
+
+/// Names of statistics that are counted of requests.
+const TALLIES: &[&str] = &[
+    "cmd_get",
+    "cmd_set",
+    "cmd_flush",
+    "cmd_touch",
+    "get_hits",
+    "get_misses",
+    "delete_hits",
+    "delete_misses",
+    "incr_hits",
+    "incr_misses",
+    "decr_hits",
+    "decr_misses",
+    "cas_hits",
+    "cas_misses",
+    "cas_badval",
+    "touch_hits",
+    "touch_misses",
+];
+
+/// The number under a name, or 0.
+fn number_under(rows: &[(&str, u64)], name: &str) -> u64 {
+    for (other, number) in rows {
+        if *other == name {
+            return *number;
+        }
+    }
+    0
+}
+
+/// Whether statistics tell these figures, and of all others of `TALLIES` 0.
+fn tells_only(told: &[u8], wanted: &[(&str, u64)]) -> bool {
+    for name in TALLIES {
+        if figure(told, *name) != Some(number_under(wanted, *name)) {
+            return false;
+        }
+    }
+    true
+}
+
+/// Whether a service counts this of each request, in their order.
+fn tally_all<T: Shelf>(
+    service: &mut Service<T>,
+    rows: &[Tallied],
+    told: &mut Vec<u8>,
+) -> Result<bool, AllocError> {
+    for (sent, wanted) in rows {
+        ask(service, b"stats reset\r\n", told)?;
+        ask(service, *sent, told)?;
+        ask(service, b"stats\r\n", told)?;
+        if !tells_only(told.as_slice(), *wanted) {
+            return Ok(false);
+        }
+    }
+    Ok(true)
+}
+
+/// The same, by a new service.
+fn tally(alloc: Global, rows: &[Tallied]) -> Result<bool, AllocError> {
+    let mut service = service(alloc, LARGE)?;
+    tally_all(&mut service, rows, &mut Vec::new(alloc))
+}
+
+/// The same. If a request was refused for memory, all is done once more.
+pub fn is_tallied(alloc: Global, rows: &[Tallied]) -> bool {
+    matches!(tally(alloc, rows), Ok(true)) || matches!(tally(alloc, rows), Ok(true))
 }

@@ -1,5 +1,7 @@
 //! Requests and replies.
-use crate::playing::{LARGE, Row, all_right, all_right_again, is_bounded, is_large_deleted};
+use crate::playing::{
+    LARGE, Row, Tallied, all_right, all_right_again, is_bounded, is_large_deleted, is_tallied,
+};
 use memcache_service::Setup;
 
 /// Storing and reading.
@@ -561,6 +563,72 @@ const TOLD: &[Row] = &[
     (0, b"stats reset\r\nstats x\r\n", b"RESET\r\nERROR\r\n"),
 ];
 
+/// What memcached 1.6.18 counts of requests.
+const TALLIED: &[Tallied] = &[
+    (b"set k 0 0 1\r\nx\r\n", &[("cmd_set", 1)]),
+    (b"add k 0 0 1\r\nx\r\n", &[("cmd_set", 1)]),
+    (b"replace k 0 0 1\r\n5\r\n", &[("cmd_set", 1)]),
+    (b"append z 0 0 1\r\n1\r\n", &[("cmd_set", 1)]),
+    (b"get k\r\n", &[("cmd_get", 1), ("get_hits", 1)]),
+    (b"get z\r\n", &[("cmd_get", 1), ("get_misses", 1)]),
+    (
+        b"get k z k\r\n",
+        &[("cmd_get", 3), ("get_hits", 2), ("get_misses", 1)],
+    ),
+    (
+        b"gat 0 k z\r\n",
+        &[("cmd_touch", 2), ("touch_hits", 1), ("touch_misses", 1)],
+    ),
+    (b"touch k 0\r\n", &[("cmd_touch", 1), ("touch_hits", 1)]),
+    (b"touch z 0\r\n", &[("cmd_touch", 1), ("touch_misses", 1)]),
+    (b"incr k 1\r\n", &[("incr_hits", 1)]),
+    (b"decr k 1\r\n", &[("decr_hits", 1)]),
+    (b"incr z 1\r\n", &[("incr_misses", 1)]),
+    (b"decr z 1\r\n", &[("decr_misses", 1)]),
+    (b"set w 0 0 1\r\nw\r\n", &[("cmd_set", 1)]),
+    (b"incr w 1\r\n", &[]),
+    (
+        b"cas k 0 0 1 1\r\n5\r\n",
+        &[("cmd_set", 1), ("cas_badval", 1)],
+    ),
+    (
+        b"cas z 0 0 1 1\r\n5\r\n",
+        &[("cmd_set", 1), ("cas_misses", 1)],
+    ),
+    (b"delete w\r\n", &[("delete_hits", 1)]),
+    (b"delete w\r\n", &[("delete_misses", 1)]),
+    (b"mg k v\r\n", &[("cmd_get", 1), ("get_hits", 1)]),
+    (b"mg z v\r\n", &[("cmd_get", 1), ("get_misses", 1)]),
+    (b"mg k T0\r\n", &[("cmd_touch", 1), ("touch_hits", 1)]),
+    (b"mg z T0\r\n", &[("cmd_get", 1), ("get_misses", 1)]),
+    (b"md k C1\r\n", &[("delete_misses", 1)]),
+    (b"md z\r\n", &[("delete_misses", 1)]),
+    (b"ma k\r\n", &[("incr_hits", 1)]),
+    (b"ma z\r\n", &[("incr_misses", 1)]),
+    (b"ma k MD\r\n", &[("decr_hits", 1)]),
+    (b"ma z MD\r\n", &[("decr_misses", 1)]),
+    (b"ma j N0\r\n", &[]),
+    (b"ma k C1\r\n", &[]),
+    (b"md j\r\n", &[("delete_hits", 1)]),
+    (b"ms k 1\r\n5\r\n", &[("cmd_set", 1)]),
+    (b"ms k 1 C1\r\n5\r\n", &[("cmd_set", 1), ("cas_badval", 1)]),
+    (b"ms z 1 C1\r\n5\r\n", &[("cmd_set", 1), ("cas_misses", 1)]),
+    (b"ms z 1 MA\r\n5\r\n", &[("cmd_set", 1)]),
+    (
+        b"ms k 1 MS C1 I\r\n5\r\n",
+        &[("cmd_set", 1), ("cas_hits", 1)],
+    ),
+    (b"ms k 1 ME C1\r\n5\r\n", &[("cmd_set", 1)]),
+    (b"ms k 1 MA C1 I\r\nx\r\n", &[("cmd_set", 1)]),
+    (b"ms k 1 MA C0\r\nx\r\n", &[("cmd_set", 1)]),
+    (b"ms k 1 X\r\n5\r\n", &[]),
+    (b"mg k !\r\n", &[]),
+    (b"md k I\r\n", &[]),
+    (b"flush_all 100\r\n", &[("cmd_flush", 1)]),
+    (b"verbosity 1\r\n", &[]),
+    (b"version\r\n", &[]),
+];
+
 /// Requests of which each is asked once more, if it is refused for memory.
 const AGAIN: &[Row] = &[
     (0, b"set a 5 0 3\r\nabc\r\n", b"STORED\r\n"),
@@ -668,4 +736,9 @@ fn told(rt: HostRuntime) {
 #[test]
 fn again(rt: HostRuntime) {
     assert!(rt; all_right_again(rt.alloc(), AGAIN));
+}
+
+#[test]
+fn tallied(rt: HostRuntime) {
+    assert!(rt; is_tallied(rt.alloc(), TALLIED));
 }

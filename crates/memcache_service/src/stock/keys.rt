@@ -1,20 +1,21 @@
 //! `delete`, `incr`, `decr`, `touch` and `flush_all`.
-ghost use Rattle.std.specs.Prelude.{◌≡◌, IfOk, OnErr, Some, None, true};
+ghost use Rattle.std.specs.Prelude.{◌≡◌, IfOk, OnOk, OnErr, Some, None, true};
 ghost use Rattle.memcache_model.specs.Commands.{flush_all};
 ghost use Rattle.memcache_model.specs.Answers.{counts, deletes_one, flushes, touches_one};
+ghost use Rattle.memcache_model.specs.Counts.{added, touches};
 ghost use Rattle.memcache_model.specs.Items.{exptime_deadline};
+ghost use Rattle.memcache_model.specs.Statistics.{deleted, no_sum, seen_one, sum_made, summed};
 ghost use Rattle.memcache_model.specs.Outcomes.{counted};
 ghost use Rattle.memcache_service.specs.Shelves.{MayComeAt};
 ghost use Rattle.memcache_service.specs.Stocks.{Did, Spares, may_want, stock_at};
 ghost use Rattle.memcache_service.specs.Lines.{reply_text};
 
 use super::Stock;
-use crate::counters::Tally;
 use crate::item::deadline_of;
 use crate::replies::Reply;
 use crate::shelf::Shelf;
 use memcache_lines::number;
-use memcache_model::{Direction, Exptime};
+use memcache_model::{Counters, Direction, Exptime, Looks, up};
 use std::alloc::AllocError;
 
 impl<T: Shelf> Stock<T> {
@@ -25,15 +26,17 @@ impl<T: Shelf> Stock<T> {
         ensures ok { IfOk result (λ reply. Did T.view moment (deletes_one key.now
             ((stock_at T.view moment self.old).items key.now) (stock_at T.view moment self.old))
             self.old self.new (reply_text reply)) }
+        ensures counts { OnOk result (self.new.counters
+            ≡ deleted ((stock_at T.view moment self.old).items key.now) self.old.counters) }
         ensures err { OnErr result (Spares self.old self.new) }
     {
         self.key.fill(key)?;
         if self.shelf.peek(&self.key, moment).is_none() {
-            self.counters.up(Tally::DeleteMisses);
+            up(&mut self.counters.delete_misses);
             return Ok(Reply::NotFound);
         }
         self.shelf.remove(&self.key, moment)?;
-        self.counters.up(Tally::DeleteHits);
+        up(&mut self.counters.delete_hits);
         Ok(Reply::Deleted)
     }
 
@@ -50,11 +53,13 @@ impl<T: Shelf> Stock<T> {
         ensures ok { IfOk result (λ reply. Did T.view moment (counts direction key.now delta
             ((stock_at T.view moment self.old).items key.now) (stock_at T.view moment self.old))
             self.old self.new (reply_text reply)) }
+        ensures counts { OnOk result (self.new.counters ≡ summed direction
+            ((stock_at T.view moment self.old).items key.now) self.old.counters) }
         ensures err { OnErr result (Spares self.old self.new) }
     {
         self.key.fill(key)?;
         let Some(item) = self.shelf.peek(&self.key, moment) else {
-            self.counters.up(miss_of(direction));
+            count_miss(&mut self.counters, direction);
             return Ok(Reply::NotFound);
         };
         let Some(old) = number(item.bytes()) else {
@@ -63,7 +68,7 @@ impl<T: Shelf> Stock<T> {
         let number = counted(direction, old, delta);
         let item = item.with_number(self.alloc, number)?;
         self.put(item, moment)?;
-        self.counters.up(hit_of(direction));
+        count_hit(&mut self.counters, direction);
         Ok(Reply::Number(number))
     }
 
@@ -74,11 +79,15 @@ impl<T: Shelf> Stock<T> {
         ensures ok { IfOk result (λ reply. Did T.view moment (touches_one key.now
             (exptime_deadline moment exptime) ((stock_at T.view moment self.old).items key.now)
             (stock_at T.view moment self.old)) self.old self.new (reply_text reply)) }
+        ensures counts { OnOk result (self.new.counters ≡ touches
+            (seen_one ((stock_at T.view moment self.old).items key.now)) self.old.counters) }
         ensures err { OnErr result (Spares self.old self.new) }
     {
         self.key.fill(key)?;
         let deadline = deadline_of(moment, exptime);
-        self.retime(deadline, moment)
+        let reply = self.retime(deadline, moment)?;
+        self.counters.touch(Looks::one(reply == Reply::Touched));
+        Ok(reply)
     }
 
     /// Removes all items, now or at a moment to come, and returns the reply. Returns an error if there is not enough memory; then the
@@ -87,10 +96,12 @@ impl<T: Shelf> Stock<T> {
         requires { MayComeAt (T.view self.old.shelf) moment }
         ensures ok { IfOk result (λ reply. Did T.view moment (flushes moment exptime
             (stock_at T.view moment self.old)) self.old self.new (reply_text reply)) }
+        ensures counts { OnOk result (self.new.counters ≡ record self.old.counters {
+          cmd_flush = added self.old.counters.cmd_flush 1;
+        }) }
         ensures err { OnErr result (Spares self.old self.new) }
         ensures wants { OnErr result (may_want (flush_all exptime) ≡ true) }
     {
-        self.counters.up(Tally::CmdFlush);
         match exptime {
             Exptime::Seconds(_) => self.flush = deadline_of(moment, exptime),
             _ => {
@@ -98,23 +109,28 @@ impl<T: Shelf> Stock<T> {
                 self.flush = None;
             }
         }
+        up(&mut self.counters.cmd_flush);
         Ok(Reply::Done)
     }
 }
 
-/// What is counted where there is nothing to count up or down.
-fn miss_of(direction: Direction) -> Tally {
+/// Counts that there was nothing to count up or down.
+pub fn count_miss(counters: &mut Counters, direction: Direction)
+    ensures { counters.new ≡ no_sum direction counters.old }
+{
     match direction {
-        Direction::Up => Tally::IncrMisses,
-        Direction::Down => Tally::DecrMisses,
+        Direction::Up => up(&mut counters.incr_misses),
+        Direction::Down => up(&mut counters.decr_misses),
     }
 }
 
-/// What is counted where something was counted up or down.
-fn hit_of(direction: Direction) -> Tally {
+/// Counts that something was counted up or down.
+pub fn count_hit(counters: &mut Counters, direction: Direction)
+    ensures { counters.new ≡ sum_made direction counters.old }
+{
     match direction {
-        Direction::Up => Tally::IncrHits,
-        Direction::Down => Tally::DecrHits,
+        Direction::Up => up(&mut counters.incr_hits),
+        Direction::Down => up(&mut counters.decr_hits),
     }
 }
 

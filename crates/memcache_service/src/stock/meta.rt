@@ -1,10 +1,12 @@
 //! The meta commands.
-ghost use Rattle.std.specs.Prelude.{◌≡◌, ◌+◌, ◌≤◌, ◌<◌, ◌^◌, ◌++◌, ◌&&◌, ◌||◌, ℕ, [], not, true, false, codes, if◌then◌else◌, length, take, None, Some, IfOk, OnOk, OnErr, MatchOption, option_map, vec_capacity};
+ghost use Rattle.std.specs.Prelude.{◌≡◌, ◌+◌, ◌≤◌, ◌<◌, ◌^◌, ◌++◌, ◌&&◌, ◌||◌, ℕ, [], not, true, false, codes, if◌then◌else◌, length, take, None, Some, IfOk, OnOk, OnErr, MatchOption, is_some, option_map, vec_capacity};
 ghost use Rattle.std.specs.Option.{option_or};
 ghost use Rattle.memcache_model.specs.Answers.{passes_over};
 ghost use Rattle.memcache_model.specs.Bytes.{tokens};
+ghost use Rattle.memcache_model.specs.Counts.{looked, no_looks, noted, touches};
 ghost use Rattle.memcache_model.specs.Items.{Item};
-ghost use Rattle.memcache_model.specs.Meta.{code_alone, count_fault, flags_fault, goes_on, ends_before, is_other, is_renewed, item_text, meta_answer, meta_arithmetic, meta_compare, meta_counted, meta_get, meta_get_none, meta_item, meta_put, meta_set_answer, meta_stored, mode_of, names_none, retimed_by, set_fault, stored_text, told_to_count, told_to_set, unless_faulty, unless_quiet};
+ghost use Rattle.memcache_model.specs.Statistics.{compared_badly, compared_well, meta_compared, meta_counts, meta_set_counts, meta_summed, sum_made};
+ghost use Rattle.memcache_model.specs.Meta.{code_alone, count_fault, direction_of, flags_fault, goes_on, ends_before, has_flag, exptime_of, is_other, is_renewed, item_text, meta_answer, meta_arithmetic, meta_compare, meta_counted, meta_get, meta_get_none, meta_item, meta_put, meta_set_answer, meta_stored, mode_of, names_none, retimed_by, set_fault, stored_text, told_to_count, told_to_set, unless_faulty, unless_quiet};
 ghost use Rattle.memcache_model.specs.Outcomes.{changes};
 ghost use Rattle.memcache_service.specs.Lines.{reply_text, said_from};
 ghost use Rattle.memcache_service.specs.Shelves.{MayComeAt, live_on};
@@ -16,16 +18,15 @@ use super::flags::{
     count_fault, direction_of, exptime_of, flags_fault, flags_of, has_flag, is_one_of, mode_of,
     number_of, set_fault,
 };
-use super::keys::counted;
+use super::keys::{count_hit, count_miss, counted};
 use super::reading::note_use;
 use super::storing::{before_within, behind_within};
 use super::telling::{Lease, TOLD_TO_COUNT, TOLD_TO_GET, TOLD_TO_SET, Told, say_alone};
-use crate::counters::Tally;
 use crate::item::{Label, StoredItem, deadline_of};
 use crate::replies::Reply;
 use crate::shelf::Shelf;
 use memcache_lines::number;
-use memcache_model::{Exptime, Meta, Storage};
+use memcache_model::{Counters, Exptime, Looks, Meta, Storage, up};
 use std::alloc::{AllocError, Global};
 
 /// Nobody holds a lease, nor wins one.
@@ -59,6 +60,8 @@ impl<T: Shelf> Stock<T> {
             (meta_answer moment kind key.now (tokens flags.now)
             ((stock_at T.view moment self.old).items key.now) (stock_at T.view moment self.old))
             self.old self.new (said_from (length output.old.items) output.new.items reply)) }
+        ensures counts { OnOk result (self.new.counters ≡ meta_counts kind (tokens flags.now)
+            ((stock_at T.view moment self.old).items key.now) self.old.counters) }
         ensures err { OnErr result (Spares self.old self.new) }
         ensures wants { OnErr result (meta_fault kind (tokens flags.now) ≡ None) }
         ensures begun { take (length output.old.items) output.new.items ≡ output.old.items }
@@ -88,6 +91,8 @@ impl<T: Shelf> Stock<T> {
             block.now ((stock_at T.view moment self.old).items key.now)
             (stock_at T.view moment self.old))
             self.old self.new (said_from (length output.old.items) output.new.items reply)) }
+        ensures counts { OnOk result (self.new.counters ≡ meta_set_counts (tokens flags.now)
+            ((stock_at T.view moment self.old).items key.now) self.old.counters) }
         ensures err { OnErr result (Spares self.old self.new) }
         ensures wants { OnErr result (set_fault (tokens flags.now) ≡ None) }
         ensures begun { take (length output.old.items) output.new.items ≡ output.old.items }
@@ -110,6 +115,7 @@ impl<T: Shelf> Stock<T> {
             (unless_faulty (set_fault (tokens flags.now)) (passes_over Storage.Set key.now
             (stock_at T.view moment self.old)) (stock_at T.view moment self.old))
             self.old self.new (reply_text reply)) }
+        ensures counters { self.new.counters ≡ self.old.counters }
         ensures err { OnErr result (Spares self.old self.new) }
         ensures wants { OnErr result (set_fault (tokens flags.now) ≡ None) }
     {
@@ -128,6 +134,10 @@ impl<T: Shelf> Stock<T> {
             ((stock_at T.view asked.entry.moment self.old).items asked.entry.key.now)
             (stock_at T.view asked.entry.moment self.old))
             self.old self.new (said_from (length output.old.items) output.new.items reply)) }
+        ensures counts { OnOk result (self.new.counters ≡ meta_counts Meta.Get
+            (tokens asked.entry.flags.now)
+            ((stock_at T.view asked.entry.moment self.old).items asked.entry.key.now)
+            self.old.counters) }
         ensures err { OnErr result (Spares self.old self.new) }
         ensures wants { OnErr result (flags_fault (tokens asked.entry.flags.now) ≡ None) }
         ensures begun { take (length output.old.items) output.new.items ≡ output.old.items }
@@ -137,14 +147,14 @@ impl<T: Shelf> Stock<T> {
             return Ok(Reply::Fault(error));
         }
         self.key.fill(asked.key)?;
-        self.counters.up(Tally::CmdGet);
         let Some(item) = self.shelf.peek(&self.key, asked.moment) else {
-            self.counters.up(Tally::GetMisses);
-            return self.meta_vivify(asked, output);
+            let reply = self.meta_vivify(asked, output)?;
+            self.counters.look(Looks::one(false));
+            return Ok(reply);
         };
-        self.counters.up(Tally::GetHits);
         let changed = say_found(self.alloc, asked, item, output)?;
         self.renew(changed, asked.moment)?;
+        count_found(&mut self.counters, asked.flags);
         Ok(Reply::Written)
     }
 
@@ -156,6 +166,7 @@ impl<T: Shelf> Stock<T> {
             (live_on (T.view self.old.shelf) moment self.old.key ≡ Some found) (λ c. c ≡ found)
             → OnOk result (LeavesAll T.view moment (changes [] self.old.key (Some found)
             (stock_at T.view moment self.old)).stock self.old self.new) }
+        ensures counters { self.new.counters ≡ self.old.counters }
         ensures err { OnErr result (Spares self.old self.new) }
     {
         match changed {
@@ -175,6 +186,7 @@ impl<T: Shelf> Stock<T> {
             (meta_get asked.entry.moment self.old.key
             (tokens asked.entry.flags.now) None (stock_at T.view asked.entry.moment self.old))
             self.old self.new (said_from (length output.old.items) output.new.items reply)) }
+        ensures counters { self.new.counters ≡ self.old.counters }
         ensures err { OnErr result (Spares self.old self.new) }
         ensures begun { take (length output.old.items) output.new.items ≡ output.old.items }
         ensures capacity { vec_capacity output.old ≤ vec_capacity output.new }
@@ -201,6 +213,7 @@ impl<T: Shelf> Stock<T> {
             (meta_get_none asked.entry.moment self.old.key (tokens asked.entry.flags.now)
             (Some exptime) (stock_at T.view asked.entry.moment self.old))
             self.old self.new (said_from (length output.old.items) output.new.items reply)) }
+        ensures counters { self.new.counters ≡ self.old.counters }
         ensures err { OnErr result (Spares self.old self.new) }
         ensures begun { take (length output.old.items) output.new.items ≡ output.old.items }
         ensures capacity { vec_capacity output.old ≤ vec_capacity output.new }
@@ -237,6 +250,10 @@ impl<T: Shelf> Stock<T> {
             ((stock_at T.view asked.entry.moment self.old).items asked.entry.key.now)
             (stock_at T.view asked.entry.moment self.old))
             self.old self.new (said_from (length output.old.items) output.new.items reply)) }
+        ensures counts { OnOk result (self.new.counters ≡ meta_counts Meta.Delete
+            (tokens asked.entry.flags.now)
+            ((stock_at T.view asked.entry.moment self.old).items asked.entry.key.now)
+            self.old.counters) }
         ensures err { OnErr result (Spares self.old self.new) }
         ensures wants { OnErr result (flags_fault (tokens asked.entry.flags.now) ≡ None) }
         ensures begun { take (length output.old.items) output.new.items ≡ output.old.items }
@@ -247,20 +264,22 @@ impl<T: Shelf> Stock<T> {
         }
         self.key.fill(asked.key)?;
         let Some(item) = self.shelf.peek(&self.key, asked.moment) else {
-            self.counters.up(Tally::DeleteMisses);
-            return refuse(b"NF", asked, output);
+            let reply = refuse(b"NF", asked, output)?;
+            up(&mut self.counters.delete_misses);
+            return Ok(reply);
         };
         if is_other(asked.flags, item) {
-            self.counters.up(Tally::DeleteMisses);
-            return refuse(b"EX", asked, output);
+            let reply = refuse(b"EX", asked, output)?;
+            up(&mut self.counters.delete_misses);
+            return Ok(reply);
         }
         say_deleted(asked, output)?;
-        self.counters.up(Tally::DeleteHits);
         if has_flag(b'I', asked.flags) {
             let changed = stale_item(self.alloc, asked, item)?;
             self.put(changed, asked.moment)?;
         } else {
             self.shelf.remove(&self.key, asked.moment)?;
+            up(&mut self.counters.delete_hits);
         }
         Ok(Reply::Written)
     }
@@ -278,6 +297,10 @@ impl<T: Shelf> Stock<T> {
             ((stock_at T.view asked.entry.moment self.old).items asked.entry.key.now)
             (stock_at T.view asked.entry.moment self.old))
             self.old self.new (said_from (length output.old.items) output.new.items reply)) }
+        ensures counts { OnOk result (self.new.counters ≡ meta_counts Meta.Arithmetic
+            (tokens asked.entry.flags.now)
+            ((stock_at T.view asked.entry.moment self.old).items asked.entry.key.now)
+            self.old.counters) }
         ensures err { OnErr result (Spares self.old self.new) }
         ensures wants { OnErr result (count_fault (tokens asked.entry.flags.now) ≡ None) }
         ensures begun { take (length output.old.items) output.new.items ≡ output.old.items }
@@ -301,8 +324,33 @@ impl<T: Shelf> Stock<T> {
         let mut label = item.label();
         label.deadline = retimed(asked, item);
         let changed = StoredItem::of_number(self.alloc, count, label)?;
+        self.put_sum(asked, changed, output)
+    }
+
+    /// Stores a number that was counted up or down, and tells it, unless the request is quiet.
+    fn put_sum(
+        &mut self,
+        asked: Asked<'_>,
+        item: StoredItem,
+        output: &mut Vec<u8>,
+    ) -> Result<Reply, AllocError>
+        requires in_time { MayComeAt (T.view self.old.shelf) asked.moment }
+        requires named { self.old.key ≡ asked.key.now }
+        ensures ok { IfOk result (λ reply. Did T.view asked.entry.moment
+            (meta_counted asked.entry.moment (has_flag (codes "q") (tokens asked.entry.flags.now))
+            self.old.key (tokens asked.entry.flags.now) item
+            (stock_at T.view asked.entry.moment self.old))
+            self.old self.new (said_from (length output.old.items) output.new.items reply)) }
+        ensures counts { OnOk result (self.new.counters
+            ≡ sum_made (direction_of (tokens asked.entry.flags.now)) self.old.counters) }
+        ensures err { OnErr result (Spares self.old self.new) }
+        ensures begun { take (length output.old.items) output.new.items ≡ output.old.items }
+        ensures capacity { vec_capacity output.old ≤ vec_capacity output.new }
+    {
         let is_quiet = has_flag(b'q', asked.flags);
-        self.put_number(asked, is_quiet, changed, output)
+        let reply = self.put_number(asked, is_quiet, item, output)?;
+        count_hit(&mut self.counters, direction_of(asked.flags));
+        Ok(reply)
     }
 
     /// `ma` of a key without a live item.
@@ -313,12 +361,16 @@ impl<T: Shelf> Stock<T> {
             (meta_arithmetic asked.entry.moment self.old.key
             (tokens asked.entry.flags.now) None (stock_at T.view asked.entry.moment self.old))
             self.old self.new (said_from (length output.old.items) output.new.items reply)) }
+        ensures counts { OnOk result (self.new.counters
+            ≡ meta_summed (tokens asked.entry.flags.now) None self.old.counters) }
         ensures err { OnErr result (Spares self.old self.new) }
         ensures begun { take (length output.old.items) output.new.items ≡ output.old.items }
         ensures capacity { vec_capacity output.old ≤ vec_capacity output.new }
     {
         let Some(exptime) = exptime_of(b'N', asked.flags) else {
-            return refuse(b"NF", asked, output);
+            let reply = refuse(b"NF", asked, output)?;
+            count_miss(&mut self.counters, direction_of(asked.flags));
+            return Ok(reply);
         };
         let first = number_of(b'J', asked.flags).unwrap_or(0);
         let deadline = deadline_of(asked.moment, exptime);
@@ -340,6 +392,7 @@ impl<T: Shelf> Stock<T> {
             (meta_counted asked.entry.moment is_quiet self.old.key
             (tokens asked.entry.flags.now) item (stock_at T.view asked.entry.moment self.old))
             self.old self.new (said_from (length output.old.items) output.new.items reply)) }
+        ensures counters { self.new.counters ≡ self.old.counters }
         ensures err { OnErr result (Spares self.old self.new) }
         ensures begun { take (length output.old.items) output.new.items ≡ output.old.items }
         ensures capacity { vec_capacity output.old ≤ vec_capacity output.new }
@@ -363,23 +416,28 @@ impl<T: Shelf> Stock<T> {
             ((stock_at T.view asked.entry.moment self.old).items asked.entry.key.now)
             (stock_at T.view asked.entry.moment self.old))
             self.old self.new (said_from (length output.old.items) output.new.items reply)) }
+        ensures counts { OnOk result (self.new.counters ≡ meta_set_counts
+            (tokens asked.entry.flags.now)
+            ((stock_at T.view asked.entry.moment self.old).items asked.entry.key.now)
+            self.old.counters) }
         ensures err { OnErr result (Spares self.old self.new) }
         ensures wants { OnErr result (set_fault (tokens asked.entry.flags.now) ≡ None) }
         ensures begun { take (length output.old.items) output.new.items ≡ output.old.items }
         ensures capacity { vec_capacity output.old ≤ vec_capacity output.new }
     {
-        self.counters.up(Tally::CmdSet);
         if let Some(error) = set_fault(asked.flags) {
             return Ok(Reply::Fault(error));
         }
         self.key.fill(asked.key)?;
-        match number_of(b'C', asked.flags) {
-            Some(unique) => self.meta_compare(asked, unique, block, output),
+        let reply = match number_of(b'C', asked.flags) {
+            Some(unique) => self.meta_compare(asked, unique, block, output)?,
             None => {
                 let mode = mode_of(b'S', asked.flags);
-                self.meta_put_by_mode(asked, mode, block, output)
+                self.meta_put_by_mode(asked, mode, block, output)?
             }
-        }
+        };
+        up(&mut self.counters.cmd_set);
+        Ok(reply)
     }
 
     /// `ms` with a unique.
@@ -401,6 +459,11 @@ impl<T: Shelf> Stock<T> {
             ((stock_at T.view asked.entry.moment self.old).items self.old.key)
             (stock_at T.view asked.entry.moment self.old))
             self.old self.new (said_from (length output.old.items) output.new.items reply)) }
+        ensures counts { OnOk result (self.new.counters ≡ meta_compared
+            (mode_of (codes "S") (tokens asked.entry.flags.now)) unique
+            (tokens asked.entry.flags.now)
+            ((stock_at T.view asked.entry.moment self.old).items self.old.key)
+            self.old.counters) }
         ensures err { OnErr result (Spares self.old self.new) }
         ensures begun { take (length output.old.items) output.new.items ≡ output.old.items }
         ensures capacity { vec_capacity output.old ≤ vec_capacity output.new }
@@ -410,15 +473,15 @@ impl<T: Shelf> Stock<T> {
             return self.meta_compare_none(asked, mode, block, output);
         };
         if goes_on(mode, unique, held) {
-            self.counters.up(Tally::CasHits);
-            return self.meta_put_by_mode(asked, mode, block, output);
+            return self.meta_put_matched(asked, mode, block, output);
         }
         if !is_renewed(mode, unique, asked.flags, held) {
-            self.counters.up(Tally::CasBadval);
-            return refuse(b"EX", asked, output);
+            let reply = refuse(b"EX", asked, output)?;
+            count_compared(&mut self.counters, mode, false);
+            return Ok(reply);
         }
         let item = renewed_item(self.alloc, asked, block, held)?;
-        self.put_told(asked, item, output)
+        self.put_renewed(asked, mode, item, output)
     }
 
     /// `ms` with a unique, of a key without a live item.
@@ -438,15 +501,47 @@ impl<T: Shelf> Stock<T> {
             (meta_item asked.entry.moment (tokens asked.entry.flags.now) block.now)
             None (stock_at T.view asked.entry.moment self.old))
             self.old self.new (said_from (length output.old.items) output.new.items reply)) }
+        ensures counts { (unique : ℕ) → OnOk result (self.new.counters ≡ meta_compared mode unique
+            (tokens asked.entry.flags.now) None self.old.counters) }
         ensures err { OnErr result (Spares self.old self.new) }
         ensures begun { take (length output.old.items) output.new.items ≡ output.old.items }
         ensures capacity { vec_capacity output.old ≤ vec_capacity output.new }
     {
         if is_one_of(b"SR", mode) {
-            self.counters.up(Tally::CasMisses);
-            return refuse(b"NF", asked, output);
+            let reply = refuse(b"NF", asked, output)?;
+            up(&mut self.counters.cas_misses);
+            return Ok(reply);
         }
         self.meta_put_by_mode(asked, mode, block, output)
+    }
+
+    /// Stores a block by its mode over an item that the unique allows.
+    fn meta_put_matched(
+        &mut self,
+        asked: Asked<'_>,
+        mode: u8,
+        block: &[u8],
+        output: &mut Vec<u8>,
+    ) -> Result<Reply, AllocError>
+        requires in_time { MayComeAt (T.view self.old.shelf) asked.moment }
+        requires named { self.old.key ≡ asked.key.now }
+        ensures ok { IfOk result (λ reply. Did T.view asked.entry.moment
+            (meta_put self.old.most asked.entry.moment mode self.old.key
+            (tokens asked.entry.flags.now)
+            (meta_item asked.entry.moment
+            (tokens asked.entry.flags.now) block.now)
+            ((stock_at T.view asked.entry.moment self.old).items self.old.key)
+            (stock_at T.view asked.entry.moment self.old))
+            self.old self.new (said_from (length output.old.items) output.new.items reply)) }
+        ensures counts { OnOk result
+            (self.new.counters ≡ compared_well mode self.old.counters) }
+        ensures err { OnErr result (Spares self.old self.new) }
+        ensures begun { take (length output.old.items) output.new.items ≡ output.old.items }
+        ensures capacity { vec_capacity output.old ≤ vec_capacity output.new }
+    {
+        let reply = self.meta_put_by_mode(asked, mode, block, output)?;
+        count_compared(&mut self.counters, mode, true);
+        Ok(reply)
     }
 
     /// Stores a block by its mode.
@@ -467,6 +562,7 @@ impl<T: Shelf> Stock<T> {
             ((stock_at T.view asked.entry.moment self.old).items self.old.key)
             (stock_at T.view asked.entry.moment self.old))
             self.old self.new (said_from (length output.old.items) output.new.items reply)) }
+        ensures counters { self.new.counters ≡ self.old.counters }
         ensures err { OnErr result (Spares self.old self.new) }
         ensures begun { take (length output.old.items) output.new.items ≡ output.old.items }
         ensures capacity { vec_capacity output.old ≤ vec_capacity output.new }
@@ -476,6 +572,31 @@ impl<T: Shelf> Stock<T> {
             Some(item) => self.put_told(asked, item, output),
             None => refuse(b"NS", asked, output),
         }
+    }
+
+    /// Stores an item that an earlier unique is enough for, and tells that it is stored.
+    fn put_renewed(
+        &mut self,
+        asked: Asked<'_>,
+        mode: u8,
+        item: StoredItem,
+        output: &mut Vec<u8>,
+    ) -> Result<Reply, AllocError>
+        requires in_time { MayComeAt (T.view self.old.shelf) asked.moment }
+        requires named { self.old.key ≡ asked.key.now }
+        ensures ok { IfOk result (λ reply. Did T.view asked.entry.moment
+            (meta_stored asked.entry.moment self.old.key
+            (tokens asked.entry.flags.now) item (stock_at T.view asked.entry.moment self.old))
+            self.old self.new (said_from (length output.old.items) output.new.items reply)) }
+        ensures counts { OnOk result
+            (self.new.counters ≡ compared_well mode self.old.counters) }
+        ensures err { OnErr result (Spares self.old self.new) }
+        ensures begun { take (length output.old.items) output.new.items ≡ output.old.items }
+        ensures capacity { vec_capacity output.old ≤ vec_capacity output.new }
+    {
+        let reply = self.put_told(asked, item, output)?;
+        count_compared(&mut self.counters, mode, true);
+        Ok(reply)
     }
 
     /// Stores an item, and tells that it is stored.
@@ -491,6 +612,7 @@ impl<T: Shelf> Stock<T> {
             (meta_stored asked.entry.moment self.old.key
             (tokens asked.entry.flags.now) item (stock_at T.view asked.entry.moment self.old))
             self.old self.new (said_from (length output.old.items) output.new.items reply)) }
+        ensures counters { self.new.counters ≡ self.old.counters }
         ensures err { OnErr result (Spares self.old self.new) }
         ensures begun { take (length output.old.items) output.new.items ≡ output.old.items }
         ensures capacity { vec_capacity output.old ≤ vec_capacity output.new }
@@ -498,6 +620,35 @@ impl<T: Shelf> Stock<T> {
         say_stored(asked, &item, self.next_unique(), output)?;
         self.put(item, asked.moment)?;
         Ok(Reply::Written)
+    }
+}
+
+/// Counts that a `mg` with these flags found an item: with a `T` it touches it.
+fn count_found(counters: &mut Counters, flags: &[u8])
+    ensures { counters.new ≡ (if is_some (exptime_of (codes "T") (tokens flags.now))
+        then touches (noted true no_looks) counters.old
+        else looked (noted true no_looks) counters.old) }
+{
+    let found = Looks::one(true);
+    if exptime_of(b'T', flags).is_some() {
+        counters.touch(found);
+    } else {
+        counters.look(found);
+    }
+}
+
+/// Counts that a `ms` compared a unique well or badly: only to set or replace is to compare it.
+fn count_compared(counters: &mut Counters, mode: u8, is_well: bool)
+    ensures { counters.new ≡ (if is_well then compared_well mode counters.old
+        else compared_badly mode counters.old) }
+{
+    if !is_one_of(b"SR", mode) {
+        return;
+    }
+    if is_well {
+        up(&mut counters.cas_hits);
+    } else {
+        up(&mut counters.cas_badval);
     }
 }
 

@@ -1,21 +1,22 @@
 //! `get` and `gat`.
-ghost use Rattle.std.specs.Prelude.{◌≡◌, ℕ, ◌≤◌, ◌∷◌, ◌++◌, [], codes, take, length, option_map, vec_capacity, IfOk, IsOk, OnOk, OnErr};
+ghost use Rattle.std.specs.Prelude.{◌≡◌, ℕ, ◌≤◌, ◌∷◌, ◌++◌, [], codes, take, length, is_some, option_map, vec_capacity, IfOk, IsOk, MatchResult, OnOk, OnErr};
 ghost use Rattle.memcache_model.specs.Answers.{tells_items, touches_one};
 ghost use Rattle.memcache_model.specs.Bytes.{tokens};
+ghost use Rattle.memcache_model.specs.Counts.{looked, no_looks, touches};
 ghost use Rattle.memcache_model.specs.Items.{exptime_deadline};
 ghost use Rattle.memcache_model.specs.Replies.{values_text};
+ghost use Rattle.memcache_model.specs.Statistics.{sought};
 ghost use Rattle.memcache_service.specs.Shelves.{Becomes, MayComeAt, UsesOne, live_on, lone_key};
-ghost use Rattle.memcache_service.specs.Stocks.{Did, LeavesStock, Spares, Touches, stock_at};
+ghost use Rattle.memcache_service.specs.Stocks.{Did, LeavesStock, Spares, Touches, stock_at, touch_reply};
 ghost use Rattle.memcache_service.specs.Lines.{reply_text};
 
 use super::Stock;
-use crate::counters::Tally;
 use crate::item::{StoredItem, deadline_of};
 use crate::replies::{Reply, say, say_value, say_whole};
 use crate::shelf::Shelf;
 use audit_model::Key;
 use memcache_lines::next_token;
-use memcache_model::Exptime;
+use memcache_model::{Exptime, Looks};
 use std::alloc::AllocError;
 
 /// A reply has at most this many bytes: 64 MiB.
@@ -40,6 +41,8 @@ impl<T: Shelf> Stock<T> {
         ensures keeps { LeavesStock T.view moment self.old self.new }
         ensures used { OnOk result
             (UsesOne T.uses moment (tokens keys.now) self.old.shelf self.new.shelf) }
+        ensures counts { OnOk result (self.new.counters ≡ looked (sought
+            (stock_at T.view moment self.old).items (tokens keys.now) no_looks) self.old.counters) }
         ensures err { OnErr result (Spares self.old self.new) }
     {
         match only_token(keys) {
@@ -65,13 +68,15 @@ impl<T: Shelf> Stock<T> {
         ensures capacity { vec_capacity output.old ≤ vec_capacity output.new }
         ensures keeps { LeavesStock T.view moment self.old self.new }
         ensures used { OnOk result (T.uses moment key.now self.old.shelf self.new.shelf) }
+        ensures counts { OnOk result (self.new.counters ≡ looked (sought
+            (stock_at T.view moment self.old).items (key.now ∷ []) no_looks) self.old.counters) }
         ensures err { OnErr result (Spares self.old self.new) }
     {
         self.key.fill(key)?;
         let found = self.shelf.look(&self.key, moment, output, |found, output| {
             say_only(output, uniques, key, found)
         })?;
-        self.count_look(found);
+        self.counters.look(Looks::one(found));
         Ok(Reply::Written)
     }
 
@@ -90,17 +95,21 @@ impl<T: Shelf> Stock<T> {
         ensures begun { take (length output.old.items) output.new.items ≡ output.old.items }
         ensures capacity { vec_capacity output.old ≤ vec_capacity output.new }
         ensures keeps { LeavesStock T.view moment self.old self.new }
+        ensures counts { OnOk result (self.new.counters ≡ looked (sought
+            (stock_at T.view moment self.old).items (tokens keys.now) no_looks) self.old.counters) }
         ensures err { OnErr result (Spares self.old self.new) }
     {
-        say_live(&self.shelf, &mut self.key, uniques, keys, moment, output)?;
+        let looks = say_live(&self.shelf, &mut self.key, uniques, keys, moment, output)?;
         self.use_all(keys, moment);
+        self.counters.look(looks);
         Ok(Reply::Written)
     }
 
     /// Uses the live items of the keys.
     fn use_all(&mut self, keys: &[u8], moment: u64)
         requires { MayComeAt (T.view self.old.shelf) moment }
-        ensures { LeavesStock T.view moment self.old self.new }
+        ensures stock { LeavesStock T.view moment self.old self.new }
+        ensures counters { self.new.counters ≡ self.old.counters }
     {
         let mut rest = keys;
         while let Some((key, behind)) = next_token(rest) {
@@ -109,27 +118,15 @@ impl<T: Shelf> Stock<T> {
         }
     }
 
-    /// Uses the live item of a key, and counts whether it is there.
+    /// Uses the live item of a key, if it is there.
     fn use_one(&mut self, key: &[u8], moment: u64)
         requires { MayComeAt (T.view self.old.shelf) moment }
-        ensures { LeavesStock T.view moment self.old self.new }
+        ensures stock { LeavesStock T.view moment self.old self.new }
+        ensures counters { self.new.counters ≡ self.old.counters }
     {
         if self.key.fill(key).is_ok() {
-            let found = note_use(&mut self.shelf, &self.key, moment);
-            self.count_look(found);
+            note_use(&mut self.shelf, &self.key, moment);
         }
-    }
-
-    /// Counts a look-up that found an item, or none.
-    fn count_look(&mut self, found: bool)
-        ensures { self.new ≡ record self.old { counters = self.new.counters } }
-    {
-        self.counters.up(Tally::CmdGet);
-        self.counters.up(if found {
-            Tally::GetHits
-        } else {
-            Tally::GetMisses
-        });
     }
 
     /// Appends the live items of the keys to `output`, gives them another expiry, and returns the rest of the reply. Returns an error if
@@ -150,15 +147,19 @@ impl<T: Shelf> Stock<T> {
         ensures capacity { vec_capacity output.old ≤ vec_capacity output.new }
         ensures ok { OnOk result (Touches T.view moment (exptime_deadline moment exptime)
             (tokens keys.now) self.old self.new) }
+        ensures counts { MatchResult result (λ reply. self.new.counters ≡ touches (sought
+            (stock_at T.view moment self.old).items (tokens keys.now) no_looks) self.old.counters)
+            (λ e. self.new.counters ≡ self.old.counters) }
         ensures err { OnErr result ((count : ℕ)
             × Touches T.view moment (exptime_deadline moment exptime)
             (take count (tokens keys.now)) self.old self.new) }
         ensures may_follow { MayComeAt (T.view self.new.shelf) moment }
         ensures most { self.new.most ≡ self.old.most }
     {
-        say_live(&self.shelf, &mut self.key, uniques, keys, moment, output)?;
+        let looks = say_live(&self.shelf, &mut self.key, uniques, keys, moment, output)?;
         let deadline = deadline_of(moment, exptime);
         self.touch_all(keys, deadline, moment)?;
+        self.counters.touch(looks);
         Ok(Reply::Written)
     }
 
@@ -174,6 +175,7 @@ impl<T: Shelf> Stock<T> {
             (Touches T.view moment deadline (tokens keys.now) self.old self.new) }
         ensures err { OnErr result ((count : ℕ) × Touches T.view moment deadline
             (take count (tokens keys.now)) self.old self.new) }
+        ensures counters { self.new.counters ≡ self.old.counters }
         ensures may_follow { MayComeAt (T.view self.new.shelf) moment }
         ensures most { self.new.most ≡ self.old.most }
     {
@@ -194,16 +196,16 @@ impl<T: Shelf> Stock<T> {
             ((stock_at T.view moment self.old).items self.old.key)
             (stock_at T.view moment self.old))
             self.old self.new (reply_text reply)) }
+        ensures reply { IfOk result (λ reply. reply
+            ≡ touch_reply ((stock_at T.view moment self.old).items self.old.key)) }
+        ensures counters { self.new.counters ≡ self.old.counters }
         ensures err { OnErr result (Spares self.old self.new) }
     {
-        self.counters.up(Tally::CmdTouch);
         let Some(old) = self.shelf.peek(&self.key, moment) else {
-            self.counters.up(Tally::TouchMisses);
             return Ok(Reply::NotFound);
         };
         let item = old.with_deadline(self.alloc, deadline)?;
         self.shelf.put(&self.key, item, moment)?;
-        self.counters.up(Tally::TouchHits);
         Ok(Reply::Touched)
     }
 }
@@ -219,7 +221,7 @@ fn only_token(keys: &[u8]) -> Option<&[u8]>
     }
 }
 
-/// Writes the live items of the keys, and the end.
+/// Writes the live items of the keys, and the end, and returns how many there are.
 fn say_live<T: Shelf>(
     shelf: &T,
     key: &mut Key,
@@ -227,41 +229,51 @@ fn say_live<T: Shelf>(
     keys: &[u8],
     moment: u64,
     output: &mut Vec<u8>,
-) -> Result<(), AllocError>
+) -> Result<Looks, AllocError>
     requires { MayComeAt (T.view shelf.now) moment }
+    ensures looks { IfOk result (λ looks. looks
+        ≡ sought (live_on (T.view shelf.now) moment) (tokens keys.now) no_looks) }
     ensures told { OnOk result (output.new.items ≡ output.old.items
         ++ tells_items uniques (tokens keys.now) (live_on (T.view shelf.now) moment)) }
     ensures begun { take (length output.old.items) output.new.items ≡ output.old.items }
     ensures capacity { vec_capacity output.old ≤ vec_capacity output.new }
 {
     let start = output.len();
+    let mut looks = Looks::none();
     let mut rest = keys;
     while let Some((word, behind)) = next_token(rest) {
         key.fill(word)?;
-        say_one(shelf, key, uniques, moment, output)?;
+        let found = say_one(shelf, key, uniques, moment, output)?;
+        looks.note(found);
         check_size(start, output.len())?;
         rest = behind;
     }
-    say(output, b"END\r\n")
+    say(output, b"END\r\n")?;
+    Ok(looks)
 }
 
-/// Writes the live item of a key, if there is one. If it is refused, nothing is written.
+/// Writes the live item of a key, if there is one, and returns whether there is. If it is refused, nothing is written.
 fn say_one<T: Shelf>(
     shelf: &T,
     key: &Key,
     uniques: bool,
     moment: u64,
     output: &mut Vec<u8>,
-) -> Result<(), AllocError>
+) -> Result<bool, AllocError>
     requires { MayComeAt (T.view shelf.now) moment }
     ensures ok { OnOk result (output.new.items ≡ output.old.items
         ++ values_text uniques key.now (live_on (T.view shelf.now) moment key.now)) }
+    ensures found { IfOk result (λ found. found
+        ≡ is_some (live_on (T.view shelf.now) moment key.now)) }
     ensures err { OnErr result (output.new.items ≡ output.old.items) }
     ensures capacity { vec_capacity output.old ≤ vec_capacity output.new }
 {
     match shelf.peek(key, moment) {
-        Some(item) => say_value(output, uniques, key.as_bytes(), item),
-        None => Ok(()),
+        Some(item) => {
+            say_value(output, uniques, key.as_bytes(), item)?;
+            Ok(true)
+        }
+        None => Ok(false),
     }
 }
 
@@ -276,6 +288,8 @@ fn say_only(
     ensures ok { OnOk result (output.new.items ≡ output.old.items
         ++ (values_text uniques key.now (option_map (λ item. item.now) found.entry)
         ++ codes "END\r\n")) }
+    ensures found { IfOk result (λ is_there. is_there
+        ≡ is_some (option_map (λ item. item.now) found.entry)) }
     ensures err { OnErr result (output.new.items ≡ output.old.items) }
     ensures capacity { vec_capacity output.old ≤ vec_capacity output.new }
 {

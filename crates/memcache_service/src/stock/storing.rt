@@ -4,16 +4,16 @@ ghost use Rattle.memcache_model.specs.Answers.{passes_over, store_over};
 ghost use Rattle.memcache_model.specs.Commands.{oversize};
 ghost use Rattle.memcache_model.specs.Outcomes.{new_item, stores_item};
 ghost use Rattle.memcache_model.specs.Items.{exptime_deadline};
+ghost use Rattle.memcache_model.specs.Statistics.{compared, storage_counts, stores};
 ghost use Rattle.memcache_service.specs.Shelves.{MayComeAt};
 ghost use Rattle.memcache_service.specs.Stocks.{Did, LeavesAll, Spares, block_item, appends_to, may_want, stock_at};
 ghost use Rattle.memcache_service.specs.Lines.{reply_text};
 
 use super::Stock;
-use crate::counters::Tally;
 use crate::item::{StoredItem, deadline_of, unique_behind};
 use crate::replies::Reply;
 use crate::shelf::Shelf;
-use memcache_model::{Exptime, Storage};
+use memcache_model::{Exptime, Storage, up};
 use std::alloc::{AllocError, Global};
 
 /// A block that a storage command brings, with its flags and when it expires.
@@ -53,20 +53,20 @@ impl<T: Shelf> Stock<T> {
             key.now (new_item bytes.now flags (exptime_deadline moment exptime))
             ((stock_at T.view moment self.old).items key.now) (stock_at T.view moment self.old))
             self.old self.new (reply_text reply)) }
+        ensures counts { OnOk result (self.new.counters ≡ stores (storage_counts storage
+            ((stock_at T.view moment self.old).items key.now) self.old.counters)) }
         ensures err { OnErr result (Spares self.old self.new) }
     {
-        self.counters.up(Tally::CmdSet);
         self.key.fill(key)?;
         let deadline = deadline_of(moment, exptime);
-        self.store_block(
-            storage,
-            Block {
-                bytes,
-                flags,
-                deadline,
-            },
-            moment,
-        )
+        let block = Block {
+            bytes,
+            flags,
+            deadline,
+        };
+        let reply = self.store_block(storage, block, moment)?;
+        up(&mut self.counters.cmd_set);
+        Ok(reply)
     }
 
     /// Stores a block under the key that was named.
@@ -82,6 +82,8 @@ impl<T: Shelf> Stock<T> {
             ((stock_at T.view moment self.old).items self.old.key)
             (stock_at T.view moment self.old))
             self.old self.new (reply_text reply)) }
+        ensures counts { OnOk result (self.new.counters ≡ storage_counts storage
+            ((stock_at T.view moment self.old).items self.old.key) self.old.counters) }
         ensures err { OnErr result (Spares self.old self.new) }
     {
         match storage {
@@ -106,6 +108,7 @@ impl<T: Shelf> Stock<T> {
         ensures ok { IfOk result (λ reply. (reply ≡ Reply.Stored) × LeavesAll T.view moment
             (stores_item [] self.old.key (block_item block.entry)
             (stock_at T.view moment self.old)).stock self.old self.new) }
+        ensures counters { self.new.counters ≡ self.old.counters }
         ensures err { OnErr result (Spares self.old self.new) }
     {
         let item = block.item(self.alloc)?;
@@ -121,6 +124,7 @@ impl<T: Shelf> Stock<T> {
         ensures ok { OnOk result (LeavesAll T.view moment
             (stores_item [] self.old.key item (stock_at T.view moment self.old)).stock self.old
             self.new) }
+        ensures counters { self.new.counters ≡ self.old.counters }
         ensures err { OnErr result (Spares self.old self.new) }
     {
         let Some(unique) = unique_behind(self.uniques) else {
@@ -128,7 +132,6 @@ impl<T: Shelf> Stock<T> {
         };
         self.shelf.put(&self.key, item.with_unique(unique), moment)?;
         self.uniques = unique;
-        self.counters.up(Tally::TotalItems);
         Ok(())
     }
 
@@ -140,6 +143,7 @@ impl<T: Shelf> Stock<T> {
             ((stock_at T.view moment self.old).items self.old.key)
             (stock_at T.view moment self.old))
             self.old self.new (reply_text reply)) }
+        ensures counters { self.new.counters ≡ self.old.counters }
         ensures err { OnErr result (Spares self.old self.new) }
     {
         match self.shelf.peek(&self.key, moment) {
@@ -159,6 +163,7 @@ impl<T: Shelf> Stock<T> {
             ((stock_at T.view moment self.old).items self.old.key)
             (stock_at T.view moment self.old))
             self.old self.new (reply_text reply)) }
+        ensures counters { self.new.counters ≡ self.old.counters }
         ensures err { OnErr result (Spares self.old self.new) }
     {
         match self.shelf.peek(&self.key, moment) {
@@ -175,6 +180,7 @@ impl<T: Shelf> Stock<T> {
         requires { MayComeAt (T.view self.old.shelf) moment }
         ensures ok { IfOk result (λ reply. Did T.view moment (appends_to self.old.key item
             (stock_at T.view moment self.old)) self.old self.new (reply_text reply)) }
+        ensures counters { self.new.counters ≡ self.old.counters }
         ensures err { OnErr result (Spares self.old self.new) }
     {
         match item {
@@ -194,18 +200,21 @@ impl<T: Shelf> Stock<T> {
             ((stock_at T.view moment self.old).items self.old.key)
             (stock_at T.view moment self.old))
             self.old self.new (reply_text reply)) }
+        ensures counts { OnOk result (self.new.counters ≡ compared unique
+            ((stock_at T.view moment self.old).items self.old.key) self.old.counters) }
         ensures err { OnErr result (Spares self.old self.new) }
     {
         let Some(item) = self.shelf.peek(&self.key, moment) else {
-            self.counters.up(Tally::CasMisses);
+            up(&mut self.counters.cas_misses);
             return Ok(Reply::NotFound);
         };
         if item.unique() != unique {
-            self.counters.up(Tally::CasBadval);
+            up(&mut self.counters.cas_badval);
             return Ok(Reply::Exists);
         }
-        self.counters.up(Tally::CasHits);
-        self.put_block(block, moment)
+        let reply = self.put_block(block, moment)?;
+        up(&mut self.counters.cas_hits);
+        Ok(reply)
     }
 
     /// Passes over a block that was too large, and returns the reply. The item that a `set` was to replace is removed. Returns an error if
@@ -220,9 +229,9 @@ impl<T: Shelf> Stock<T> {
         ensures ok { IfOk result (λ reply. Did T.view moment (passes_over storage key.now
             (stock_at T.view moment self.old)) self.old self.new (reply_text reply)) }
         ensures err { OnErr result (Spares self.old self.new) }
+        ensures counters { self.new.counters ≡ self.old.counters }
         ensures wants { OnErr result (may_want (oversize storage key.now) ≡ true) }
     {
-        self.counters.up(Tally::CmdSet);
         match storage {
             Storage::Set => {
                 self.key.fill(key)?;

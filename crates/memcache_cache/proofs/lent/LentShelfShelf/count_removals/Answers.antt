@@ -2,12 +2,12 @@ use Rattle.std.proofs.Common.{ap, refl, subst, sym, ◌∙◌}
 use Rattle.std.specs.Cmp.Lexicographic.{nat_list_eq_equiv}
 use Rattle.memcache_cache.proofs.Bounding.{notice_keeps}
 use Rattle.memcache_cache.specs.Weights.{IsItemCache}
-use Rattle.memcache_cache.proofs.Calls.{item_ways, notice_shows, one_less, told_more}
+use Rattle.memcache_cache.proofs.Calls.{item_ways, notice_shows, counted_on, one_less, told_more}
 use Rattle.memcache_cache.specs.Showing.{shelved_by}
 use Rattle.memcache_cache.proofs.lent.LentShelfShelf.count_removals.Goals as goal
 
 pub loop-notice-init : goal.loop-notice-init
-loop-notice-init g c = record { shows = refl; told = (0, refl) }
+loop-notice-init g c = record { shows = refl; told = (0, refl); only = refl }
 
 pub loop-notice-preserved : goal.loop-notice-preserved
 loop-notice-preserved g c =
@@ -15,6 +15,7 @@ loop-notice-preserved g c =
     record {
       shows = ap (λ cache. shelved_by ways cache) c.next_notice.ensures.taken ∙ notice_shows ways nat_list_eq_equiv (λ a b. refl) c.loop-notice.self.cache ∙ c.loop-notice.invariant.shows;
       told = told_more c.args.self.now.cache c.loop-notice.self.cache c.next_notice.new.self c.loop-notice.invariant.told c.next_notice.ensures.taken;
+      only = counted_on c.args.counters.now c.loop-notice.counters c.count_removal.new.counters c.loop-notice.invariant.only c.count_removal.ensures;
     }
 
 pub loop-notice-smaller : goal.loop-notice-smaller

@@ -1,6 +1,7 @@
-use Rattle.std.proofs.Common.{◌≡◌, Some, is_some, ap, refl, sym}
+use Rattle.std.proofs.Common.{◌≡◌, ◌∙◌, ℕ, Some, is_some, ap, sym}
 use Rattle.slab.proofs.SlabLemmas.{Updates-with_value}
 use Rattle.slab.specs.Slab.{get}
+use Rattle.memcache_model.specs.Counts.{added}
 use Rattle.memcache_service.proofs.service.Service.take_output.Goals as goal
 
 pub returns-in-Some-clause-takes : goal.returns-in-Some-clause-takes
@@ -9,8 +10,7 @@ returns-in-Some-clause-takes g c = λ _.
     record {
       before = c.in-Some.connection.now;
       after = c.take_output.new.self;
-      counted = c.add.new.self;
       was = was;
       is = Updates-with_value c.args.self.now.connections c.args.conn c.take_output.new.self (ap is_some was);
-      done = (c.take_output.ensures.taken, c.take_output.ensures.left, refl);
+      done = (c.take_output.ensures.taken, c.take_output.ensures.left, ap (λ (n : ℕ). record c.args.self.now.stock { counters = record c.args.self.now.stock.counters { bytes_written = n } }) (c.add.ensures ∙ ap (added c.args.self.now.stock.counters.bytes_written) (c.len.ensures ∙ c.take_output.new.into.ok.0)));
     }
