@@ -15,9 +15,11 @@ ROOT = pathlib.Path(__file__).resolve().parent.parent
 
 # What a figure may be at most. Lower a bound when the figure falls; it is not raised without a reason in the commit.
 BOUNDS = {
-    "splits by hand": 111,
-    # (six tell what becomes of a loop's loads, sixteen what it does for its connections, ten what a connection is owed)
-    "relations of the service's specs": 549,
+    # (one tells how a call of a shared cache that makes a value begins)
+    "splits by hand": 112,
+    # (six tell what becomes of a loop's loads, sixteen what it does for its connections, ten what a connection is owed, eleven of the history
+    # of all holds)
+    "relations of the service's specs": 560,
     "names of relations in several crates": 0,
     "names of functions in several crates": 0,
 }

@@ -15,7 +15,7 @@ use audit_model::Config;
 use bivrangd_metrics::{Facts, Metrics, Resources, Source, unix_time};
 use cache_link::Room;
 use cache_loop::Rules;
-use cache_shared::{Seating, Shareable, SharedService};
+use cache_shared::{Books, Seating, Shareable, SharedService};
 use cache_spaces::Service;
 use cached_config::{HostedNamespace, Hosting, Notices, Protocol};
 use cached_server::{Cause, Ending, Fault, Machine, Outlet, Site, make_service};
@@ -28,7 +28,6 @@ use std::alloc::{AllocError, Global};
 use std::io::Write;
 use std::marker::Brand;
 use std::rt::Files;
-use std::sync::ledger::Blank;
 use std::sync::{Arc, Wait};
 use std::{thread, time};
 
@@ -178,7 +177,8 @@ impl<R: Machine> House<R> {
         match plan.protocol {
             Protocol::Lines => {
                 let core = make_service(&self.rt, self.alloc, plan.config)?;
-                self.share::<Brand, Service>(core, Blank::new(SEATS), plan, listener, all)
+                let books = Books::new(self.alloc, &core, SEATS)?;
+                self.share::<Brand, Service>(core, books, plan, listener, all)
             }
             Protocol::Memcache(limits) => {
                 let service = make_items(&self.rt, self.alloc, limits)?;
@@ -251,16 +251,18 @@ impl<R: Machine> House<R> {
     fn share<L: Seating + Send + Sync + 'static, C: Shareable + Send + 'static>(
         &self,
         core: C,
-        blank: Blank,
+        books: Books<C>,
         plan: Plan<R>,
         listener: &Listener,
         all: &mut Loops,
     ) -> Result<(), Ending>
         requires empty { StandsAfter C.KEEPS L.configs C.spaces C.journals 0 core }
-        requires name { blank.name ≡ L.name }
-        requires parts { (blank.parts ≡ L.parts) × (L.all ≡ L.parts) × (L.parts ≡ 4294967296) }
+        requires name { books.blank.name ≡ L.name }
+        requires parts { (books.blank.parts ≡ L.parts) × (L.all ≡ L.parts)
+            × (L.parts ≡ 4294967296) }
+        requires history { (books.opened.0 ≡ L.history) × (books.opened.1 ≡ core) }
     {
-        let Ok(shared) = SharedService::<L, C>::new(self.alloc, core, blank, SEATS) else {
+        let Ok(shared) = SharedService::<L, C>::new(self.alloc, core, books, SEATS) else {
             return Err(Ending::from(Fault::OutOfMemory));
         };
         let start = Start {

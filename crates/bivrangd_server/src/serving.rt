@@ -37,9 +37,9 @@ impl Report {
 
 /// What a loop serves its connections with.
 #[derive(Drop)]
-pub struct LineLoop<L: Seating, R: Machine> {
+pub struct LineLoop<L: Seating, C, R: Machine> {
     /// The seat of the loop.
-    pub seat: Seat<L>,
+    pub seat: Seat<L, C>,
     /// The clock of the server.
     pub clock: StartClock<R>,
     /// The loader of the namespace.
@@ -54,8 +54,8 @@ pub struct LineLoop<L: Seating, R: Machine> {
 
 /// What a loop leaves.
 #[derive(Drop)]
-struct Left<L: Seating> {
-    seat: Seat<L>,
+struct Left<L: Seating, C> {
+    seat: Seat<L, C>,
     // whether the loop could not go on
     is_failed: bool,
 }
@@ -75,17 +75,17 @@ pub struct SeatMissing;
 
 /// What a loop serves its connections with, but for where it waits: its seat, clock and loader, who is told what leaves, and after how many
 /// nanoseconds a load is given up.
-type Kit<L, R> = (
-    Seat<L>,
+type Kit<L, C, R> = (
+    Seat<L, C>,
     StartClock<R>,
     Here<ListLoader>,
     Herald<R>,
     Option<u64>,
 );
 
-impl<L: Seating, R: Machine> LineLoop<L, R> {
+impl<L: Seating, C, R: Machine> LineLoop<L, C, R> {
     /// Takes the loop apart.
-    fn take_apart(self) -> (Kit<L, R>, Gear) {
+    fn take_apart(self) -> (Kit<L, C, R>, Gear) {
         let LineLoop {
             seat,
             clock,
@@ -102,10 +102,10 @@ impl<L: Seating, R: Machine> LineLoop<L, R> {
 fn serve_loop<L: Seating, C: Shareable, R: Clock + Wait + Copy>(
     rt: &R,
     shared: &SharedService<L, C>,
-    kit: Kit<L, R>,
+    kit: Kit<L, C, R>,
     gear: Gear,
     report: &Report,
-) -> Left<L> {
+) -> Left<L, C> {
     let (mut seat, clock, asker, mut herald, limit) = kit;
     let asking = (asker, limit);
     let served = serve_seat(rt, shared, &mut seat, &mut herald, gear, clock, asking);
@@ -121,7 +121,7 @@ fn serve_loop<L: Seating, C: Shareable, R: Clock + Wait + Copy>(
 fn serve_seat<L: Seating, C: Shareable, R: Clock + Wait + Copy>(
     rt: &R,
     shared: &SharedService<L, C>,
-    seat: &mut Seat<L>,
+    seat: &mut Seat<L, C>,
     herald: &mut Herald<R>,
     gear: Gear,
     clock: StartClock<R>,
@@ -152,7 +152,7 @@ pub fn serve_namespace<L, C, R>(
     rt: R,
     alloc: Global,
     shared: SharedService<L, C>,
-    loops: Vec<LineLoop<L, R>>,
+    loops: Vec<LineLoop<L, C, R>>,
     report: Report,
 ) -> Result<Handed<C>, SeatMissing>
 where
@@ -197,7 +197,11 @@ where
     R: Machine,
 {
     /// Starts the threads of loops. One that cannot be started is reported.
-    fn start_all(&self, alloc: Global, loops: Vec<LineLoop<L, R>>) -> Vec<JoinHandle<Left<L>>> {
+    fn start_all(
+        &self,
+        alloc: Global,
+        loops: Vec<LineLoop<L, C, R>>,
+    ) -> Vec<JoinHandle<Left<L, C>>> {
         let mut threads = Vec::new(alloc);
         for line_loop in loops {
             let started = match threads.reserve(1) {
@@ -217,7 +221,7 @@ where
     }
 
     /// Starts the thread of a loop.
-    fn start(&self, line_loop: LineLoop<L, R>) -> Result<JoinHandle<Left<L>>, AllocError> {
+    fn start(&self, line_loop: LineLoop<L, C, R>) -> Result<JoinHandle<Left<L, C>>, AllocError> {
         let rt = self.rt;
         let shared = SharedService::clone(self.shared)?;
         let report = self.report.share()?;
@@ -231,7 +235,7 @@ where
 fn hand_back<L: Seating, C: Shareable>(
     alloc: Global,
     shared: SharedService<L, C>,
-    left: Vec<Left<L>>,
+    left: Vec<Left<L, C>>,
 ) -> Result<Handed<C>, SeatMissing>
     requires ledger { L.all ≡ L.parts }
     ensures stands { IfOk result (λ handed. (events : ℕ)

@@ -198,7 +198,7 @@ where
     }
 
     /// What a loop serves its connections with.
-    fn line_loop(&self, gear: Gear) -> Result<LineLoop<L, R>, Ending> {
+    fn line_loop(&self, gear: Gear) -> Result<LineLoop<L, C, R>, Ending> {
         let Some((clock, loader, site)) = self.site.make(self.alloc) else {
             return Err(Ending::from(Fault::OutOfMemory));
         };
@@ -226,7 +226,7 @@ where
 /// Starts the thread that serves a namespace by these loops.
 fn spawn<L, C, R>(
     start: Start<L, C, R>,
-    loops: Vec<LineLoop<L, R>>,
+    loops: Vec<LineLoop<L, C, R>>,
 ) -> Result<JoinHandle<bool>, AllocError>
 where
     L: Seating + Send + Sync + 'static,

@@ -10,7 +10,7 @@ use bivrangd_server::Told;
 use cache_loop::{Counts, Crew, Doorway, LOADED, LineSteward, Pool, Rules, STOP, serve_by};
 use cache_run::{Clock, Loader};
 use cache_service::{Sitting, Untold};
-use cache_shared::{Seating, Shareable, SharedService};
+use cache_shared::{Books, Seating, Shareable, SharedService};
 use cache_spaces::Service;
 use cached_server::Machine;
 use crossbeam_channel::{Receiver, unbounded};
@@ -23,7 +23,6 @@ use std::marker::Brand;
 use std::net::{Ipv4Addr, Net, SocketAddr, TcpStream};
 use std::random::RandomSource;
 use std::sync::atomic::{AtomicU64, Ordering};
-use std::sync::ledger::Blank;
 use std::sync::{Arc, Mutex, Wait};
 use std::thread::{JoinHandle, Threads};
 use std::time::Duration;
@@ -386,7 +385,7 @@ fn serve_case<L, C, R>(
     rt: R,
     alloc: Global,
     core: C,
-    blank: Blank,
+    books: Books<C>,
     parts: u64,
     case: Case,
 ) -> Option<bool>
@@ -395,10 +394,11 @@ where
     C: Shareable + Send + 'static,
     R: Machine,
     requires empty { StandsAfter C.KEEPS L.configs C.spaces C.journals 0 core }
-    requires name { blank.name ≡ L.name }
-    requires parts { (blank.parts ≡ L.parts) × (L.all ≡ L.parts) × (parts ≡ L.parts) }
+    requires name { books.blank.name ≡ L.name }
+    requires parts { (books.blank.parts ≡ L.parts) × (L.all ≡ L.parts) × (parts ≡ L.parts) }
+    requires history { (books.opened.0 ≡ L.history) × (books.opened.1 ≡ core) }
 {
-    let shared = SharedService::<L, C>::new(alloc, core, blank, parts).ok()?;
+    let shared = SharedService::<L, C>::new(alloc, core, books, parts).ok()?;
     let asked = Arc::new(alloc, AtomicU64::new(0)).ok()?;
     let (orders, told) = unbounded(alloc).ok()?;
     let mut players = Players {
@@ -438,10 +438,12 @@ pub fn make_service(alloc: Global) -> Option<Service>
 
 /// Whether a case comes out as it says, over a new service.
 fn comes_out<R: Machine>(rt: R, alloc: Global, case: Case) -> bool {
-    match make_service(alloc) {
-        Some(core) => serve_case::<Brand, Service, R>(rt, alloc, core, Blank::new(2), 2, case)
-            == Some(true),
-        None => false,
+    let Some(core) = make_service(alloc) else {
+        return false;
+    };
+    match Books::new(alloc, &core, 2) {
+        Ok(books) => serve_case::<Brand, Service, R>(rt, alloc, core, books, 2, case) == Some(true),
+        Err(_) => false,
     }
 }
 

@@ -7,12 +7,11 @@ use audit_model::{Bytes, LoadId, Outcome};
 use cache_loop::{Asked, Asker, LineSteward, Steward};
 use cache_run::Clock;
 use cache_service::{Sitting, Untold};
-use cache_shared::{Seating, Shareable, SharedService};
+use cache_shared::{Books, Seating, Shareable, SharedService};
 use cache_spaces::Service;
 use std::alloc::Global;
 use std::marker::Brand;
 use std::sync::atomic::{AtomicU64, Ordering};
-use std::sync::ledger::Blank;
 use std::sync::{Arc, Wait};
 
 /// The first moment that is refused.
@@ -98,26 +97,28 @@ fn is_given_up<L: Seating, C: Shareable, R: Wait>(
     rt: &R,
     alloc: Global,
     core: C,
-    blank: Blank,
+    books: Books<C>,
     parts: u64,
 ) -> Option<bool>
 where
     requires empty { StandsAfter C.KEEPS L.configs C.spaces C.journals 0 core }
-    requires name { blank.name ≡ L.name }
-    requires parts { (blank.parts ≡ L.parts) × (L.all ≡ L.parts) × (parts ≡ L.parts) }
+    requires name { books.blank.name ≡ L.name }
+    requires parts { (books.blank.parts ≡ L.parts) × (L.all ≡ L.parts) × (parts ≡ L.parts) }
+    requires history { (books.opened.0 ≡ L.history) × (books.opened.1 ≡ core) }
 {
-    let shared = SharedService::<L, C>::new(alloc, core, blank, parts).ok()?;
+    let shared = SharedService::<L, C>::new(alloc, core, books, parts).ok()?;
     let (told, answers) = serve(rt, alloc, &shared)?;
     Some(told.as_slice() == b"VAL k\nVAL k\n".as_slice() && answers == 2)
 }
 
 /// The same, over a new service.
 fn comes_out<R: Wait>(rt: &R, alloc: Global) -> bool {
-    match make_service(alloc) {
-        Some(core) => {
-            is_given_up::<Brand, Service, R>(rt, alloc, core, Blank::new(1), 1) == Some(true)
-        }
-        None => false,
+    let Some(core) = make_service(alloc) else {
+        return false;
+    };
+    match Books::new(alloc, &core, 1) {
+        Ok(books) => is_given_up::<Brand, Service, R>(rt, alloc, core, books, 1) == Some(true),
+        Err(_) => false,
     }
 }
 

@@ -32,15 +32,17 @@ use Rattle.cache_run.specs.Driver.Exchanges.{Doing, EachOut, Exchange, Outs, Set
 use Rattle.cache_service.specs.Asked.{Asks, AsksOrNot, HasAskedSome, IsOfLoad, IsShort, MayBeGivenUp, OpensConnection, ServesConnection, ServesConnectionOrNot, closing_inputs, inputs_of, settling_inputs, settlings_of}
 use Rattle.cache_service.specs.Served.{HadGoneOut, AsksAll, BeginsOrIdles, BeginsWith, WritesAll}
 use Rattle.cache_service.specs.Sitting as sitting
-use Rattle.cache_service.specs.Sitting.{SeatRests, tally}
+use Rattle.cache_service.specs.Sitting.{SeatIdles, SeatRests, tally}
 use Rattle.cache_shared.specs.Events.{IsUnfit}
+use Rattle.cache_history.specs.declared.known.Own.{Own}
 use Rattle.cache_service.specs.Exchanged.{CameSo, WasOpened}
-use Rattle.cache_service.specs.Served.{Serves, ServesInTurns, ServesTurns}
+use Rattle.cache_service.specs.Served.{Follow, Serves, ServesInTurns, ServesTurns}
 use Rattle.cache_shared.specs.declared.seat.Seat.{Seat}
+use Rattle.cache_history.specs.declared.known.Naming.{Ghosts as Names}
 use Rattle.cache_shared.specs.declared.seat.Seating.{Ghosts as Ledgers}
 use Rattle.cache_shared.specs.Looked.{WereUntaken}
 use Rattle.cache_spaces.specs.Spaces.{Shown}
-use Rattle.cache_service.proofs.Seated.{asks-more, asks-none, chain-each, chain-weaker, grows-more, Passed, chain-passed, deeds_in, texts-same, texts_in}
+use Rattle.cache_service.proofs.Seated.{asks-more, asks-none, chain-follows, chain-weaker, grows-more, Passed, chain-passed, deeds_in, texts-same, texts_in}
 use Rattle.cache_service.specs.Asked.{SeatCloses, SeatComes, SeatDrops, SeatOpens, Tally}
 
 -- ---- what was refused: a load for which the loader was asked, and nothing was asked of the service; or a piece, for which the clock told late
@@ -102,12 +104,12 @@ closing-some conn a b (inr one) = (true, one)
 
 -- ---- a connection, from its opening to what was dropped behind its closing
 
-module _ {H C D : Type 0} (keeps : Bool) (WentOut : ℕ → ℕ → List ℕ → Type 0) (Unfit : Outcome → Type 0) (IsTaken : Conn → List ℕ → Type 0) (OpenedSo : ℕ → Conn → Type 0) (TookSo : Conn → Exchange → Type 0) (tally : H → Tally) (reads : C → ℕ → C → Type 0) (loads : D → List ℕ → Option Outcome → D → Type 0) (namespace : ℕ) (h k : H) (a b : Outside C D) where
+module _ {H C D P : Type 0} (keeps : Bool) (WentOut : ℕ → ℕ → List ℕ → Type 0) (Unfit : Outcome → Type 0) (IsTaken : Conn → List ℕ → Type 0) (claims : H → P) (OpenedSo : ℕ → Conn → P → P → Type 0) (TookSo : Conn → P → Exchange → P → Type 0) (tally : H → Tally) (reads : C → ℕ → C → Type 0) (loads : D → List ℕ → Option Outcome → D → Type 0) (namespace : ℕ) (h k : H) (a b : Outside C D) where
   abbrev Opened : ℕ → Conn → H → H → Type 0
-  Opened n conn p q = SeatOpens keeps WentOut Unfit IsTaken n conn (tally p) (tally q) × OpenedSo n conn
+  Opened n conn p q = SeatOpens keeps WentOut Unfit IsTaken n conn (tally p) (tally q) × OpenedSo n conn (claims p) (claims q)
 
   abbrev Came : Conn → H → Exchange → H → Type 0
-  Came conn p x q = SeatComes keeps WentOut Unfit IsTaken conn (tally p) x (tally q) × TookSo conn x
+  Came conn p x q = SeatComes keeps WentOut Unfit IsTaken conn (tally p) x (tally q) × TookSo conn (claims p) x (claims q)
 
   abbrev Closed : Conn → H → H → Type 0
   Closed conn p q = SeatCloses keeps WentOut Unfit IsTaken conn (tally p) (tally q)
@@ -187,8 +189,8 @@ module _ {H C D : Type 0} (keeps : Bool) (WentOut : ℕ → ℕ → List ℕ →
         (chain-weaker (λ p x q seat. seat.0) d.opened [] d.talks.exchanges d.stopped d.hand d.talks.chain)
 
     -- each exchange came so
-    came-so : All (TookSo d.conn) d.talks.exchanges
-    came-so = chain-each (TookSo d.conn) (λ p x q seat. seat.1) d.opened [] d.talks.exchanges d.stopped d.hand d.talks.chain
+    came-so : Follow (TookSo d.conn) (claims d.opened) d.talks.exchanges (claims d.stopped)
+    came-so = chain-follows claims (TookSo d.conn) (λ p x q seat. seat.1) d.opened [] d.talks.exchanges d.stopped d.hand d.talks.chain
 
     refused : Refused keeps WentOut Unfit IsTaken d.conn (late_of d.rest) (asked_of d.rest)
     refused = refused-any keeps WentOut Unfit IsTaken d.conn d.rest.refused d.hand d.talks.refused passed.hand
@@ -304,14 +306,16 @@ module _ {H C D : Type 0} (keeps : Bool) (WentOut : ℕ → ℕ → List ℕ →
 
   -- the turns that it was served in
   abbrev InTurns : List ℕ → Type 0
-  InTurns rest = ServesInTurns OpenedSo TookSo reads namespace a.remaining b.remaining a.contents b.contents a.clock b.clock rest
+  InTurns rest = ServesInTurns OpenedSo TookSo reads namespace (claims h) a.remaining b.remaining a.contents b.contents a.clock b.clock rest
 
   in-turns : (drops : List Settling) (d : Drove drops) → InTurns d.rest.unsent
   in-turns drops d = record {
     conn = d.conn;
     here = d.opens.0.here;
+    start = claims d.opened;
     opened = d.opens.1;
     exchanges = d.talks.exchanges;
+    stop = claims d.stopped;
     each = came-so drops d;
     lost = lost_of d.rest;
     late = late_of d.rest;
@@ -326,7 +330,7 @@ module _ {H C D : Type 0} (keeps : Bool) (WentOut : ℕ → ℕ → List ℕ →
   drove-served (Err e) d = inl (d.1.rest.unsent, in-turns d.0 d.1)
 
 -- what was written
-module _ {H C D X : Type 0} (keeps : Bool) (WentOut : ℕ → ℕ → List ℕ → Type 0) (Unfit : Outcome → Type 0) (configs : List Config) (spaces : X → List Shown) (untaken : X → Conn → List ℕ) (OpenedSo : ℕ → Conn → Type 0) (TookSo : Conn → Exchange → Type 0) (tally : H → Tally) (reads : C → ℕ → C → Type 0) (loads : D → List ℕ → Option Outcome → D → Type 0)
+module _ {H C D X P : Type 0} (keeps : Bool) (WentOut : ℕ → ℕ → List ℕ → Type 0) (Unfit : Outcome → Type 0) (configs : List Config) (spaces : X → List Shown) (untaken : X → Conn → List ℕ) (claims : H → P) (OpenedSo : ℕ → Conn → P → P → Type 0) (TookSo : Conn → P → Exchange → P → Type 0) (tally : H → Tally) (reads : C → ℕ → C → Type 0) (loads : D → List ℕ → Option Outcome → D → Type 0)
     (namespace : ℕ) (h k : H) (a b : Outside C D) where
   abbrev IsReply : Conn → List ℕ → Type 0
   IsReply conn text = ∥ WereUntaken configs spaces untaken conn text ∥₁
@@ -334,28 +338,28 @@ module _ {H C D X : Type 0} (keeps : Bool) (WentOut : ℕ → ℕ → List ℕ �
   abbrev Wrote : ℕ → List ℕ → Type 0
   Wrote spared rest = Serves configs spaces untaken namespace (BeginsOrIdles keeps namespace (tally h).receipts (tally k).receipts) (tally h).count (tally k).count spared a.contents b.contents rest
 
-  wrote : (drops : List Settling) (d : Drove keeps WentOut Unfit IsReply OpenedSo TookSo tally reads loads namespace h k a b drops) (spared : ℕ) → length drops + 3 ≤ spared → Wrote spared d.rest.unsent
-  wrote drops d spared most = let few = counted keeps WentOut Unfit IsReply OpenedSo TookSo tally reads loads namespace h k a b drops d in record {
+  wrote : (drops : List Settling) (d : Drove keeps WentOut Unfit IsReply claims OpenedSo TookSo tally reads loads namespace h k a b drops) (spared : ℕ) → length drops + 3 ≤ spared → Wrote spared d.rest.unsent
+  wrote drops d spared most = let few = counted keeps WentOut Unfit IsReply claims OpenedSo TookSo tally reads loads namespace h k a b drops d in record {
     conn = d.conn;
     here = d.opens.0.here;
-    asked = λ kept. inl (begins-with keeps WentOut Unfit IsReply OpenedSo TookSo tally reads loads namespace h k a b drops d kept);
+    asked = λ kept. inl (begins-with keeps WentOut Unfit IsReply claims OpenedSo TookSo tally reads loads namespace h k a b drops d kept);
     texts = texts_in d.talks.exchanges;
-    taken = (passed keeps WentOut Unfit IsReply OpenedSo TookSo tally reads loads namespace h k a b drops d).taken;
+    taken = (passed keeps WentOut Unfit IsReply claims OpenedSo TookSo tally reads loads namespace h k a b drops d).taken;
     counted = omega (arith, few, most);
     sent = record { sent = d.talks.sent; whole = d.talks.replies ∙ sym (texts-same d.talks.exchanges); wrote = d.talks.wrote };
   }
 
-  drove-wrote : (outcome : Result (Unit {0}) RunError) → Driven keeps WentOut Unfit IsReply OpenedSo TookSo tally reads loads namespace h k a b outcome
+  drove-wrote : (outcome : Result (Unit {0}) RunError) → Driven keeps WentOut Unfit IsReply claims OpenedSo TookSo tally reads loads namespace h k a b outcome
       → MatchResult outcome (λ x. Wrote 3 []) (λ e. (rest : List ℕ) × (asks : List Asking) × Askings loads a.loader asks b.loader × Wrote (length asks + 3) rest)
   drove-wrote (Ok x) d = subst (Wrote 3) d.1 (wrote [] d.0 3 (omega arith))
   drove-wrote (Err e) d =
-      let all = asked-all keeps WentOut Unfit IsReply OpenedSo TookSo tally reads loads namespace h k a b d.0 d.1 in
+      let all = asked-all keeps WentOut Unfit IsReply claims OpenedSo TookSo tally reads loads namespace h k a b d.0 d.1 in
       let often = all.2 in (d.1.rest.unsent, all.0, all.1, wrote d.0 d.1 (length all.0 + 3) (omega (arith, often)))
 
 -- none was opened
-pub rested : {L : Type 0} {G : Ledgers L} (p q : Seat L G) → (q ≡ p) ⊎ SeatRests (tally p) (tally q) → SeatRests (tally p) (tally q)
-rested p q (inl is) = subst (λ (r : Seat _ _). SeatRests (tally p) (tally r)) (sym is) (record { count = refl; same = λ n. refl })
-rested p q (inr rests) = rests
+pub rested : {L C : Type 0} {G : Ledgers L} {N : Names L} (p q : Seat L C G N) → (q ≡ p) ⊎ SeatIdles p q → SeatRests (tally p) (tally q)
+rested p q (inl is) = subst (λ (r : Seat _ _ _ _). SeatRests (tally p) (tally r)) (sym is) (record { count = refl; same = λ n. refl })
+rested p q (inr rests) = rests.0
 
 -- nothing was written
 pub rested-wrote : {X : Type 0} (keeps : Bool) (configs : List Config) (spaces : X → List Shown) (untaken : X → Conn → List ℕ) (namespace : ℕ) (h k : Tally) (contents : Option (List ℕ)) → SeatRests h k
@@ -372,31 +376,34 @@ rested-wrote keeps configs spaces untaken namespace h k contents rests = let sam
 
 -- ---- what serving a connection promises
 
-module _ {C L R W K D : Type 0} {G : Ledgers L} (configs : List Config) (spaces : C → List Shown) (untaken : C → Conn → List ℕ) (untold : C → ℕ → List Note) (keeps : Bool) (remaining : R → Option (List ℕ)) (contents : W → Option (List ℕ)) (reads : K → ℕ → K → Type 0) (loads : D → List ℕ → Option Outcome → D → Type 0) (namespace : ℕ)
-    (p q : Seat L G) (reader reader' : Watched R) (writer writer' : Watched W) (clock clock' : K) (loader loader' : D) where
-  abbrev CameIn : Conn → Exchange → Type 0
-  CameIn conn exchange = CameSo configs spaces untaken untold conn exchange exchange.doing
+module _ {C L R W K D : Type 0} {G : Ledgers L} {N : Names L} (configs : List Config) (spaces : C → List Shown) (untaken : C → Conn → List ℕ) (untold : C → ℕ → List Note) (keeps : Bool) (remaining : R → Option (List ℕ)) (contents : W → Option (List ℕ)) (reads : K → ℕ → K → Type 0) (loads : D → List ℕ → Option Outcome → D → Type 0) (namespace : ℕ)
+    (p q : Seat L C G N) (reader reader' : Watched R) (writer writer' : Watched W) (clock clock' : K) (loader loader' : D) where
+  abbrev claims_of : Seat L C G N → Own C
+  claims_of seat = seat.claims
+
+  abbrev CameIn : Conn → Own C → Exchange → Own C → Type 0
+  CameIn conn own exchange own' = CameSo configs spaces untaken untold conn own exchange own' exchange.doing
 
   pub record Promises (outcome : Result (Unit {0}) RunError) : Type 0 where
     pub wrote : WritesAll keeps configs spaces untaken contents loads namespace outcome p q writer writer' loader loader'
     pub asked : AsksAll keeps configs spaces remaining reads loads namespace outcome p q reader reader' clock clock' loader loader'
     pub loaded : HasAskedSome loads loader loader'
-    pub served : ServesTurns configs spaces untaken untold remaining contents reads namespace outcome reader reader' writer writer' clock clock'
+    pub served : ServesTurns configs spaces untaken untold remaining contents reads namespace p.claims outcome reader reader' writer writer' clock clock'
 
   -- it was opened, it came to an end or an error, and was closed
-  pub attended : (s t : Session) (start m : Seat L G) (middle : D) (ended : Result Progress RunError) (outcome result : Result (Unit {0}) RunError) → sitting.Opens configs spaces untaken keeps untold namespace s.conn p start → t.conn ≡ s.conn
+  pub attended : (s t : Session) (start m : Seat L C G N) (middle : D) (ended : Result Progress RunError) (outcome result : Result (Unit {0}) RunError) → sitting.Opens configs spaces untaken keeps untold namespace s.conn p start → t.conn ≡ s.conn
       → ComesToProgress false (sitting.Comes configs spaces untaken keeps untold) (sitting.Closes configs spaces untaken keeps) reads loads start (around remaining contents reader writer clock loader) ended t m (around remaining contents reader' writer' clock' middle)
       → outcome ≡ outcome_by ended → ClosesAfter (sitting.Closes configs spaces untaken keeps) (sitting.Drops configs spaces untaken keeps) loads outcome t m q middle loader' → result ≡ outcome → Promises result
   attended s t start m middle ended outcome result opened same comes is closes so =
       let a = around remaining contents reader writer clock loader in
       let b = around remaining contents reader' writer' clock' loader' in
-      let drives = driven keeps (HadGoneOut configs spaces) IsUnfit (sitting.IsReply configs spaces untaken) (WasOpened configs spaces untaken untold) CameIn tally reads loads namespace p q a b t start m middle ended (subst (λ conn. sitting.Opens configs spaces untaken keeps untold namespace conn p start) (sym same) opened) comes
+      let drives = driven keeps (HadGoneOut configs spaces) IsUnfit (sitting.IsReply configs spaces untaken) claims_of (WasOpened configs spaces untaken untold) CameIn tally reads loads namespace p q a b t start m middle ended (subst (λ conn. sitting.Opens configs spaces untaken keeps untold namespace conn p start) (sym same) opened) comes
       (subst (λ (o : Result (Unit {0}) RunError). ClosesAfter (sitting.Closes configs spaces untaken keeps) (sitting.Drops configs spaces untaken keeps) loads o t m q middle loader') is closes) in
       subst Promises (sym (so ∙ is)) (record {
-        wrote = drove-wrote keeps (HadGoneOut configs spaces) IsUnfit configs spaces untaken (WasOpened configs spaces untaken untold) CameIn tally reads loads namespace p q a b (outcome_by ended) drives;
-        asked = drove-asked keeps (HadGoneOut configs spaces) IsUnfit (sitting.IsReply configs spaces untaken) (WasOpened configs spaces untaken untold) CameIn tally reads loads namespace p q a b (outcome_by ended) drives;
-        loaded = drove-loaded keeps (HadGoneOut configs spaces) IsUnfit (sitting.IsReply configs spaces untaken) (WasOpened configs spaces untaken untold) CameIn tally reads loads namespace p q a b (outcome_by ended) drives;
-        served = drove-served keeps (HadGoneOut configs spaces) IsUnfit (sitting.IsReply configs spaces untaken) (WasOpened configs spaces untaken untold) CameIn tally reads loads namespace p q a b (outcome_by ended) drives;
+        wrote = drove-wrote keeps (HadGoneOut configs spaces) IsUnfit configs spaces untaken claims_of (WasOpened configs spaces untaken untold) CameIn tally reads loads namespace p q a b (outcome_by ended) drives;
+        asked = drove-asked keeps (HadGoneOut configs spaces) IsUnfit (sitting.IsReply configs spaces untaken) claims_of (WasOpened configs spaces untaken untold) CameIn tally reads loads namespace p q a b (outcome_by ended) drives;
+        loaded = drove-loaded keeps (HadGoneOut configs spaces) IsUnfit (sitting.IsReply configs spaces untaken) claims_of (WasOpened configs spaces untaken untold) CameIn tally reads loads namespace p q a b (outcome_by ended) drives;
+        served = drove-served keeps (HadGoneOut configs spaces) IsUnfit (sitting.IsReply configs spaces untaken) claims_of (WasOpened configs spaces untaken untold) CameIn tally reads loads namespace p q a b (outcome_by ended) drives;
       })
 
 -- ---- causes

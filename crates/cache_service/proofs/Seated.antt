@@ -22,6 +22,7 @@ use Rattle.cache_run.specs.Driver.Hosting.{SuitsRequest}
 use Rattle.cache_run.specs.declared.driver.host.Given.{Given}
 use Rattle.cache_shared.specs.Seats.{Counts, SameReceipts, receipt_for, receipts_at}
 use Rattle.cache_service.specs.Asked.{Asks, Grows, settling_inputs, IsOfLoad, MayBeGivenUp, answer_input, give_up_input, IsShort, inputs_of, settlings_of, SeatCloses, SeatComes, SeatDrops, SeatOpens, SeatSettles, Tally}
+use Rattle.cache_service.specs.Served.{Follow}
 use Rattle.cache_service.specs.Sitting.{SeatRests, SeatTakes, TakesIfGiven, asks-behind}
 use Rattle.audit_model.specs.declared.input.Input.TheVariants as input
 use Rattle.cache_run.specs.Driver.Exchanges as did
@@ -173,11 +174,11 @@ module _ {keeps : Bool} {WentOut : ℕ → ℕ → List ℕ → Type 0} {Unfit :
         )
 
     -- it was asked for several more, that had gone out
-    pub drops-then : (conn : Conn) (hand more : Outs) (h m k : Tally) (a b d : D) → EachOut (WentOut conn.namespace) more
+    pub drops-then : (conn : Conn) (hand more : Outs) (h m m' k : Tally) (a b d : D) → m' ≡ m → EachOut (WentOut conn.namespace) more
         → (askings : List Asking) × SeatDrops keeps WentOut Unfit IsTaken conn hand h askings m × Askings loads a askings b
-        → (askings : List Asking) × SeatDrops keeps WentOut Unfit IsTaken conn more m askings k × Askings loads b askings d
+        → (askings : List Asking) × SeatDrops keeps WentOut Unfit IsTaken conn more m' askings k × Askings loads b askings d
         → (askings : List Asking) × SeatDrops keeps WentOut Unfit IsTaken conn hand h askings k × Askings loads a askings d
-    drops-then conn hand more h m k a b d out dropped later = (dropped.0 ++ later.0, drops-more conn hand more h m k dropped.0 later.0 dropped.1 later.1 out, askings_more loads a dropped.0 b later.0 d dropped.2 later.2)
+    drops-then conn hand more h m m' k a b d same out dropped later = (dropped.0 ++ later.0, drops-more conn hand more h m k dropped.0 later.0 dropped.1 (subst (λ (n : Tally). SeatDrops keeps WentOut Unfit IsTaken conn more n later.0 k) same later.1) out, askings_more loads a dropped.0 b later.0 d dropped.2 later.2)
 
 -- ---- openings and closings
 
@@ -190,14 +191,14 @@ module _ {keeps : Bool} {WentOut : ℕ → ℕ → List ℕ → Type 0} {Unfit :
   }
 
   -- behind what rested
-  pub closes-so : {E : Type 0} (conn : Conn) {h m k : Tally} (r : Result Output E) → SeatRests h m → IfOk r (λ output. Counts keeps (input.Close conn) output m.count k.count m.receipts k.receipts) → OnErr r ((k.count ≡ m.count) × SameReceipts m.receipts k.receipts)
+  pub closes-so : {E : Type 0} (Z : Type 0) (conn : Conn) {h m k : Tally} (r : Result Output E) → SeatRests h m → IfOk r (λ output. Counts keeps (input.Close conn) output m.count k.count m.receipts k.receipts) → OnErr r ((k.count ≡ m.count) × SameReceipts m.receipts k.receipts × Z)
       → SeatCloses keeps WentOut Unfit IsTaken conn h k
-  closes-so conn {h} {m} {k} (Ok output) rests counts none = let same = rests.count in let one = counts.one in record {
+  closes-so Z conn {h} {m} {k} (Ok output) rests counts none = let same = rests.count in let one = counts.one in record {
     asks = λ kept. inr (asks-behind rests.same (asks-counted counts kept));
     one = omega (arith, same, one);
     rises = omega (arith, same, one);
   }
-  closes-so conn {h} {m} {k} (Err e) rests counts none = let same = rests.count in let still = none.0 in record {
+  closes-so Z conn {h} {m} {k} (Err e) rests counts none = let same = rests.count in let still = none.0 in record {
     asks = λ kept. inl (asks-behind rests.same (asks-none conn.namespace m.receipts k.receipts none.1));
     one = omega (arith, same, still);
     rises = omega (arith, same, still);
@@ -236,10 +237,10 @@ pub chain-weaker : {H : Type 0} {Came Less : H → Exchange → H → Type 0} �
 chain-weaker less h hand [] k after c = c
 chain-weaker less h hand (x ∷ xs) k after c = (c.0, c.1, less h x c.0 c.2, c.3, chain-weaker less c.0 c.1 xs k after c.4)
 
--- this is so of each of them
-pub chain-each : {H : Type 0} {Came : H → Exchange → H → Type 0} (Fact : Exchange → Type 0) → ((p : H) (x : Exchange) (q : H) → Came p x q → Fact x) → (h : H) (hand : Outs) (xs : List Exchange) (k : H) (after : Outs) → Chain Came h hand xs k after → All Fact xs
-chain-each Fact so h hand [] k after c = All-nil Fact
-chain-each Fact so h hand (x ∷ xs) k after c = All-cons Fact x xs (so h x c.0 c.2) (chain-each Fact so c.0 c.1 xs k after c.4)
+-- seen through a part of the places, they follow one another
+pub chain-follows : {H P : Type 0} {Came : H → Exchange → H → Type 0} (f : H → P) (Fact : P → Exchange → P → Type 0) → ((p : H) (x : Exchange) (q : H) → Came p x q → Fact (f p) x (f q)) → (h : H) (hand : Outs) (xs : List Exchange) (k : H) (after : Outs) → Chain Came h hand xs k after → Follow Fact (f h) xs (f k)
+chain-follows f Fact so h hand [] k after c = ap f c.0
+chain-follows f Fact so h hand (x ∷ xs) k after c = (f c.0, so h x c.0 c.2, chain-follows f Fact so c.0 c.1 xs k after c.4)
 
 module _ (keeps : Bool) (WentOut : ℕ → ℕ → List ℕ → Type 0) (Unfit : Outcome → Type 0) (IsTaken : Conn → List ℕ → Type 0) (conn : Conn) where
   abbrev Out : Outs → Type 0

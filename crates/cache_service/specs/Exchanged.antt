@@ -15,6 +15,8 @@ use Rattle.cache_run.specs.Driver.Hosting.{exchange_of}
 use Rattle.cache_run.specs.declared.driver.host.Given.{Given}
 use Rattle.cache_service.specs.Asked.{answer_input, feed_input, give_up_input}
 use Rattle.cache_shared.specs.Events.{IsUnfitAnswer, is_of_outcome}
+use Rattle.cache_history.specs.declared.known.Own.{Own}
+use Rattle.cache_shared.specs.Histories.{HappenedInHistory}
 use Rattle.cache_shared.specs.Looked.{HappenedAtSomeMoment, HeldAtSomeMoment, MovesNotes}
 use Rattle.cache_shared.specs.Taken.{MovesAll, MovesNotesOf, TakesInput, TakesInputWhole}
 use Rattle.cache_shared.specs.declared.turning.Turn.{Turn}
@@ -39,36 +41,36 @@ given_up_or_left load asking (Some given) = GivenUp load asking
 
 module _ {C : Type 0} (configs : List Config) (spaces : C → List Shown)
     (untaken : C → Conn → List ℕ) (untold : C → ℕ → List Note) where
-  -- in one hold of the lock a connection of the namespace was opened, which is this
-  abbrev pub WasOpened : ℕ → Conn → Type 0
-  WasOpened namespace conn =
-      ∥ HappenedAtSomeMoment configs spaces (λ old new.
-      TakesInput spaces untaken untold (input.Open namespace) (Opened conn) old new) ∥₁
+  -- in one hold of the lock, which was claimed, a connection of the namespace was opened, which is this
+  abbrev pub WasOpened : ℕ → Conn → Own C → Own C → Type 0
+  WasOpened namespace conn p q =
+      ∥ HappenedInHistory spaces untaken untold configs p q
+      (TakesInput spaces untaken untold (input.Open namespace) (Opened conn)) ∥₁
 
   -- at some moment the load was not under way
   abbrev pub WasNotUnderWay : ℕ → ℕ → Type 0
   WasNotUnderWay namespace load = ∥ HeldAtSomeMoment configs spaces (IsNotUnderWay namespace load) ∥₁
 
-  -- In one hold of the lock the input was taken, and what the connection was owed then, which is what is given, was moved out, with notes
-  -- of its namespace, of which this is true.
+  -- In one hold of the lock, which was claimed, the input was taken, and what the connection was owed then, which is what is given, was
+  -- moved out, with notes of its namespace, of which this is true.
   pub record GivesTurn (conn : Conn) (i : Input) (wants_loads : Bool) (Told : List Note → Type 0)
-      (given : Given) : Type 0 where
+      (p q : Own C) (given : Given) : Type 0 where
     pub turn : Turn
     pub behind : List Note
     pub behind' : List Note
-    pub happened : HappenedAtSomeMoment configs spaces (λ old new. TakesInputWhole spaces untaken
-        untold old new conn i wants_loads turn behind behind')
+    pub happened : HappenedInHistory spaces untaken untold configs p q (λ old new. TakesInputWhole
+        spaces untaken untold old new conn i wants_loads turn behind behind')
     pub owed : given.owed ≡ turn.owed
     pub held : given.held ≡ is_held_by turn.output
     pub told : Told behind'
 
-  -- In one hold of the lock what the connection was owed, which is what is given, was moved out, with notes of its namespace, of which this
-  -- is true.
+  -- In one hold of the lock, which was claimed, what the connection was owed, which is what is given, was moved out, with notes of its
+  -- namespace, of which this is true.
   pub record GivesLook (conn : Conn) (wants_loads : Bool) (Told : List Note → Type 0)
-      (given : Given) : Type 0 where
+      (p q : Own C) (given : Given) : Type 0 where
     pub behind : List Note
     pub behind' : List Note
-    pub happened : HappenedAtSomeMoment configs spaces (λ old new.
+    pub happened : HappenedInHistory spaces untaken untold configs p q (λ old new.
         MovesAll spaces untaken untold old new conn wants_loads given.owed behind behind')
     pub held : given.held ≡ false
     pub told : Told behind'
@@ -81,28 +83,28 @@ module _ {C : Type 0} (configs : List Config) (spaces : C → List Shown)
       × MovesNotesOf spaces untaken untold old new namespace) ∥₁
 
   -- What an exchange gave is what one turn of the connection gave, in which this input was taken; or what one look gave.
-  abbrev pub ComesOfTurn : Conn → Input → (Given → Type 0) → Exchange → Type 0
-  ComesOfTurn conn i Fact exchange =
+  abbrev pub ComesOfTurn : Conn → Input → (Given → Type 0) → Own C → Exchange → Own C → Type 0
+  ComesOfTurn conn i Fact p exchange q =
       ∥ ((given : Given) × (wants_loads : Bool) × (exchange ≡ exchange_of exchange.doing given)
-      × Fact given × GivesTurn conn i wants_loads (λ notes. Unit {0}) given) ∥₁
+      × Fact given × GivesTurn conn i wants_loads (λ notes. Unit {0}) p q given) ∥₁
 
-  abbrev pub ComesOfLook : Conn → Exchange → Type 0
-  ComesOfLook conn exchange =
+  abbrev pub ComesOfLook : Conn → Own C → Exchange → Own C → Type 0
+  ComesOfLook conn p exchange q =
       ∥ ((given : Given) × (wants_loads : Bool) × (exchange ≡ exchange_of exchange.doing given)
-      × GivesLook conn wants_loads (λ notes. Unit {0}) given) ∥₁
+      × GivesLook conn wants_loads (λ notes. Unit {0}) p q given) ∥₁
 
-  -- The exchange is that of one hold of the lock, in which this was done: its piece was taken, its load was answered or given up, or
-  -- nothing was asked. A load is dropped only if it was not under way at some moment.
-  abbrev pub CameSo : Conn → Exchange → Doing → Type 0
-  CameSo conn exchange (Fed piece moment held) =
-      ComesOfTurn conn (feed_input conn piece moment) (λ given. given.held ≡ held) exchange
-  CameSo conn exchange (Settled (Answered load key outcome) moment) =
-      ComesOfTurn conn (answer_input conn.namespace moment load outcome) (λ given. Unit {0}) exchange
-  CameSo conn exchange (Settled (GivenUp load asking) moment) =
-      ComesOfTurn conn (give_up_input conn.namespace moment load) (λ given. Unit {0}) exchange
-  CameSo conn exchange (Settled (Dropped load asking) moment) =
-      WasNotUnderWay conn.namespace load × ComesOfLook conn exchange
-  CameSo conn exchange Looked = ComesOfLook conn exchange
+  -- The exchange is that of one hold of the lock, which was claimed, in which this was done: its piece was taken, its load was answered or
+  -- given up, or nothing was asked. A load is dropped only if it was not under way at some moment.
+  abbrev pub CameSo : Conn → Own C → Exchange → Own C → Doing → Type 0
+  CameSo conn p exchange q (Fed piece moment held) =
+      ComesOfTurn conn (feed_input conn piece moment) (λ given. given.held ≡ held) p exchange q
+  CameSo conn p exchange q (Settled (Answered load key outcome) moment) = ComesOfTurn conn
+      (answer_input conn.namespace moment load outcome) (λ given. Unit {0}) p exchange q
+  CameSo conn p exchange q (Settled (GivenUp load asking) moment) =
+      ComesOfTurn conn (give_up_input conn.namespace moment load) (λ given. Unit {0}) p exchange q
+  CameSo conn p exchange q (Settled (Dropped load asking) moment) =
+      WasNotUnderWay conn.namespace load × ComesOfLook conn p exchange q
+  CameSo conn p exchange q Looked = ComesOfLook conn p exchange q
 
   -- nothing was asked of the service for the load, which was not under way at some moment
   abbrev pub IsLeft : Conn → Settling → Type 0
@@ -110,11 +112,11 @@ module _ {C : Type 0} (configs : List Config) (spaces : C → List Shown)
   IsLeft conn (GivenUp load asking) = ⊥
   IsLeft conn (Dropped load asking) = WasNotUnderWay conn.namespace load
 
-  -- a load was settled by a turn, which gave this; or, if nothing is given, it was left
-  abbrev pub SettledSo : Conn → Settling → ℕ → Option Given → Type 0
-  SettledSo conn settling moment None = IsLeft conn settling
-  SettledSo conn settling moment (Some given) =
-      CameSo conn (exchange_of (Settled settling moment) given) (Settled settling moment)
+  -- a load was settled by a turn, which gave this; or, if nothing is given, it was left, and no hold was claimed
+  abbrev pub SettledSo : Conn → Settling → ℕ → Own C → Option Given → Own C → Type 0
+  SettledSo conn settling moment p None q = IsLeft conn settling × (q ≡ p)
+  SettledSo conn settling moment p (Some given) q =
+      CameSo conn p (exchange_of (Settled settling moment) given) q (Settled settling moment)
 
   -- the load of the input was not under way at some moment
   abbrev pub LacksItsLoad : Input → Type 0

@@ -1,5 +1,5 @@
 -- The result of serving a connection, and what is written to it.
-use Rattle.std.specs.Prelude.{◌≡◌, ℕ, ◌+◌, ◌++◌, ◌≤◌, List, length, Option, Bool, true, [], Vec, Result, ◌⊎◌, MatchResult}
+use Rattle.std.specs.Prelude.{◌≡◌, ℕ, ◌+◌, ◌++◌, ◌∷◌, ◌≤◌, List, length, Option, Bool, true, [], Vec, Result, ◌⊎◌, MatchResult}
 use Rattle.std.specs.Io.KnownBytes.{Consumes}
 use Rattle.std.specs.List.{All, concat, Contains}
 use Rattle.std.specs.declared.alloc.Global.{Global}
@@ -19,7 +19,9 @@ use Rattle.cache_shared.specs.Events.{IsUnfit}
 use Rattle.cache_shared.specs.Looked.{WereUntaken, WereOut}
 use Rattle.cache_shared.specs.Seats.{SameReceipts}
 use Rattle.cache_shared.specs.declared.seat.Seat.{Seat}
+use Rattle.cache_history.specs.declared.known.Naming.{Ghosts as Names}
 use Rattle.cache_shared.specs.declared.seat.Seating.{Ghosts as Ledgers}
+use Rattle.cache_history.specs.declared.known.Own.{Own}
 use Rattle.cache_service.specs.Exchanged.{CameSo, WasOpened}
 use Rattle.cache_service.specs.Asked.{Grows, OpensConnection, ServesConnection, ServesConnectionOrNot}
 
@@ -60,33 +62,42 @@ AreOut configs spaces namespace loads = EachOut (HadGoneOut configs spaces names
 
 -- The turns in which a connection was served.
 
+-- exchanges came one after another, each from where the one before it led
+abbrev pub Follow : {P : Type 0} → (P → Exchange → P → Type 0) → P → List Exchange → P → Type 0
+Follow Came p [] q = q ≡ p
+Follow {P} Came p (exchange ∷ exchanges) q =
+    (m : P) × Came p exchange m × Follow Came m exchanges q
+
 -- A connection of this namespace was opened, and exchanges of it took place, one after another, each of which came so. What was read was
 -- fed, piece by piece, except for the rest; the clock told their moments, and maybe one that was refused; and their replies were written,
 -- except for the rest.
-pub record ServesInTurns {K : Type 0} (Opened : ℕ → Conn → Type 0) (Came : Conn → Exchange → Type 0) (reads : K → ℕ → K → Type 0)
-    (namespace : ℕ) (remaining later before after : Option (List ℕ)) (k l : K) (rest : List ℕ) : Type 0
+pub record ServesInTurns {K P : Type 0} (Opened : ℕ → Conn → P → P → Type 0)
+    (Came : Conn → P → Exchange → P → Type 0) (reads : K → ℕ → K → Type 0) (namespace : ℕ) (p : P)
+    (remaining later before after : Option (List ℕ)) (k l : K) (rest : List ℕ) : Type 0
   where
     pub conn : Conn
     pub here : conn.namespace ≡ namespace
-    pub opened : Opened namespace conn
+    pub start : P
+    pub opened : Opened namespace conn p start
     pub exchanges : List Exchange
-    pub each : All (Came conn) exchanges
+    pub stop : P
+    pub each : Follow (Came conn) start exchanges stop
     pub lost : List ℕ
     pub late : List ℕ
     pub read : Consumes remaining later (pieces_in exchanges ++ lost)
     pub told : Readings reads k (moments_in exchanges ++ late) l
     pub sent : SentBut rest (replies_in exchanges) before after
 
--- It was served so, each exchange in one hold of the lock, and all replies were written; after an error, but for the rest, or nothing was
--- read or written.
+-- It was served so, each exchange in one hold of the lock, of which the seat claims one after the other, and all replies were written;
+-- after an error, but for the rest, or nothing was read or written.
 abbrev pub ServesTurns : {C R W K X E : Type 0} → List Config → (C → List Shown)
     → (C → Conn → List ℕ) → (C → ℕ → List Note) → (R → Option (List ℕ)) → (W → Option (List ℕ))
-    → (K → ℕ → K → Type 0) → ℕ → Result X E → Watched R → Watched R → Watched W → Watched W → K → K
-    → Type 0
-ServesTurns configs spaces untaken untold remaining contents reads namespace r reader reader' writer writer' k l =
+    → (K → ℕ → K → Type 0) → ℕ → Own C → Result X E → Watched R → Watched R → Watched W → Watched W
+    → K → K → Type 0
+ServesTurns configs spaces untaken untold remaining contents reads namespace own r reader reader' writer writer' k l =
     let InTurns = ServesInTurns (WasOpened configs spaces untaken untold)
-    (λ conn exchange. CameSo configs spaces untaken untold conn exchange exchange.doing) reads
-    namespace (remaining (device reader)) (remaining (device reader'))
+    (λ conn p exchange q. CameSo configs spaces untaken untold conn p exchange q exchange.doing)
+    reads namespace own (remaining (device reader)) (remaining (device reader'))
     (contents (device writer)) (contents (device writer')) k l in
     MatchResult r (λ x. InTurns [])
     (λ err. ((rest : List ℕ) × InTurns rest)
@@ -111,10 +122,10 @@ BeginsOrIdles keeps namespace before after conn =
 
 -- Texts that were replies of a connection of this namespace were written, except for the end of the last one after an error: one for each
 -- input that was counted, less three, and after an error also less one for each load for which the loader was asked.
-abbrev pub WritesAll : {C L W D X E : Type 0} → {G : Ledgers L} → (keeps : Bool)
+abbrev pub WritesAll : {C L W D X E : Type 0} → {G : Ledgers L} → {N : Names L} → (keeps : Bool)
     → List Config → (C → List Shown) → (C → Conn → List ℕ) → (W → Option (List ℕ))
     → (D → List ℕ → Option Outcome → D → Type 0) → ℕ → Result X E
-    → Seat L G → Seat L G → Watched W → Watched W → D → D → Type 0
+    → Seat L C G N → Seat L C G N → Watched W → Watched W → D → D → Type 0
 WritesAll keeps configs spaces untaken contents loads namespace r seat seat' writer writer' d e =
     MatchResult r
     (λ x. Serves configs spaces untaken namespace
@@ -126,10 +137,10 @@ WritesAll keeps configs spaces untaken contents loads namespace r seat seat' wri
     seat'.count (length asks + 3) (contents (device writer)) (contents (device writer')) rest)
 
 -- if receipts are kept, those that the seat gains are of what was done for a connection of this namespace
-abbrev pub AsksAll : {C L R K D X E : Type 0} → {G : Ledgers L} → (keeps : Bool)
+abbrev pub AsksAll : {C L R K D X E : Type 0} → {G : Ledgers L} → {N : Names L} → (keeps : Bool)
     → List Config → (C → List Shown) → (R → Option (List ℕ)) → (K → ℕ → K → Type 0)
     → (D → List ℕ → Option Outcome → D → Type 0) → ℕ → Result X E
-    → Seat L G → Seat L G → Watched R → Watched R → K → K → D → D → Type 0
+    → Seat L C G N → Seat L C G N → Watched R → Watched R → K → K → D → D → Type 0
 AsksAll keeps configs spaces remaining reads loads namespace r seat seat' reader reader' k l d e =
     keeps ≡ true
     → MatchResult r

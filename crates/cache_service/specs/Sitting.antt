@@ -22,18 +22,24 @@ use Rattle.cache_shared.specs.Events.{IsUnfit}
 use Rattle.cache_shared.specs.Seats.{SameReceipts}
 use Rattle.cache_shared.specs.Looked.{WereUntaken}
 use Rattle.cache_shared.specs.declared.seat.Seat.{Seat}
+use Rattle.cache_history.specs.declared.known.Naming.{Ghosts as Names}
 use Rattle.cache_shared.specs.declared.seat.Seating.{Ghosts as Ledgers}
 use Rattle.cache_spaces.specs.Calls.{namespace_of}
 use Rattle.cache_spaces.specs.Spaces.{Shown}
 
 -- its count and its receipts
-abbrev pub tally : {L : Type 0} → {G : Ledgers L} → Seat L G → Tally
+abbrev pub tally : {L C : Type 0} → {G : Ledgers L} → {N : Names L} → Seat L C G N → Tally
 tally seat = record { count = seat.count; receipts = seat.receipts.items }
 
 -- nothing was taken
 pub record SeatRests (h k : Tally) : Type 0 where
   pub count : k.count ≡ h.count
   pub same : SameReceipts h.receipts k.receipts
+
+-- nothing was, and no hold was claimed
+abbrev pub SeatIdles : {L C : Type 0} → {G : Ledgers L} → {N : Names L} → Seat L C G N
+    → Seat L C G N → Type 0
+SeatIdles p q = SeatRests (tally p) (tally q) × (q.claims ≡ p.claims)
 
 -- an input was taken
 pub record SeatTakes (keeps : Bool) (i : Input) (h k : Tally) : Type 0 where
@@ -60,51 +66,53 @@ module _ {C : Type 0} (configs : List Config) (spaces : C → List Shown)
         (AreOut configs spaces conn.namespace)
     pub suits : SuitsRequest false wants_loads given
 
-  module _ {L : Type 0} {G : Ledgers L} (keeps : Bool) where
+  module _ {L : Type 0} {G : Ledgers L} {N : Names L} (keeps : Bool) where
     module _ (untold : C → ℕ → List Note) where
       -- in terms of a seat, and of one hold of the lock
-      abbrev pub Opens : ℕ → Conn → Seat L G → Seat L G → Type 0
+      abbrev pub Opens : ℕ → Conn → Seat L C G N → Seat L C G N → Type 0
       Opens namespace conn p q =
           SeatOpens keeps (HadGoneOut configs spaces) IsUnfit IsReply namespace conn (tally p)
-          (tally q) × WasOpened configs spaces untaken untold namespace conn
+          (tally q) × WasOpened configs spaces untaken untold namespace conn p.claims q.claims
 
-      abbrev pub Comes : Conn → Seat L G → Exchange → Seat L G → Type 0
+      abbrev pub Comes : Conn → Seat L C G N → Exchange → Seat L C G N → Type 0
       Comes conn p exchange q =
           SeatComes keeps (HadGoneOut configs spaces) IsUnfit IsReply conn (tally p) exchange
-          (tally q) × CameSo configs spaces untaken untold conn exchange exchange.doing
+          (tally q) × CameSo configs spaces untaken untold conn p.claims exchange q.claims
+          exchange.doing
 
     -- in terms of a seat
-    abbrev pub Closes : Conn → Seat L G → Seat L G → Type 0
+    abbrev pub Closes : Conn → Seat L C G N → Seat L C G N → Type 0
     Closes conn p q =
         SeatCloses keeps (HadGoneOut configs spaces) IsUnfit IsReply conn (tally p) (tally q)
 
-    abbrev pub Drops : Conn → Outs → Seat L G → List Asking → Seat L G → Type 0
+    abbrev pub Drops : Conn → Outs → Seat L C G N → List Asking → Seat L C G N → Type 0
     Drops conn hand p askings q =
         SeatDrops keeps (HadGoneOut configs spaces) IsUnfit IsReply conn hand (tally p) askings
         (tally q)
 
     -- whatever the key, a load was settled by what the loader returned, and this was given
     abbrev pub Settles : {E : Type 0} → (C → ℕ → List Note) → Conn → ℕ → Option Outcome → ℕ
-        → Result (Option Given) E → Seat L G → Seat L G → Type 0
+        → Result (Option Given) E → Seat L C G N → Seat L C G N → Type 0
     Settles untold conn load said moment result p q =
         (key : List ℕ)
         → (settles : SeatSettles keeps (HadGoneOut configs spaces) IsUnfit IsReply conn.namespace moment load (record { key = key; answer = said }) (tally p) (tally q))
-        × IfOk result (SettledSo configs spaces untaken untold conn settles.settling moment)
+        × IfOk result (λ given. SettledSo configs spaces untaken untold conn settles.settling
+        moment p.claims given q.claims)
 
     -- this happened at moment 0, whatever the service refuses
-    abbrev pub SettlesLate : ℕ → ℕ → Option Outcome → Seat L G → Seat L G → Type 0
+    abbrev pub SettlesLate : ℕ → ℕ → Option Outcome → Seat L C G N → Seat L C G N → Type 0
     SettlesLate namespace load said p q =
         (key : List ℕ) → SeatSettles keeps (HadGoneOut configs spaces) (λ outcome. Unit {0}) IsReply namespace 0 load (record { key = key; answer = said }) (tally p) (tally q)
 
     -- a loader was asked for the load by this key, and it was settled like this
     abbrev pub DropsOne : {D : Type 0} → (D → List ℕ → Option Outcome → D → Type 0) → ℕ → ℕ → List ℕ
-        → Seat L G → Seat L G → D → D → Type 0
+        → Seat L C G N → Seat L C G N → D → D → Type 0
     DropsOne loads namespace load key p q d e =
         (said : Option Outcome) × SettlesLate namespace load said p q × loads d key said e
 
     -- it was asked for several
     abbrev pub DropsBy : {D : Type 0} → (D → List ℕ → Option Outcome → D → Type 0) → Conn → Outs
-        → Seat L G → Seat L G → D → D → Type 0
+        → Seat L C G N → Seat L C G N → D → D → Type 0
     DropsBy loads conn hand p q d e =
         (askings : List Asking) × Drops conn hand p askings q × Askings loads d askings e
 

@@ -15,10 +15,10 @@ use std::thread::{SpawnError, Threads};
 
 /// The result of `host`: the seats of the connections that were served, and whether it could not continue.
 #[derive(Drop)]
-pub struct Hosted<L: Seating> {
+pub struct Hosted<L: Seating, C> {
     /// The seats, in no order; one serves many connections, one after another. A seat for which there was no memory is missing, so that
     /// `SharedService::finish` then returns everything.
-    pub seats: Vec<Seat<L>>,
+    pub seats: Vec<Seat<L, C>>,
     /// Whether `host` ended early: an accept failed while nobody was connected, and not for lack of descriptors or memory, or there was no
     /// memory to begin with.
     pub failed: bool,
@@ -41,7 +41,7 @@ pub fn host<L, C, D, R>(
     listener: &TcpListener,
     devices: &D,
     limit: Option<u64>,
-) -> Hosted<L>
+) -> Hosted<L, C>
 where
     L: Seating + Send + Sync + 'static,
     C: Shareable + Send + 'static,
@@ -76,7 +76,7 @@ fn admit<L, C, D, R>(
     namespace: u64,
     devices: &D,
     stream: TcpStream,
-    workers: &mut Workers<L>,
+    workers: &mut Workers<L, C>,
 ) -> Option<()>
 where
     L: Seating + Send + Sync + 'static,

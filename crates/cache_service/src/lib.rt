@@ -18,7 +18,9 @@ mod workers;
 pub use audit_laws::Receipt;
 pub use audit_model::{Conn, LoadId, Note as Notice, ServiceError};
 pub use cache_run::{Clock, Loader, RunError, Watched, run};
-pub use cache_shared::{Finished, Intake, IntakeError, Seat, Seating, Shareable, SharedService};
+pub use cache_shared::{
+    Books, Finished, Intake, IntakeError, Seat, Seating, Shareable, SharedService,
+};
 pub use cache_spaces::{
     AnswerError, Core, Fed, LentReplies, Output, Owed, RecordedService, Refusal, Service,
     copy_note, play,

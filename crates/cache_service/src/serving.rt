@@ -48,7 +48,7 @@ pub fn serve<L: Seating, C: Shareable, I: Read, O: Write, K: Clock, D: Loader, R
     rt: &R,
     alloc: Global,
     shared: &SharedService<L, C>,
-    seat: &mut Seat<L>,
+    seat: &mut Seat<L, C>,
     namespace: u64,
     reader: &mut Watched<I>,
     writer: &mut Watched<O>,
@@ -70,7 +70,8 @@ pub fn serve<L: Seating, C: Shareable, I: Read, O: Write, K: Clock, D: Loader, R
     ensures moment { IsErrOf result RunError.Moment → HasToldLate K.reads clock.new }
     ensures loader { HasAskedSome D.loads loader.old loader.new }
     ensures served { ServesTurns L.configs C.spaces C.untaken C.untold I.remaining O.contents
-        K.reads namespace result reader.old reader.new writer.old writer.new clock.old clock.new }
+        K.reads namespace seat.old.claims result reader.old reader.new writer.old writer.new
+        clock.old clock.new }
 {
     serve_and_tell(
         rt,
@@ -102,7 +103,7 @@ pub fn serve_and_tell<
     rt: &R,
     alloc: Global,
     shared: &SharedService<L, C>,
-    seat: &mut Seat<L>,
+    seat: &mut Seat<L, C>,
     namespace: u64,
     reader: &mut Watched<I>,
     writer: &mut Watched<O>,
@@ -125,7 +126,8 @@ pub fn serve_and_tell<
     ensures moment { IsErrOf result RunError.Moment → HasToldLate K.reads clock.new }
     ensures loader { HasAskedSome D.loads loader.old loader.new }
     ensures served { ServesTurns L.configs C.spaces C.untaken C.untold I.remaining O.contents
-        K.reads namespace result reader.old reader.new writer.old writer.new clock.old clock.new }
+        K.reads namespace seat.old.claims result reader.old reader.new writer.old writer.new
+        clock.old clock.new }
 {
     let Ok(mut sitting) = Sitting::new(rt, alloc, shared, teller, true) else {
         return Err(RunError::OutOfMemory);

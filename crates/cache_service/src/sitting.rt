@@ -5,7 +5,7 @@ ghost use Rattle.cache_run.specs.Driver.Hosting.{Stops};
 ghost use Rattle.cache_service.specs.Asked.{give_up_input};
 ghost use Rattle.cache_service.specs.Cutting.{IsShortPiece};
 ghost use Rattle.cache_service.specs.Exchanged.{GivesLook, GivesTurn, IsRefusedFor, SettledSo, WereTaken, given_up_or_left, is_held_by};
-ghost use Rattle.cache_service.specs.Sitting.{Closes, Comes, Drops, DropsBy, DropsOne, GivesDue, Opens, SeatRests, SeatTakes, Settles, TakesIfGiven, closes-behind, none-short, tally, used-later};
+ghost use Rattle.cache_service.specs.Sitting.{Closes, Comes, Drops, DropsBy, DropsOne, GivesDue, Opens, SeatIdles, SeatTakes, Settles, TakesIfGiven, closes-behind, none-short, tally, used-later};
 ghost use Rattle.cache_service.specs.Telling.{TellsAll};
 ghost use Rattle.cache_shared.specs.Events.{HasLateMoment};
 ghost use Rattle.cache_shared.specs.Intakes.{input_in};
@@ -100,7 +100,7 @@ impl<'a, L: Seating, C: Shareable, T: Teller, R: Wait> Sitting<'a, L, C, T, R> {
     /// Has an intake taken, and gives what the connection is owed afterwards, in one hold of the lock; then notes are reported.
     fn ask(
         &mut self,
-        seat: &mut Seat<L>,
+        seat: &mut Seat<L, C>,
         conn: Conn,
         intake: Intake<'_>,
         wants_loads: bool,
@@ -111,8 +111,8 @@ impl<'a, L: Seating, C: Shareable, T: Teller, R: Wait> Sitting<'a, L, C, T, R> {
         ensures turned { IfOk result (GivesTurn L.configs C.spaces C.untaken C.untold conn
             (input_in intake.entry) wants_loads (TellsAll T.tells
             (WereTaken L.configs C.spaces C.untaken C.untold conn.namespace) self.old.teller.now
-            self.new.teller.now)) }
-        ensures rests { OnErr result (SeatRests (tally seat.old) (tally seat.new)) }
+            self.new.teller.now) seat.old.claims seat.new.claims) }
+        ensures rests { OnErr result (SeatIdles seat.old seat.new) }
         ensures late { IfErr result
             (λ e. e ≡ ServiceError.Moment → HasLateMoment (input_in intake.entry)) }
         ensures why { IfErr result
@@ -132,15 +132,18 @@ impl<'a, L: Seating, C: Shareable, T: Teller, R: Wait> Sitting<'a, L, C, T, R> {
     }
 
     /// What a connection is owed; notes are reported.
-    fn take_owed(&mut self, conn: Conn, wants_loads: bool) -> Given
+    fn take_owed(&mut self, seat: &mut Seat<L, C>, conn: Conn, wants_loads: bool) -> Given
         ensures given { GivesDue L.configs C.spaces C.untaken conn wants_loads result }
         ensures looked { GivesLook L.configs C.spaces C.untaken C.untold conn wants_loads
             (TellsAll T.tells (WereTaken L.configs C.spaces C.untaken C.untold conn.namespace)
-            self.old.teller.now self.new.teller.now) result }
+            self.old.teller.now self.new.teller.now) seat.old.claims seat.new.claims result }
+        ensures seat { tally seat.new ≡ tally seat.old }
         ensures same { self.new.teller.ghost_name ≡ self.old.teller.ghost_name }
     {
         let notes = &mut self.notes;
-        let owed = self.shared.take_owed(self.rt, conn, wants_loads, notes);
+        let owed = self
+            .shared
+            .take_owed(self.rt, seat, conn, wants_loads, notes);
         self.tell_notes(conn.namespace);
         self.give(owed, false)
     }
@@ -148,7 +151,7 @@ impl<'a, L: Seating, C: Shareable, T: Teller, R: Wait> Sitting<'a, L, C, T, R> {
     /// Gives up a load. If that is refused for memory, it is tried again. `None` if it is not under way.
     fn give_up(
         &mut self,
-        seat: &mut Seat<L>,
+        seat: &mut Seat<L, C>,
         conn: Conn,
         load: u64,
         moment: u64,
@@ -160,7 +163,8 @@ impl<'a, L: Seating, C: Shareable, T: Teller, R: Wait> Sitting<'a, L, C, T, R> {
             (λ given. IfSome given (GivesDue L.configs C.spaces C.untaken conn wants_loads)) }
         ensures settled { IfOk result (λ given. (asking : Asking)
             → SettledSo L.configs C.spaces C.untaken C.untold conn
-            (given_up_or_left load asking given) moment given) }
+            (given_up_or_left load asking given) moment seat.old.claims given seat.new.claims) }
+        ensures rests { OnErr result (seat.new.claims ≡ seat.old.claims) }
         ensures why { IfErr result
             (Stops (2 ^ 64 - 1 ≤ seat.new.count) (2 ^ 63 ≤ moment)) }
     {
@@ -191,7 +195,7 @@ impl<'a, L: Seating, C: Shareable, T: Teller, R: Wait> Sitting<'a, L, C, T, R> {
     /// for its bytes or its time. `None` if it is not under way.
     fn settle_load(
         &mut self,
-        seat: &mut Seat<L>,
+        seat: &mut Seat<L, C>,
         conn: Conn,
         load: u64,
         said: Option<Outcome>,
@@ -200,7 +204,7 @@ impl<'a, L: Seating, C: Shareable, T: Teller, R: Wait> Sitting<'a, L, C, T, R> {
     ) -> Result<Option<Given>, RunError>
         ensures settled { Settles L.configs C.spaces C.untaken C.KEEPS C.untold conn load said
             moment result seat.old seat.new }
-        ensures rests { OnErr result (SeatRests (tally seat.old) (tally seat.new)) }
+        ensures rests { OnErr result (SeatIdles seat.old seat.new) }
         ensures given { IfOk result
             (λ given. IfSome given (GivesDue L.configs C.spaces C.untaken conn wants_loads)) }
         ensures why { IfErr result
@@ -238,7 +242,7 @@ impl<'a, L: Seating, C: Shareable, T: Teller, R: Wait> Sitting<'a, L, C, T, R> {
     /// is refused is followed by a give-up.
     fn drop_load<D: Loader>(
         &mut self,
-        seat: &mut Seat<L>,
+        seat: &mut Seat<L, C>,
         conn: Conn,
         load: u64,
         key: &[u8],
@@ -256,7 +260,7 @@ impl<'a, L: Seating, C: Shareable, T: Teller, R: Wait> Sitting<'a, L, C, T, R> {
     /// Asks the loader for loads of a connection that has closed, the last first, and settles them.
     fn drop_each<D: Loader>(
         &mut self,
-        seat: &mut Seat<L>,
+        seat: &mut Seat<L, C>,
         conn: Conn,
         loads: &[(LoadId, Bytes)],
         loader: &mut D,
@@ -272,7 +276,7 @@ impl<'a, L: Seating, C: Shareable, T: Teller, R: Wait> Sitting<'a, L, C, T, R> {
 }
 
 impl<L: Seating, C: Shareable, T: Teller, R: Wait> Host for Sitting<'_, L, C, T, R> {
-    type Place = Seat<L>;
+    type Place = Seat<L, C>;
 
     ghost LENT = { false };
 
@@ -284,7 +288,7 @@ impl<L: Seating, C: Shareable, T: Teller, R: Wait> Host for Sitting<'_, L, C, T,
 
     ghost came = { Comes L.configs C.spaces C.untaken C.KEEPS C.untold };
 
-    ghost rests = { λ p q. SeatRests (tally p) (tally q) };
+    ghost rests = { SeatIdles };
 
     ghost counted = { λ seat. seat.count };
 
@@ -294,7 +298,7 @@ impl<L: Seating, C: Shareable, T: Teller, R: Wait> Host for Sitting<'_, L, C, T,
 
     ghost drops = { Drops L.configs C.spaces C.untaken C.KEEPS };
 
-    fn open(&mut self, place: &mut Seat<L>, namespace: u64) -> Result<Conn, RunError> {
+    fn open(&mut self, place: &mut Seat<L, C>, namespace: u64) -> Result<Conn, RunError> {
         match self.shared.step(self.rt, place, Input::Open { namespace }) {
             Ok(Output::Opened { conn }) => Ok(conn),
             Ok(_) => unreachable!(),
@@ -310,7 +314,7 @@ impl<L: Seating, C: Shareable, T: Teller, R: Wait> Host for Sitting<'_, L, C, T,
 
     fn feed(
         &mut self,
-        place: &mut Seat<L>,
+        place: &mut Seat<L, C>,
         conn: Conn,
         piece: &[u8],
         moment: u64,
@@ -329,7 +333,7 @@ impl<L: Seating, C: Shareable, T: Teller, R: Wait> Host for Sitting<'_, L, C, T,
 
     fn settle(
         &mut self,
-        place: &mut Seat<L>,
+        place: &mut Seat<L, C>,
         conn: Conn,
         load: u64,
         said: Option<Outcome>,
@@ -338,18 +342,18 @@ impl<L: Seating, C: Shareable, T: Teller, R: Wait> Host for Sitting<'_, L, C, T,
     ) -> Result<Given, RunError> {
         match self.settle_load(place, conn, load, said, moment, wants_loads)? {
             Some(given) => Ok(given),
-            None => Ok(self.take_owed(conn, wants_loads)),
+            None => Ok(self.take_owed(place, conn, wants_loads)),
         }
     }
 
-    fn await_owed(&mut self, place: &mut Seat<L>, conn: Conn) -> Given {
+    fn await_owed(&mut self, place: &mut Seat<L, C>, conn: Conn) -> Given {
         if self.waits {
             self.shared.await_ready(self.rt, place, conn);
         }
-        self.take_owed(conn, true)
+        self.take_owed(place, conn, true)
     }
 
-    fn close(&mut self, place: &mut Seat<L>, conn: Conn) {
+    fn close(&mut self, place: &mut Seat<L, C>, conn: Conn) {
         // A closing that is refused for memory is tried again.
         for _try in 0..u64::MAX {
             match self.shared.step(self.rt, place, Input::Close { conn }) {
@@ -361,14 +365,14 @@ impl<L: Seating, C: Shareable, T: Teller, R: Wait> Host for Sitting<'_, L, C, T,
 
     fn drop_loads<D: Loader>(
         &mut self,
-        place: &mut Seat<L>,
+        place: &mut Seat<L, C>,
         conn: Conn,
         hand: &[(LoadId, Bytes)],
         loader: &mut D,
     ) {
         self.drop_each(place, conn, hand, loader);
         for _turn in 0..u64::MAX {
-            let Given { owed, .. } = self.take_owed(conn, true);
+            let Given { owed, .. } = self.take_owed(place, conn, true);
             let Owed { loads, .. } = owed;
             match loads {
                 Some(loads) if !loads.is_empty() => {
@@ -384,7 +388,7 @@ impl<L: Seating, C: Shareable, T: Teller, R: Wait> Host for Sitting<'_, L, C, T,
     ghost exhausts_within = { λ i j k l below above used. used-later k l above used };
 
     ghost closes_behind = { λ conn p q r rests closes.
-        closes-behind conn (tally p) (tally q) (tally r) rests closes };
+        closes-behind conn (tally p) (tally q) (tally r) rests.0 closes };
 }
 
 /// Why a connection stops after an input of it was refused.

@@ -59,15 +59,15 @@ fn is_of_want(error: &io::Error) -> bool {
 
 /// Threads that serve a connection each, by their indices, and the seats that no thread has.
 #[derive(Drop)]
-pub struct Workers<L: Seating> {
-    running: Slab<JoinHandle<Seat<L>>>,
-    seats: Vec<Seat<L>>,
+pub struct Workers<L: Seating, C> {
+    running: Slab<JoinHandle<Seat<L, C>>>,
+    seats: Vec<Seat<L, C>>,
     done: Arc<Done>,
 }
 
-impl<L: Seating + Send + Sync + 'static> Workers<L> {
+impl<L: Seating + Send + Sync + 'static, C: Shareable + Send + 'static> Workers<L, C> {
     /// Creates an empty list of threads. Returns an error if there is not enough memory.
-    pub fn new(alloc: Global) -> Result<Workers<L>, AllocError> {
+    pub fn new(alloc: Global) -> Result<Workers<L, C>, AllocError> {
         Ok(Workers {
             running: Slab::new(alloc),
             seats: Vec::new(alloc),
@@ -87,22 +87,22 @@ impl<L: Seating + Send + Sync + 'static> Workers<L> {
     }
 
     /// Returns a free seat, or else a new one, or `None` if the service has no more.
-    pub fn take_seat<C: Shareable>(
+    pub fn take_seat(
         &mut self,
         rt: &impl Wait,
         shared: &SharedService<L, C>,
-    ) -> Option<Seat<L>> {
+    ) -> Option<Seat<L, C>> {
         self.seats.pop().or_else(|| shared.seat(rt).ok())
     }
 
     /// Adds a thread, at the index that `reserve` returned last.
-    pub fn add(&mut self, thread: JoinHandle<Seat<L>>) {
+    pub fn add(&mut self, thread: JoinHandle<Seat<L, C>>) {
         let _ = self.running.insert(thread);
     }
 
     /// Takes back a seat whose work was done here, although the end of a thread was noted. A seat for which there is not enough memory is
     /// lost, and `SharedService::finish` then returns everything.
-    pub fn give_back(&mut self, rt: &impl Wait, place: usize, seat: Seat<L>) {
+    pub fn give_back(&mut self, rt: &impl Wait, place: usize, seat: Seat<L, C>) {
         self.done.places.lock(rt).retain(|told| *told != place);
         let _ = self.seats.push(seat);
     }
@@ -141,7 +141,7 @@ impl<L: Seating + Send + Sync + 'static> Workers<L> {
     }
 
     /// Joins all threads, and returns the seats, in no order.
-    pub fn finish(mut self, rt: &impl Threads) -> Vec<Seat<L>> {
+    pub fn finish(mut self, rt: &impl Threads) -> Vec<Seat<L, C>> {
         for thread in self.running.drain() {
             let _ = self.seats.push(thread.join(rt));
         }

@@ -34,7 +34,7 @@ fn talks<L: Seating, C: Shareable, R: Wait>(
     rt: &R,
     alloc: Global,
     shared: &SharedService<L, C>,
-    seat: &mut Seat<L>,
+    seat: &mut Seat<L, C>,
     conn: Conn,
     key: u8,
     (text, wanted): Talk<'_>,
@@ -52,7 +52,7 @@ fn talks_once<L: Seating, C: Shareable, R: Wait>(
     rt: &R,
     alloc: Global,
     shared: &SharedService<L, C>,
-    seat: &mut Seat<L>,
+    seat: &mut Seat<L, C>,
     conn: Conn,
     script: &Script<'_>,
 ) -> bool {
@@ -69,7 +69,7 @@ fn talks_often<L: Seating, C: Shareable, R: Wait>(
     rt: &R,
     alloc: Global,
     shared: &SharedService<L, C>,
-    seat: &mut Seat<L>,
+    seat: &mut Seat<L, C>,
     conn: Conn,
     script: &Script<'_>,
 ) -> bool {
@@ -82,7 +82,7 @@ fn talks_often<L: Seating, C: Shareable, R: Wait>(
 }
 
 /// Whether a seat counts as many inputs as its script says, and one more for each command that was held back, and has their receipts.
-fn counts_so<L: Seating>(seat: &Seat<L>, script: &Script<'_>) -> bool {
+fn counts_so<L: Seating, C>(seat: &Seat<L, C>, script: &Script<'_>) -> bool {
     let (count, receipts) = counts_of(seat);
     count == receipts as u64 && count == script.count.saturating_add(count_held(seat) as u64)
 }
@@ -92,7 +92,7 @@ fn follows_on<L: Seating, C: Shareable, R: Wait>(
     rt: &R,
     alloc: Global,
     shared: &SharedService<L, C>,
-    seat: &mut Seat<L>,
+    seat: &mut Seat<L, C>,
     conn: Conn,
     script: &Script<'_>,
 ) -> bool {
@@ -106,7 +106,7 @@ pub fn follows<L: Seating, C: Shareable, R: Wait>(
     rt: &R,
     alloc: Global,
     shared: &SharedService<L, C>,
-    seat: &mut Seat<L>,
+    seat: &mut Seat<L, C>,
     script: &Script<'_>,
 ) -> bool {
     match opens(rt, shared, seat) {
@@ -120,7 +120,7 @@ fn refuses_feed<L: Seating, C: Shareable, R: Wait>(
     rt: &R,
     alloc: Global,
     shared: &SharedService<L, C>,
-    seat: &mut Seat<L>,
+    seat: &mut Seat<L, C>,
 ) -> bool {
     match feed(alloc, conn(9), b"GET a\n") {
         Some(input) => refuses(rt, shared, seat, input),
@@ -133,7 +133,7 @@ fn works<L: Seating, C: Shareable, R: Wait>(
     rt: &R,
     alloc: Global,
     shared: &SharedService<L, C>,
-    seat: &mut Seat<L>,
+    seat: &mut Seat<L, C>,
     script: &Script<'_>,
 ) -> bool {
     refuses_feed(rt, alloc, shared, seat)
@@ -146,7 +146,7 @@ fn works_at<L: Seating, C: Shareable, R: Wait>(
     rt: &R,
     alloc: Global,
     shared: &SharedService<L, C>,
-    seat: &mut Seat<L>,
+    seat: &mut Seat<L, C>,
     crew: &Crew<'_>,
     number: usize,
     right: &AtomicU64,
@@ -162,7 +162,7 @@ pub fn all_work<L: Seating + Send + Sync, C: Shareable + Send, R: Threads + Wait
     rt: &R,
     alloc: Global,
     shared: &SharedService<L, C>,
-    seats: &mut [Seat<L>],
+    seats: &mut [Seat<L, C>],
     crew: &Crew<'_>,
 ) -> bool {
     let right = AtomicU64::new(0);
@@ -178,8 +178,8 @@ pub fn all_work<L: Seating + Send + Sync, C: Shareable + Send, R: Threads + Wait
 /// The service and these seats back, where it is not to be had beside a clone.
 fn refused_beside_clone<L: Seating, C: Shareable>(
     shared: SharedService<L, C>,
-    seats: Vec<Seat<L>>,
-) -> Option<(SharedService<L, C>, Vec<Seat<L>>)>
+    seats: Vec<Seat<L, C>>,
+) -> Option<(SharedService<L, C>, Vec<Seat<L, C>>)>
     requires ledger { L.all ≡ L.parts }
 {
     match shared.clone() {
@@ -191,7 +191,7 @@ fn refused_beside_clone<L: Seating, C: Shareable>(
 /// What seats leave. The service is not to be had beside a clone.
 fn finish_without_clone<L: Seating, C: Shareable>(
     shared: SharedService<L, C>,
-    seats: Vec<Seat<L>>,
+    seats: Vec<Seat<L, C>>,
 ) -> Option<Finished<C>>
     requires ledger { L.all ≡ L.parts }
 {
@@ -204,8 +204,8 @@ fn finish_without_clone<L: Seating, C: Shareable>(
 /// The same of all seats but the last one, and that one.
 fn finish_with<L: Seating, C: Shareable>(
     shared: SharedService<L, C>,
-    mut seats: Vec<Seat<L>>,
-    last: Seat<L>,
+    mut seats: Vec<Seat<L, C>>,
+    last: Seat<L, C>,
 ) -> Option<Finished<C>>
     requires ledger { L.all ≡ L.parts }
 {
@@ -218,8 +218,8 @@ fn finish_with<L: Seating, C: Shareable>(
 /// The same, where the service is not to be had without the last one.
 fn finish_with_last<L: Seating, C: Shareable>(
     shared: SharedService<L, C>,
-    seats: Vec<Seat<L>>,
-    last: Seat<L>,
+    seats: Vec<Seat<L, C>>,
+    last: Seat<L, C>,
 ) -> Option<Finished<C>>
     requires ledger { L.all ≡ L.parts }
 {
@@ -232,7 +232,7 @@ fn finish_with_last<L: Seating, C: Shareable>(
 /// What seats leave. The service is not to be had without the last one, nor beside a clone.
 pub fn finish_at_last<L: Seating, C: Shareable>(
     shared: SharedService<L, C>,
-    mut seats: Vec<Seat<L>>,
+    mut seats: Vec<Seat<L, C>>,
 ) -> Option<Finished<C>>
     requires ledger { L.all ≡ L.parts }
 {

@@ -146,9 +146,9 @@ fn listen<R: Net<Listener = TcpListener, Stream = TcpStream>>(
 
 /// What came of two clients: whether they were replied so, and what the host leaves.
 #[derive(Drop)]
-struct Came<L: Seating> {
+struct Came<L: Seating, C> {
     is_replied: bool,
-    hosted: Hosted<L>,
+    hosted: Hosted<L, C>,
 }
 
 /// The host's part, once the clients are there; `None` if they do not come. Without them it would wait for them for ever.
@@ -160,7 +160,7 @@ fn host_them<L, C, R>(
     visit: &Visit<'_>,
     listener: &TcpListener,
     meeting: &Meeting,
-) -> Option<Hosted<L>>
+) -> Option<Hosted<L, C>>
 where
     L: Seating + Send + Sync + 'static,
     C: Shareable + Send + 'static,
@@ -184,7 +184,7 @@ fn host_with<L, C, R>(
     listener: &TcpListener,
     addr: SocketAddr,
     one: TcpStream,
-) -> Option<Came<L>>
+) -> Option<Came<L, C>>
 where
     L: Seating + Send + Sync + 'static,
     C: Shareable + Send + 'static,
@@ -222,7 +222,7 @@ fn host_both<L, C, R>(
     visit: &Visit<'_>,
     listener: &TcpListener,
     addr: SocketAddr,
-) -> Option<Came<L>>
+) -> Option<Came<L, C>>
 where
     L: Seating + Send + Sync + 'static,
     C: Shareable + Send + 'static,
@@ -249,7 +249,7 @@ fn host_here<L, C, R>(
     shared: &SharedService<L, C>,
     devices: &Plain,
     visit: &Visit<'_>,
-) -> Option<Came<L>>
+) -> Option<Came<L, C>>
 where
     L: Seating + Send + Sync + 'static,
     C: Shareable + Send + 'static,
@@ -270,7 +270,7 @@ where
 }
 
 /// How many inputs seats count together.
-fn count_of<L: Seating>(seats: &[Seat<L>]) -> u64 {
+fn count_of<L: Seating, C>(seats: &[Seat<L, C>]) -> u64 {
     let mut count = 0u64;
     for seat in seats {
         count = count.saturating_add(seat.count());
@@ -281,7 +281,7 @@ fn count_of<L: Seating>(seats: &[Seat<L>]) -> u64 {
 /// Whether a host ends as it should, and as many events as wanted are behind it.
 fn ends_so<L: Seating, C: Shareable>(
     shared: SharedService<L, C>,
-    hosted: Hosted<L>,
+    hosted: Hosted<L, C>,
     visit: &Visit<'_>,
 ) -> bool
     requires ledger { L.all ≡ L.parts }
@@ -294,7 +294,7 @@ fn ends_so<L: Seating, C: Shareable>(
 /// Whether two clients came to what their visit says.
 fn comes_so<L: Seating, C: Shareable>(
     shared: SharedService<L, C>,
-    came: Came<L>,
+    came: Came<L, C>,
     visit: &Visit<'_>,
 ) -> bool
     requires ledger { L.all ≡ L.parts }

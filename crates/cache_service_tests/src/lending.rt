@@ -47,7 +47,7 @@ fn is_taken_so<L: Seating, C: Shareable, R: Wait>(
     rt: &R,
     alloc: Global,
     shared: &SharedService<L, C>,
-    seat: &mut Seat<L>,
+    seat: &mut Seat<L, C>,
     conn: Conn,
     intake: Intake<'_>,
     piece: &Piece<'_>,
@@ -63,7 +63,7 @@ fn is_lent_so<L: Seating, C: Shareable, R: Wait>(
     rt: &R,
     alloc: Global,
     shared: &SharedService<L, C>,
-    seat: &mut Seat<L>,
+    seat: &mut Seat<L, C>,
     conn: Conn,
     piece: &Piece<'_>,
 ) -> bool {
@@ -82,7 +82,7 @@ fn is_fed_so<L: Seating, C: Shareable, R: Wait>(
     rt: &R,
     alloc: Global,
     shared: &SharedService<L, C>,
-    seat: &mut Seat<L>,
+    seat: &mut Seat<L, C>,
     conn: Conn,
     piece: &Piece<'_>,
 ) -> bool {
@@ -104,8 +104,8 @@ fn are_alike<L: Seating, C: Shareable, R: Wait>(
     rt: &R,
     alloc: Global,
     shared: &SharedService<L, C>,
-    one: &mut Seat<L>,
-    two: &mut Seat<L>,
+    one: &mut Seat<L, C>,
+    two: &mut Seat<L, C>,
     pieces: &[Piece<'_>],
 ) -> bool {
     for piece in pieces {
@@ -123,8 +123,8 @@ fn are_alike_on<L: Seating, C: Shareable, R: Wait>(
     rt: &R,
     alloc: Global,
     shared: &SharedService<L, C>,
-    one: &mut Seat<L>,
-    two: &mut Seat<L>,
+    one: &mut Seat<L, C>,
+    two: &mut Seat<L, C>,
     pieces: &[Piece<'_>],
 ) -> bool {
     opens(rt, shared, one) == Some(conn(1))
@@ -137,7 +137,7 @@ pub fn lends_so<L: Seating, C: Shareable, R: Wait>(
     rt: &R,
     alloc: Global,
     shared: &SharedService<L, C>,
-    seats: &mut [Seat<L>],
+    seats: &mut [Seat<L, C>],
     pieces: &[Piece<'_>],
 ) -> bool {
     match seats {

@@ -1,7 +1,8 @@
 //! What is played over a shared service.
-ghost use Rattle.std.specs.Prelude.{◌≡◌, ◌<◌, length, true, false};
+ghost use Rattle.std.specs.Prelude.{◌≡◌, ◌<◌, IfSome, length, true, false};
 ghost use Rattle.cache_shared.specs.Recordings.{bare_spaces, no_journals, journals_in, spaces_in};
 ghost use Rattle.cache_shared.specs.Events.{StandsAfter};
+ghost use Rattle.cache_shared.specs.Histories.{Starts};
 
 use crate::crews::{Crew, Script, all_work, finish_at_last, follows};
 use crate::hosting::{Visit, is_visit_so};
@@ -13,13 +14,12 @@ use crate::steps::make_seats;
 use crate::waiting::is_answered;
 use crate::without_memory::first_sits;
 use audit_laws::Receipt;
-use cache_shared::{Finished, Seat, Seating, Shareable, SharedService};
+use cache_shared::{Books, Finished, Seat, Seating, Shareable, SharedService};
 use cache_spaces::{RecordedService, Service};
 use std::alloc::Global;
 use std::marker::Brand;
 use std::net::{Net, TcpListener, TcpStream};
 use std::sync::Wait;
-use std::sync::ledger::Blank;
 use std::thread::Threads;
 use std::time::Clock;
 
@@ -51,20 +51,33 @@ pub enum Seated<'a> {
     Lend(&'a [Piece<'a>]),
 }
 
+/// The books of a service, on the second attempt if memory is refused.
+fn make_books<C: Shareable>(alloc: Global, core: &C, parts: u64) -> Option<Books<C>>
+    requires starts { Starts C.spaces core.now }
+    ensures parts { IfSome result (λ books. books.blank.parts ≡ parts) }
+    ensures begins { IfSome result (λ books. books.opened.1 ≡ core.now) }
+{
+    match Books::new(alloc, core, parts) {
+        Ok(books) => Some(books),
+        Err(_) => Books::new(alloc, core, parts).ok(),
+    }
+}
+
 /// A shared form, on the second attempt if memory is refused.
 fn share<L: Seating, C: Shareable>(
     alloc: Global,
     core: C,
-    blank: Blank,
+    books: Books<C>,
     parts: u64,
 ) -> Option<SharedService<L, C>>
     requires empty { StandsAfter C.KEEPS L.configs C.spaces C.journals 0 core }
-    requires name { blank.name ≡ L.name }
-    requires parts { (blank.parts ≡ L.parts) × (L.all ≡ L.parts) × (parts ≡ L.parts) }
+    requires name { books.blank.name ≡ L.name }
+    requires parts { (books.blank.parts ≡ L.parts) × (L.all ≡ L.parts) × (parts ≡ L.parts) }
+    requires history { (books.opened.0 ≡ L.history) × (books.opened.1 ≡ core) }
 {
-    match SharedService::new(alloc, core, blank, parts) {
+    match SharedService::new(alloc, core, books, parts) {
         Ok(shared) => Some(shared),
-        Err((core, blank)) => SharedService::new(alloc, core, blank, parts).ok(),
+        Err((core, books)) => SharedService::new(alloc, core, books, parts).ok(),
     }
 }
 
@@ -107,7 +120,7 @@ fn first_follows<L: Seating, C: Shareable, R: Wait>(
     rt: &R,
     alloc: Global,
     shared: &SharedService<L, C>,
-    seats: &mut [Seat<L>],
+    seats: &mut [Seat<L, C>],
     script: &Script<'_>,
 ) -> bool {
     match seats {
@@ -121,7 +134,7 @@ fn do_so<L, C, R>(
     rt: &R,
     alloc: Global,
     shared: &SharedService<L, C>,
-    seats: &mut [Seat<L>],
+    seats: &mut [Seat<L, C>],
     play: Seated<'_>,
 ) -> bool
 where
@@ -143,7 +156,7 @@ fn leave<L, C, R>(
     rt: &R,
     alloc: Global,
     shared: SharedService<L, C>,
-    mut seats: Vec<Seat<L>>,
+    mut seats: Vec<Seat<L, C>>,
     play: Seated<'_>,
 ) -> Option<Finished<C>>
 where
@@ -228,7 +241,7 @@ fn play_live<L, R>(
     rt: R,
     alloc: Global,
     core: Service,
-    blank: Blank,
+    books: Books<Service>,
     parts: u64,
     play: Live<'_>,
 ) -> bool
@@ -244,10 +257,11 @@ where
         + 'static,
     requires empty { StandsAfter false L.configs bare_spaces no_journals 0 core }
     requires known { 0 < length L.configs }
-    requires name { blank.name ≡ L.name }
-    requires parts { (blank.parts ≡ L.parts) × (L.all ≡ L.parts) × (parts ≡ L.parts) }
+    requires name { books.blank.name ≡ L.name }
+    requires parts { (books.blank.parts ≡ L.parts) × (L.all ≡ L.parts) × (parts ≡ L.parts) }
+    requires history { (books.opened.0 ≡ L.history) × (books.opened.1 ≡ core) }
 {
-    let shared: Option<SharedService<L, Service>> = share(alloc, core, blank, parts);
+    let shared: Option<SharedService<L, Service>> = share(alloc, core, books, parts);
     match shared {
         Some(shared) => is_live_played(rt, alloc, shared, play),
         None => false,
@@ -266,8 +280,11 @@ where
         + Sync
         + 'static,
 {
-    match make_live(alloc) {
-        Some(core) => play_live::<Brand, R>(rt, alloc, core, Blank::new(parts), parts, play),
+    let Some(core) = make_live(alloc) else {
+        return false;
+    };
+    match make_books(alloc, &core, parts) {
+        Some(books) => play_live::<Brand, R>(rt, alloc, core, books, parts, play),
         None => false,
     }
 }
@@ -326,7 +343,7 @@ fn play_recorded<L, R>(
     rt: &R,
     alloc: Global,
     core: RecordedService,
-    blank: Blank,
+    books: Books<RecordedService>,
     parts: u64,
     play: Seated<'_>,
 ) -> Option<bool>
@@ -335,10 +352,11 @@ where
     R: Threads + Wait + Clock + Sync,
     requires empty { StandsAfter true L.configs spaces_in journals_in 0 core }
     requires known { 0 < length L.configs }
-    requires name { blank.name ≡ L.name }
-    requires parts { (blank.parts ≡ L.parts) × (L.all ≡ L.parts) × (parts ≡ L.parts) }
+    requires name { books.blank.name ≡ L.name }
+    requires parts { (books.blank.parts ≡ L.parts) × (L.all ≡ L.parts) × (parts ≡ L.parts) }
+    requires history { (books.opened.0 ≡ L.history) × (books.opened.1 ≡ core) }
 {
-    let shared: Option<SharedService<L>> = share(alloc, core, blank, parts);
+    let shared: Option<SharedService<L>> = share(alloc, core, books, parts);
     match shared {
         Some(shared) => Some(is_recorded_played(rt, alloc, shared, play)),
         None => None,
@@ -351,8 +369,7 @@ pub fn over_recorded<R>(rt: &R, alloc: Global, parts: u64, play: Seated<'_>) -> 
 where
     R: Threads + Wait + Clock + Sync,
 {
-    match make_recorded(alloc) {
-        Some(core) => play_recorded::<Brand, R>(rt, alloc, core, Blank::new(parts), parts, play),
-        None => None,
-    }
+    let core = make_recorded(alloc)?;
+    let books = make_books(alloc, &core, parts)?;
+    play_recorded::<Brand, R>(rt, alloc, core, books, parts, play)
 }

@@ -71,7 +71,7 @@ fn attend_over<L: Seating, C: Shareable, R: Wait + Clock>(
     rt: &R,
     alloc: Global,
     shared: &SharedService<L, C>,
-    seat: &mut Seat<L>,
+    seat: &mut Seat<L, C>,
     page: &mut Page<'_>,
     part: Part<'_>,
 ) -> Result<(), RunError>
@@ -107,7 +107,7 @@ fn attend<L: Seating, C: Shareable, R: Wait + Clock>(
     rt: &R,
     alloc: Global,
     shared: &SharedService<L, C>,
-    seat: &mut Seat<L>,
+    seat: &mut Seat<L, C>,
     news: &News,
     part: Part<'_>,
 ) -> bool
@@ -126,8 +126,8 @@ fn attend_both<L: Seating + Send + Sync, C: Shareable + Send, R: Threads + Wait 
     rt: &R,
     alloc: Global,
     shared: &SharedService<L, C>,
-    one: &mut Seat<L>,
-    two: &mut Seat<L>,
+    one: &mut Seat<L, C>,
+    two: &mut Seat<L, C>,
     news: &News,
     row: &Row<'_>,
 ) -> bool
@@ -150,8 +150,8 @@ fn attend_anew<L: Seating + Send + Sync, C: Shareable + Send, R: Threads + Wait 
     rt: &R,
     alloc: Global,
     shared: &SharedService<L, C>,
-    one: &mut Seat<L>,
-    two: &mut Seat<L>,
+    one: &mut Seat<L, C>,
+    two: &mut Seat<L, C>,
     row: &Row<'_>,
 ) -> bool
     requires known { 0 < length L.configs }
@@ -168,8 +168,8 @@ fn attend_row<L: Seating + Send + Sync, C: Shareable + Send, R: Threads + Wait +
     rt: &R,
     alloc: Global,
     shared: &SharedService<L, C>,
-    one: &mut Seat<L>,
-    two: &mut Seat<L>,
+    one: &mut Seat<L, C>,
+    two: &mut Seat<L, C>,
     row: &Row<'_>,
 ) -> bool
     requires known { 0 < length L.configs }
@@ -183,7 +183,7 @@ pub fn serves_so<L: Seating + Send + Sync, C: Shareable + Send, R: Threads + Wai
     rt: &R,
     alloc: Global,
     shared: &SharedService<L, C>,
-    seats: &mut [Seat<L>],
+    seats: &mut [Seat<L, C>],
     row: &Row<'_>,
 ) -> bool
     requires known { 0 < length L.configs }

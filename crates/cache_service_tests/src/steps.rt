@@ -13,7 +13,7 @@ use std::sync::Wait;
 fn add_seat<L: Seating, C: Shareable>(
     rt: &impl Wait,
     shared: &SharedService<L, C>,
-    seats: &mut Vec<Seat<L>>,
+    seats: &mut Vec<Seat<L, C>>,
 ) -> bool {
     match shared.seat(rt) {
         Ok(seat) => seats.push(seat).is_ok(),
@@ -25,7 +25,7 @@ fn add_seat<L: Seating, C: Shareable>(
 fn add_seats<L: Seating, C: Shareable>(
     rt: &impl Wait,
     shared: &SharedService<L, C>,
-    seats: &mut Vec<Seat<L>>,
+    seats: &mut Vec<Seat<L, C>>,
     count: usize,
 ) -> bool {
     let has_room = seats.reserve(count).is_ok() || seats.reserve(count).is_ok();
@@ -43,7 +43,7 @@ pub fn make_seats<L: Seating, C: Shareable>(
     alloc: Global,
     shared: &SharedService<L, C>,
     count: usize,
-) -> Option<Vec<Seat<L>>> {
+) -> Option<Vec<Seat<L, C>>> {
     let mut seats = Vec::new(alloc);
     if add_seats(rt, shared, &mut seats, count) {
         Some(seats)
@@ -53,12 +53,12 @@ pub fn make_seats<L: Seating, C: Shareable>(
 }
 
 /// How many inputs a seat counts, and how many receipts it has.
-pub fn counts_of<L: Seating>(seat: &Seat<L>) -> (u64, usize) {
+pub fn counts_of<L: Seating, C>(seat: &Seat<L, C>) -> (u64, usize) {
     (seat.count(), seat.receipts(0).len())
 }
 
 /// How many commands of a seat were held back, since there was no memory for them.
-pub fn count_held<L: Seating>(seat: &Seat<L>) -> usize {
+pub fn count_held<L: Seating, C>(seat: &Seat<L, C>) -> usize {
     let mut count = 0usize;
     for receipt in seat.receipts(0) {
         if receipt.output == Output::Held {
@@ -72,7 +72,7 @@ pub fn count_held<L: Seating>(seat: &Seat<L>) -> usize {
 fn step_again<L: Seating, C: Shareable, R: Wait>(
     rt: &R,
     shared: &SharedService<L, C>,
-    seat: &mut Seat<L>,
+    seat: &mut Seat<L, C>,
     input: Input,
     counts: (u64, usize),
 ) -> Option<Output> {
@@ -85,7 +85,7 @@ fn step_again<L: Seating, C: Shareable, R: Wait>(
 fn step<L: Seating, C: Shareable, R: Wait>(
     rt: &R,
     shared: &SharedService<L, C>,
-    seat: &mut Seat<L>,
+    seat: &mut Seat<L, C>,
     input: Input,
 ) -> Option<Output> {
     let counts = counts_of(seat);
@@ -107,7 +107,7 @@ fn is_unknown(taken: Result<Output, Refusal>) -> bool {
 pub fn refuses<L: Seating, C: Shareable, R: Wait>(
     rt: &R,
     shared: &SharedService<L, C>,
-    seat: &mut Seat<L>,
+    seat: &mut Seat<L, C>,
     input: Input,
 ) -> bool {
     let counts = counts_of(seat);
@@ -118,7 +118,7 @@ pub fn refuses<L: Seating, C: Shareable, R: Wait>(
 pub fn takes<L: Seating, C: Shareable, R: Wait>(
     rt: &R,
     shared: &SharedService<L, C>,
-    seat: &mut Seat<L>,
+    seat: &mut Seat<L, C>,
     input: Input,
 ) -> bool {
     step(rt, shared, seat, input).is_some()
@@ -129,7 +129,7 @@ fn runs_held<L: Seating, C: Shareable, R: Wait>(
     rt: &R,
     alloc: Global,
     shared: &SharedService<L, C>,
-    seat: &mut Seat<L>,
+    seat: &mut Seat<L, C>,
     conn: Conn,
 ) -> bool {
     match feed(alloc, conn, b"") {
@@ -143,7 +143,7 @@ pub fn runs<L: Seating, C: Shareable, R: Wait>(
     rt: &R,
     alloc: Global,
     shared: &SharedService<L, C>,
-    seat: &mut Seat<L>,
+    seat: &mut Seat<L, C>,
     conn: Conn,
     input: Input,
 ) -> bool {
@@ -157,7 +157,7 @@ pub fn runs<L: Seating, C: Shareable, R: Wait>(
 pub fn opens<L: Seating, C: Shareable, R: Wait>(
     rt: &R,
     shared: &SharedService<L, C>,
-    seat: &mut Seat<L>,
+    seat: &mut Seat<L, C>,
 ) -> Option<Conn> {
     match step(rt, shared, seat, Input::Open { namespace: 0 }) {
         Some(Output::Opened { conn }) => Some(conn),
@@ -170,7 +170,7 @@ pub fn feeds<L: Seating, C: Shareable, R: Wait>(
     rt: &R,
     alloc: Global,
     shared: &SharedService<L, C>,
-    seat: &mut Seat<L>,
+    seat: &mut Seat<L, C>,
     conn: Conn,
     text: &[u8],
 ) -> bool {
@@ -214,7 +214,7 @@ pub fn has_one_journal<C: Shareable>(service: &C) -> bool {
 /// What these seats leave, on the second attempt if memory is refused.
 pub fn finish<L: Seating, C: Shareable>(
     shared: SharedService<L, C>,
-    seats: Vec<Seat<L>>,
+    seats: Vec<Seat<L, C>>,
 ) -> Option<Finished<C>>
     requires ledger { L.all ≡ L.parts }
 {

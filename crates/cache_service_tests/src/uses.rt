@@ -174,7 +174,7 @@ pub fn answer_shared<L: Seating, K: Clock, D: Loader>(
     rt: &impl Wait,
     alloc: Global,
     shared: &SharedService<L, Service>,
-    seat: &mut Seat<L>,
+    seat: &mut Seat<L, Service>,
     text: &[u8],
     clock: &mut K,
     loader: &mut D,

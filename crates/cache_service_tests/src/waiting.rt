@@ -28,7 +28,7 @@ fn awaits_on<L: Seating, C: Shareable, R: Wait>(
     rt: &R,
     alloc: Global,
     shared: &SharedService<L, C>,
-    seat: &mut Seat<L>,
+    seat: &mut Seat<L, C>,
     conn: Conn,
 ) -> bool {
     if feeds(rt, alloc, shared, seat, conn, b"LOAD k\n") {
@@ -44,7 +44,7 @@ fn awaits<L: Seating, C: Shareable, R: Wait>(
     rt: &R,
     alloc: Global,
     shared: &SharedService<L, C>,
-    seat: &mut Seat<L>,
+    seat: &mut Seat<L, C>,
 ) -> bool {
     match opens(rt, shared, seat) {
         Some(conn) => awaits_on(rt, alloc, shared, seat, conn),
@@ -90,7 +90,7 @@ fn answers_load<L: Seating, C: Shareable, R: Wait>(
     rt: &R,
     alloc: Global,
     shared: &SharedService<L, C>,
-    seat: &mut Seat<L>,
+    seat: &mut Seat<L, C>,
     number: u64,
 ) -> bool {
     match answer(alloc, number) {
@@ -104,7 +104,7 @@ fn answers<L: Seating, C: Shareable, R: Wait + Clock>(
     rt: &R,
     alloc: Global,
     shared: &SharedService<L, C>,
-    seat: &mut Seat<L>,
+    seat: &mut Seat<L, C>,
 ) -> bool {
     match first_load(rt, shared) {
         Some(number) => answers_load(rt, alloc, shared, seat, number),
@@ -117,7 +117,7 @@ fn awaits_other<L: Seating, C: Shareable, R: Wait>(
     rt: &R,
     alloc: Global,
     shared: &SharedService<L, C>,
-    seat: &mut Seat<L>,
+    seat: &mut Seat<L, C>,
     meeting: &Meeting,
 ) -> bool {
     meeting.come() && awaits(rt, alloc, shared, seat)
@@ -128,7 +128,7 @@ fn answers_other<L: Seating, C: Shareable, R: Wait + Clock>(
     rt: &R,
     alloc: Global,
     shared: &SharedService<L, C>,
-    seat: &mut Seat<L>,
+    seat: &mut Seat<L, C>,
     meeting: &Meeting,
 ) -> bool {
     meeting.meets(rt) && answers(rt, alloc, shared, seat)
@@ -139,8 +139,8 @@ fn both_do<L, C, R>(
     rt: &R,
     alloc: Global,
     shared: &SharedService<L, C>,
-    one: &mut Seat<L>,
-    two: &mut Seat<L>,
+    one: &mut Seat<L, C>,
+    two: &mut Seat<L, C>,
 ) -> bool
 where
     L: Seating + Send + Sync + 'static,
@@ -161,7 +161,7 @@ pub fn is_answered<L, C, R>(
     rt: &R,
     alloc: Global,
     shared: &SharedService<L, C>,
-    seats: &mut [Seat<L>],
+    seats: &mut [Seat<L, C>],
 ) -> bool
 where
     L: Seating + Send + Sync + 'static,

@@ -60,7 +60,7 @@ fn sits_without<L: Seating, C: Shareable, R: Wait>(
     rt: &R,
     alloc: Global,
     shared: &SharedService<L, C>,
-    seat: &mut Seat<L>,
+    seat: &mut Seat<L, C>,
 ) -> bool {
     let mut teller = Untold;
     match (
@@ -77,7 +77,7 @@ pub fn first_sits<L: Seating, C: Shareable, R: Wait>(
     rt: &R,
     alloc: Global,
     shared: &SharedService<L, C>,
-    seats: &mut [Seat<L>],
+    seats: &mut [Seat<L, C>],
 ) -> bool {
     match seats {
         [seat, ..] => sits_without(rt, alloc, shared, seat),

@@ -1,4 +1,5 @@
 pub mod Configured
+pub mod Guarding
 pub mod Performing
 pub mod Stepping
 pub mod Moving

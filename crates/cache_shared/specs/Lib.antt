@@ -1,4 +1,5 @@
 pub mod Events
+pub mod Histories
 pub mod Intakes
 pub mod Marks
 pub mod Seats

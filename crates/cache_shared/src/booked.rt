@@ -1,18 +1,22 @@
 //! What is under the lock.
 ghost use Rattle.std.specs.Prelude.{◌≡◌, ◌≢◌, ◌+◌, ◌-◌, ◌^◌, ◌≤◌, [], true, false, length, map, sum_by, vec_len, vec_capacity, IfOk, IfErr, OnOk, OnErr};
 ghost use Rattle.cache_shared.specs.Events.{IsLastNumber, RefusesStep, StandsAfter, TakesNothing};
+ghost use Rattle.cache_history.specs.Histories.{IsLatest};
+ghost use Rattle.cache_shared.specs.Histories.{HasHistory};
 ghost use Rattle.cache_shared.specs.Intakes.{input_in};
 ghost use Rattle.cache_shared.specs.Looked.{HeldAtSomeMoment, RefusesCopy, WereOut, WereUntaken};
 ghost use Rattle.cache_shared.specs.Seats.{AgreeAll, Counts, GainsReceipt, SameReceipts};
 ghost use Rattle.cache_shared.specs.Taken.{MovesLoads, MovesReplies, TakesInput};
 ghost use Rattle.cache_spaces.specs.Calls.{Refuses};
 
+use crate::guarded::Serves;
 use crate::intake::{Intake, IntakeError};
 use crate::judging::agree;
 use crate::seat::{Seat, Seating, make_lists};
 use crate::shareable::Shareable;
 use audit_laws::Receipt;
 use audit_model::{Bytes, Conn, LoadId, ServiceError};
+use cache_history::{Claims, Keeper};
 use cache_spaces::Output;
 use std::alloc::Global;
 use std::sync::ledger::{Blank, Book, Share};
@@ -60,8 +64,9 @@ impl<L: Seating, C: Shareable> BookedService<L, C> {
     }
 
     /// Returns a seat, or `UsedUp` if the ledger has no part left. The call allocates nothing.
-    pub fn seat(&mut self, alloc: Global) -> Result<Seat<L>, ServiceError>
-        ensures seat { IfOk result (λ seat. (seat.count ≡ 0) × (seat.receipts.items ≡ [])) }
+    pub fn seat(&mut self, alloc: Global, claims: Claims<C, L>) -> Result<Seat<L, C>, ServiceError>
+        ensures seat { IfOk result (λ seat. (seat.count ≡ 0) × (seat.receipts.items ≡ [])
+            × (seat.claims ≡ claims)) }
         ensures core { self.new.core ≡ self.old.core }
         ensures refused { IfErr result (λ e. (e ≡ ServiceError.UsedUp) × (self.old.left ≡ 0)) }
     {
@@ -71,6 +76,7 @@ impl<L: Seating, C: Shareable> BookedService<L, C> {
             share: rest.split_off(1, 0),
             count: 0,
             receipts: Vec::new(alloc),
+            claims,
         })
     }
 
@@ -82,12 +88,13 @@ impl<L: Seating, C: Shareable> BookedService<L, C> {
     pub fn step<'a>(
         &mut self,
         alloc: Global,
-        seat: &mut Seat<L>,
+        seat: &mut Seat<L, C>,
         intake: Intake<'a>,
     ) -> Result<Output, IntakeError<'a>>
         ensures taken { IfOk result (λ output. TakesInput C.spaces C.untaken C.untold
             (input_in intake.entry) output self.old.core self.new.core) }
-        ensures events { OnOk result (self.new.book.total ≡ self.old.book.total + 1) }
+        ensures events { OnOk result (self.new.book.total ≡ self.old.book.total + 1)
+            × (seat.new.claims ≡ seat.old.claims) }
         ensures counted { IfOk result (λ output. Counts C.KEEPS (input_in intake.entry) output
             seat.old.count seat.new.count seat.old.receipts.items seat.new.receipts.items) }
         ensures receipt { C.KEEPS ≡ true
@@ -114,14 +121,14 @@ impl<L: Seating, C: Shareable> BookedService<L, C> {
     fn step_kept<'a>(
         &mut self,
         alloc: Global,
-        seat: &mut Seat<L>,
+        seat: &mut Seat<L, C>,
         intake: Intake<'a>,
     ) -> Result<Output, IntakeError<'a>>
         requires { C.KEEPS ≡ true }
         ensures taken { IfOk result (λ output. TakesInput C.spaces C.untaken C.untold
             (input_in intake.entry) output self.old.core self.new.core) }
         ensures count { OnOk result ((self.new.book.total ≡ self.old.book.total + 1)
-            × (seat.new.count ≡ seat.old.count + 1)) }
+            × (seat.new.count ≡ seat.old.count + 1)) × (seat.new.claims ≡ seat.old.claims) }
         ensures receipt { IfOk result (λ output. GainsReceipt (C.journals self.new.core)
             seat.old.receipts.items seat.new.receipts.items (input_in intake.entry) output) }
         ensures refused { IfErr result (λ refused. RefusesStep (input_in intake.entry) refused.error
@@ -140,6 +147,7 @@ impl<L: Seating, C: Shareable> BookedService<L, C> {
             share,
             count,
             receipts,
+            ..
         } = seat;
         let Ok(()) = make_lists(alloc, receipts, namespace as usize) else {
             return Err(IntakeError::new(ServiceError::OutOfMemory, intake));
@@ -200,7 +208,7 @@ impl<L: Seating, C: Shareable> BookedService<L, C> {
     }
 
     /// Returns whether these are all seats that were made.
-    pub fn are_all(&self, seats: &Vec<Seat<L>>) -> bool
+    pub fn are_all(&self, seats: &Vec<Seat<L, C>>) -> bool
         ensures all { result ≡ true → vec_len seats.now + self.now.left ≡ self.now.parts }
         ensures missing { result ≡ false → vec_len seats.now + self.now.left ≢ self.now.parts }
     {
@@ -209,7 +217,7 @@ impl<L: Seating, C: Shareable> BookedService<L, C> {
 
     /// Returns whether the receipts of these seats stand in the journals, each of whose records has one. Returns false if there is not
     /// enough memory.
-    pub fn agrees(&self, alloc: Global, seats: &[Seat<L>]) -> bool
+    pub fn agrees(&self, alloc: Global, seats: &[Seat<L, C>]) -> bool
         ensures { result ≡ true
             → AgreeAll (C.journals self.now.core) (λ seat. seat.receipts.items) seats.now }
     {
@@ -226,8 +234,14 @@ impl<L: Seating, C: Shareable> BookedService<L, C> {
         false
     }
 
-    /// Returns the service, moved out, with the receipts of all seats that were made.
-    pub fn close(self, seats: Vec<Seat<L>>, mut receipts: Vec<Vec<Vec<Receipt>>>) -> Finished<C>
+    /// Returns the service, moved out, with the receipts of all seats that were made. What these claim are holds of the keeper's history.
+    pub fn close(
+        self,
+        keeper: &mut Keeper<C, Serves<C>, L>,
+        seats: Vec<Seat<L, C>>,
+        mut receipts: Vec<Vec<Vec<Receipt>>>,
+    ) -> Finished<C>
+        requires latest { IsLatest self.core keeper.old }
         requires ledger { L.all ≡ L.parts }
         requires all { vec_len seats + self.left ≡ self.parts }
         requires none { receipts.items ≡ [] }
@@ -236,6 +250,8 @@ impl<L: Seating, C: Shareable> BookedService<L, C> {
         ensures stands { StandsAfter C.KEEPS L.configs C.spaces C.journals
             (sum_by (λ seat. seat.count) seats.items) result.service }
         ensures receipts { result.receipts.items ≡ map (λ seat. seat.receipts) seats.items }
+        ensures history { HasHistory C.spaces C.untaken C.untold result.service
+            (λ seat. seat.claims) seats.items }
     {
         let BookedService {
             core,
@@ -244,9 +260,17 @@ impl<L: Seating, C: Shareable> BookedService<L, C> {
             ..
         } = self;
         for seat in seats {
-            rest.merge(seat.share);
-            receipts.push_reserved(seat.receipts);
+            let Seat {
+                share,
+                receipts: own,
+                mut claims,
+                ..
+            } = seat;
+            keeper.look(&mut claims);
+            rest.merge(share);
+            receipts.push_reserved(own);
         }
+        keeper.stands();
         book.audit(&mut rest);
         Finished {
             service: core,

@@ -10,11 +10,11 @@ use std::alloc::Global;
 
 /// Returns whether the receipts of these seats stand in a namespace's journal, each of whose records has one. Returns false if there is not
 /// enough memory.
-pub fn agree<L: Seating>(
+pub fn agree<L: Seating, C>(
     alloc: Global,
     namespace: u64,
     journal: &Transcript,
-    seats: &[Seat<L>],
+    seats: &[Seat<L, C>],
 ) -> bool
     ensures { result ≡ true → Agree namespace journal.now.records
         (λ seat. receipts_at seat.receipts.items namespace) seats.now }
@@ -29,7 +29,7 @@ pub fn agree<L: Seating>(
 }
 
 /// Whether each seat's receipts of a namespace stand in its journal, in their order.
-fn are_parts<L: Seating>(namespace: u64, journal: &Transcript, seats: &[Seat<L>]) -> bool
+fn are_parts<L: Seating, C>(namespace: u64, journal: &Transcript, seats: &[Seat<L, C>]) -> bool
     ensures { result ≡ true → ArePartsOf namespace journal.now.records
         (λ seat. receipts_at seat.receipts.items namespace) seats.now }
 {
@@ -43,7 +43,7 @@ fn are_parts<L: Seating>(namespace: u64, journal: &Transcript, seats: &[Seat<L>]
 }
 
 /// Whether each number from 1 to the number of places is in one receipt, if no place is marked yet.
-fn judge<L: Seating>(seen: &mut [bool], namespace: u64, seats: &[Seat<L>]) -> bool
+fn judge<L: Seating, C>(seen: &mut [bool], namespace: u64, seats: &[Seat<L, C>]) -> bool
     requires { (k : ℕ) → k < length seen.old → marks seen.old k ≡ 0 }
     ensures { result ≡ true
         → EachOnce (λ seat. receipts_at seat.receipts.items namespace) (length seen.old) seats.now }
@@ -52,7 +52,7 @@ fn judge<L: Seating>(seen: &mut [bool], namespace: u64, seats: &[Seat<L>]) -> bo
 }
 
 /// Marks the numbers of all receipts of the namespace. Returns `false` if one has no place, or was already marked.
-fn mark_all<L: Seating>(seen: &mut [bool], namespace: u64, seats: &[Seat<L>]) -> bool
+fn mark_all<L: Seating, C>(seen: &mut [bool], namespace: u64, seats: &[Seat<L, C>]) -> bool
     ensures ok { result ≡ true → (k : ℕ) → k < length seen.old → marks seen.new k ≡ marks seen.old k
         + holders (λ seat. receipts_at seat.receipts.items namespace) (k + 1) seats.now }
     ensures len { length seen.new ≡ length seen.old }

@@ -3,6 +3,7 @@
 
 mod bare;
 mod booked;
+mod guarded;
 mod intake;
 mod judging;
 mod recorded;
@@ -13,6 +14,7 @@ mod turning;
 
 pub use booked::{BookedService, Finished};
 pub use cache_spaces::Owed;
+pub use guarded::Books;
 pub use intake::{Intake, IntakeError};
 pub use seat::{Seat, Seating};
 pub use shareable::Shareable;

@@ -4,13 +4,14 @@ ghost use Rattle.audit_model.specs.declared.config.Config.{Config};
 ghost use Rattle.cache_shared.specs.Seats.{SameReceipts, receipts_at};
 
 use audit_laws::Receipt;
+use cache_history::{Claims, Naming};
 use std::alloc::{AllocError, Global};
 use std::marker::Brand;
 use std::sync::ledger::{Ledger, Share};
 
 /// The ledger of a shared service's seats, in which each seat has one share, so that `SharedService::finish` can require
-/// all of them.
-pub trait Seating: Ledger {
+/// all of them, and the name of its history.
+pub trait Seating: Ledger + Naming {
     /// All its parts.
     ghost all: { ℕ };
 
@@ -25,17 +26,19 @@ impl Seating for Brand {
 }
 
 /// What a thread, or a connection, uses to pass its inputs: a count of those that were accepted, and, if the service keeps journals, a
-/// receipt of each. `SharedService::seat` creates one, and `SharedService::finish` requires all of them.
+/// receipt of each. Contracts see which holds of the lock it claims, as well. `SharedService::seat` creates one, and
+/// `SharedService::finish` requires all of them.
 #[derive(Drop)]
-pub struct Seat<L: Seating> {
+pub struct Seat<L: Seating, C> {
     pub(crate) share: Share<L>,
     pub(crate) count: u64,
     pub(crate) receipts: Vec<Vec<Receipt>>,
+    pub(crate) claims: Claims<C, L>,
     ghost one_part: { share.parts ≡ 1 },
     ghost counted: { share.amount ≡ count },
 }
 
-impl<L: Seating> Seat<L> {
+impl<L: Seating, C> Seat<L, C> {
     /// Returns how many of the seat's inputs were accepted, at most 2^64 - 1.
     pub fn count(&self) -> u64
         ensures { result ≡ self.now.count }

@@ -25,42 +25,6 @@ pub struct Turn {
 }
 
 impl<L: Seating, C: Shareable> BookedService<L, C> {
-    /// Takes an intake for a seat, like `step`, and moves out what a connection is owed afterwards, and its namespace's oldest notes, as
-    /// many as there is room for. Returns the errors of `step`; then nothing has changed.
-    pub fn turn<'a>(
-        &mut self,
-        alloc: Global,
-        seat: &mut Seat<L>,
-        conn: Conn,
-        intake: Intake<'a>,
-        wants_loads: bool,
-        notes: &mut Vec<Note>,
-    ) -> Result<Turn, IntakeError<'a>>
-        ensures counted { IfOk result (λ turn. Counts C.KEEPS (input_in intake.entry) turn.output
-            seat.old.count seat.new.count seat.old.receipts.items seat.new.receipts.items) }
-        ensures taken { IfOk result (λ turn. TakesInputWhole C.spaces C.untaken C.untold
-            self.old.core self.new.core conn (input_in intake.entry) wants_loads turn
-            notes.old.items notes.new.items) }
-        ensures owed { IfOk result
-            (λ turn. Owes L.configs C.spaces C.untaken conn wants_loads turn.owed) }
-        ensures refused { IfErr result (λ refused. RefusesStep (input_in intake.entry) refused.error
-            seat.old.count (C.spaces self.old.core)) }
-        ensures used_up { IfErr result
-            (λ refused. refused.error ≡ ServiceError.UsedUp → seat.old.count ≡ 2 ^ 64 - 1) }
-        ensures unchanged { OnErr result
-            (TakesNothing self.old.core self.new.core self.old.book.total self.new.book.total
-            × (seat.new.count ≡ seat.old.count)
-            × SameReceipts seat.old.receipts.items seat.new.receipts.items
-            × (notes.new ≡ notes.old)) }
-        ensures back { IfErr result (λ refused. refused.intake ≡ intake.entry) }
-        ensures moved { WereMoved L.configs C.spaces C.untold conn.namespace notes.old.items
-            notes.new.items }
-    {
-        let output = self.step(alloc, seat, intake)?;
-        let owed = self.take_owed(conn, wants_loads, notes);
-        Ok(Turn { output, owed })
-    }
-
     /// Returns what a connection is owed, and appends its namespace's oldest notes, as many as there is room for, moved out; nothing if the
     /// connection is unknown.
     pub fn take_owed(&mut self, conn: Conn, wants_loads: bool, notes: &mut Vec<Note>) -> Owed

@@ -9,7 +9,7 @@ use crate::machine::{Machine, Shown};
 use crate::script::Fault;
 use crate::services::make_service;
 use cache_service::host;
-use cache_shared::{Seating, SharedService};
+use cache_shared::{Books, Seating, SharedService};
 use cache_spaces::Service;
 use cached_config::HostedNamespace;
 use crossbeam_channel::{Sender, bounded};
@@ -17,7 +17,6 @@ use std::alloc::{AllocError, Global};
 use std::marker::Brand;
 use std::net::TcpListener;
 use std::sync::Arc;
-use std::sync::ledger::Blank;
 use std::thread::JoinHandle;
 use std::{thread, time};
 
@@ -56,7 +55,8 @@ impl<R: Machine> Hall<R> {
     {
         let core = make_service(&self.rt, self.alloc, space.config)?;
         let ending = Sender::clone(ending)?;
-        Ok(self.share::<Brand>(core, Blank::new(SEATS), space, listener, ending)?)
+        let books = Books::new(self.alloc, &core, SEATS)?;
+        Ok(self.share::<Brand>(core, books, space, listener, ending)?)
     }
 
     /// Hosts each namespace at its listener.
@@ -81,15 +81,17 @@ impl<R: Machine> Hall<R> {
     fn share<L: Seating + Send + Sync + 'static>(
         &self,
         core: Service,
-        blank: Blank,
+        books: Books<Service>,
         space: HostedNamespace,
         listener: TcpListener,
         ending: Sender<bool, Global>,
     ) -> Result<JoinHandle<()>, AllocError>
         requires empty { StandsAfter false L.configs bare_spaces no_journals 0 core }
         requires known { 0 < length L.configs }
-        requires name { blank.name ≡ L.name }
-        requires parts { (blank.parts ≡ L.parts) × (L.all ≡ L.parts) × (L.parts ≡ 4294967296) }
+        requires name { books.blank.name ≡ L.name }
+        requires parts { (books.blank.parts ≡ L.parts) × (L.all ≡ L.parts)
+            × (L.parts ≡ 4294967296) }
+        requires history { (books.opened.0 ≡ L.history) × (books.opened.1 ≡ core) }
     {
         let (rt, alloc, limit) = (self.rt, self.alloc, self.limit);
         let site = Site {
@@ -98,7 +100,7 @@ impl<R: Machine> Hall<R> {
             space: Arc::new(alloc, space)?,
             outlet: Arc::try_clone(&self.outlet)?,
         };
-        let Ok(shared) = SharedService::<L, Service>::new(alloc, core, blank, SEATS) else {
+        let Ok(shared) = SharedService::<L, Service>::new(alloc, core, books, SEATS) else {
             return Err(AllocError);
         };
         let hosting = move ||

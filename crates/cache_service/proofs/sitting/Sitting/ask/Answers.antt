@@ -20,4 +20,4 @@ returns-clause-given g c = gives-due g.L.Seating.configs g.C.Shareable.spaces g.
 pub returns-clause-turned : goal.returns-clause-turned
 returns-clause-turned g c =
     let told : TellsAll g.T.Teller.tells (WereTaken g.L.Seating.configs g.C.Shareable.spaces g.C.Shareable.untaken g.C.Shareable.untold c.args.conn.namespace) c.args.self.now.teller.now c.give.new.self.teller.now c.turn.new.notes.items = rw c.give.ensures.teller c.tell_notes.ensures.told in
-    turn-gives g.L.Seating.configs g.C.Shareable.spaces g.C.Shareable.untaken g.C.Shareable.untold c.args.conn (input_in c.args.intake) c.args.wants_loads _ c.in-Ok.turn _ c.give.result _ _ c.give.ensures.given c.is_held-held.ensures c.in-Ok.ensures.taken told
+    turn-gives g.L.Seating.configs g.C.Shareable.spaces g.C.Shareable.untaken g.C.Shareable.untold c.args.conn _ _ (input_in c.args.intake) c.args.wants_loads _ c.in-Ok.turn _ c.give.result _ _ c.give.ensures.given c.is_held-held.ensures c.in-Ok.ensures.taken told

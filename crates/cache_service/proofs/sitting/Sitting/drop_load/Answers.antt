@@ -7,6 +7,6 @@ returns-in_default g c = (c.load-said.result, λ key. settles-anyhow (c.settle_l
 pub returns-in-Err : goal.returns-in-Err
 returns-in-Err g c = (
   c.load-said.result,
-  λ key. settles-give-up c.give_up.result (record { key = key; answer = c.load-said.result }) (if-some-any c.load-said.result) (takes-behind _ _ _ _ _ c.give_up.result c.in-Err.ensures.rests c.give_up.ensures.taken),
+  λ key. settles-give-up c.give_up.result (record { key = key; answer = c.load-said.result }) (if-some-any c.load-said.result) (takes-behind _ _ _ _ _ c.give_up.result c.in-Err.ensures.rests.0 c.give_up.ensures.taken),
   c.load-said.ensures,
 )

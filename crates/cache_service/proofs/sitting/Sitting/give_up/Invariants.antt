@@ -1,5 +1,5 @@
-use Rattle.cache_service.specs.Sitting.{SeatRests, tally}
+use Rattle.cache_service.specs.Sitting.{SeatIdles}
 use Rattle.cache_service.proofs.sitting.Sitting.give_up.Given as goal
 
 abbrev pub invariant-loop-try : goal.invariant-loop-try
-invariant-loop-try g l = SeatRests (tally l.fn.seat) (tally l.seat)
+invariant-loop-try g l = SeatIdles l.fn.seat l.seat

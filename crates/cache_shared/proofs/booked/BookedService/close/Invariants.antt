@@ -1,5 +1,6 @@
 use Rattle.std.proofs.Common.{◌≡◌, ◌+◌, ◌≤◌, ◌++◌, length, map, sum_by, vec_len, vec_capacity}
 use Rattle.std.specs.Vec.Iter.{into_iter_items, into_iter_len}
+use Rattle.cache_history.specs.Histories.{AreAllOf}
 use Rattle.cache_shared.proofs.booked.BookedService.close.Given as goal
 
 abbrev pub invariant-loop-seat : goal.invariant-loop-seat
@@ -10,5 +11,7 @@ invariant-loop-seat g l = record {
   amount : l.rest.amount ≡ sum_by (λ seat. seat.count) l.yielded;
   lists : l.receipts.items ≡ map (λ seat. seat.receipts) l.yielded;
   many : vec_len l.receipts ≡ length l.yielded;
+  keeper : l.keeper ≡ l.initial.keeper;
+  all : AreAllOf l.initial.keeper (λ seat. seat.claims) l.yielded;
   room : vec_len l.fn.seats ≤ vec_capacity l.receipts;
 }

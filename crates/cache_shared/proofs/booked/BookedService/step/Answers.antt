@@ -6,7 +6,7 @@ use Rattle.cache_shared.proofs.booked.BookedService.step.Goals as goal
 
 pub returns-then-KEEPS-clause-counted : goal.returns-then-KEEPS-clause-counted
 returns-then-KEEPS-clause-counted g c =
-    counts _ _ (input_in c.args.intake) c.step_kept.result _ _ _ _ _ c.step_kept.ensures.count (λ kept. c.step_kept.ensures.receipt) (λ none. absurd (true≢false (sym (sym c.KEEPS.ensures ∙ c.if-KEEPS.true) ∙ none)))
+    counts _ _ (input_in c.args.intake) c.step_kept.result _ _ _ _ _ c.step_kept.ensures.count.0 (λ kept. c.step_kept.ensures.receipt) (λ none. absurd (true≢false (sym (sym c.KEEPS.ensures ∙ c.if-KEEPS.true) ∙ none)))
     (came-result g.C.Shareable.spaces g.C.Shareable.untaken g.C.Shareable.untold (input_in c.args.intake) c.step_kept.result _ _ _ c.args.self.now.stands.reached.led c.step_kept.ensures.taken)
 
 pub returns-clause-counted : goal.returns-clause-counted

@@ -6,4 +6,4 @@ use Rattle.cache_shared.proofs.shared.SharedService.next_notice.Goals as goal
 
 pub returns-clause-all : goal.returns-clause-all
 returns-clause-all g c =
-    happened _ _ (λ (note : Option Note) old new. MovesNote g.C.Shareable.spaces g.C.Shareable.untaken g.C.Shareable.untold old new c.args.namespace note) c.next_notice.result _ _ _ c.deref_mut.result.now.stands.reached c.next_notice.ensures.note
+    happened _ _ (λ (note : Option Note) old new. MovesNote g.C.Shareable.spaces g.C.Shareable.untaken g.C.Shareable.untold old new c.args.namespace note) c.next_notice.result _ _ _ c.deref_mut.result.now.booked.stands.reached c.next_notice.ensures.all
