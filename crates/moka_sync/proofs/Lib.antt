@@ -4,4 +4,6 @@ mod Showing
 mod Shards
 mod Numbering
 mod Holding
+mod Resting
+mod Telling
 mod Numbered

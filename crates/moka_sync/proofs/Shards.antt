@@ -17,7 +17,7 @@ use Rattle.rand_core.specs.Stream.{Stream}
 use Rattle.sync_desk.specs.Drawing.{IsCauseToCoverAsDrawn}
 use Rattle.sync_desk.specs.Sharding.{CommitsAsDrawn, PreparesAsDrawn}
 use Rattle.sync_desk.specs.Slots.Refusals.{IsCoverRefusal}
-use Rattle.moka_sync.specs.Holding.{Guarded}
+use Rattle.moka_sync.specs.Holding.{GuardedShard}
 use Rattle.moka_sync.specs.Covering.{Commits, CommitsFirst, CoversShard, CoversShards, IsCauseToCoverShards, IsPrepared, MayCover, MayCoverEach, MayRefuse, prepared, released}
 
 module _ {X : Type 0} where
@@ -109,7 +109,7 @@ module _ {K V P S R : Type 0} where
 
 module _ {K V P S R : Type 0} where
   -- why none registers a predicate
-  pub shards_caused : (ds : List (Guarded K V P S R)) (e : CacheError) (place : ℕ) (d : Guarded K V P S R) → slice_get ds place ≡ Some d → MayRefuse d e → IsCauseToCoverShards ds e
+  pub shards_caused : (ds : List (GuardedShard K V P S R)) (e : CacheError) (place : ℕ) (d : GuardedShard K V P S R) → slice_get ds place ≡ Some d → MayRefuse d e → IsCauseToCoverShards ds e
   shards_caused ds errors.OutOfMemory place d at h = tt
   shards_caused ds errors.UsedUp place d at h = (place, d, at, h)
   shards_caused ds errors.InvalidationClosuresDisabled place d at h = (place, d, at, h)
@@ -118,7 +118,7 @@ module _ {K V P S R : Type 0} where
   shards_caused ds errors.Abandoned place d at h = (place, d, at, h)
 
   -- one identifier more
-  pub may_more : (ids : List ℕ) (ds : List (Guarded K V P S R)) (id : ℕ) (d : Guarded K V P S R) → MayCoverEach ids ds → slice_get ds (length ids) ≡ Some d → MayCover id d → MayCoverEach (ids ++ id ∷ []) ds
+  pub may_more : (ids : List ℕ) (ds : List (GuardedShard K V P S R)) (id : ℕ) (d : GuardedShard K V P S R) → MayCoverEach ids ds → slice_get ds (length ids) ≡ Some d → MayCover id d → MayCoverEach (ids ++ id ∷ []) ds
   may_more [] ds id d may here one zero i x given at =
       let same_id : id ≡ i = cc in
       let both : Some d ≡ Some x = sym here ∙ at in
@@ -129,25 +129,25 @@ module _ {K V P S R : Type 0} where
   may_more (j ∷ ids) [] id d may here one (suc place) i x given at = absurd (let no : ⊥ = cc in no)
   may_more (j ∷ ids) (y ∷ ds) id d may here one (suc place) i x given at = may_more ids ds id d (λ k. may (suc k)) here one place i x given at
 
-  pub may_none : (ids : List ℕ) (ds : List (Guarded K V P S R)) → ids ≡ [] → MayCoverEach ids ds
+  pub may_none : (ids : List ℕ) (ds : List (GuardedShard K V P S R)) → ids ≡ [] → MayCoverEach ids ds
   may_none ids ds none place id d given at = absurd (let e : None ≡ Some id = ap (λ xs. slice_get xs place) (sym none) ∙ given in let no : ⊥ = cc in no)
 
   -- room that is made in a shard, and given up
-  pub released_back : (d : Guarded K V P S R) → released (prepared d) ≡ d
+  pub released_back : (d : GuardedShard K V P S R) → released (prepared d) ≡ d
   released_back d = ap (λ ss. record d { state = record d.state { parts = ss } }) (undone with_room without_room room_back 1 d.state.parts)
 
-  pub prepared_roomy : (d : Guarded K V P S R) → FirstHasRoom (prepared d).state
+  pub prepared_roomy : (d : GuardedShard K V P S R) → FirstHasRoom (prepared d).state
   prepared_roomy d s at = first-all with_room (λ x. 0 < x.reserved) has_room 1 d.state.parts 0 s (omega arith) at
 
-  pub prepared_first : (n : ℕ) (old mid : List (Guarded K V P S R)) → mid ≡ changed_first (λ k. prepared) n old → (place : ℕ) (d : Guarded K V P S R) → place < n → slice_get mid place ≡ Some d → FirstHasRoom d.state
+  pub prepared_first : (n : ℕ) (old mid : List (GuardedShard K V P S R)) → mid ≡ changed_first (λ k. prepared) n old → (place : ℕ) (d : GuardedShard K V P S R) → place < n → slice_get mid place ≡ Some d → FirstHasRoom d.state
   prepared_first n old mid is place d less at = first-all prepared (λ x. FirstHasRoom x.state) prepared_roomy n old place d less (ap (λ ds. slice_get ds place) (sym is) ∙ at)
 
   -- the shards that were made ready are so
-  pub all_prepared : (ids : List ℕ) (old new : List (Guarded K V P S R)) → MayCoverEach ids old → length ids ≡ length old → new ≡ changed_first (λ k. prepared) (length old) old
-      → (place : ℕ) (d : Guarded K V P S R) → slice_get new place ≡ Some d → IsPrepared d
+  pub all_prepared : (ids : List ℕ) (old new : List (GuardedShard K V P S R)) → MayCoverEach ids old → length ids ≡ length old → new ≡ changed_first (λ k. prepared) (length old) old
+      → (place : ℕ) (d : GuardedShard K V P S R) → slice_get new place ≡ Some d → IsPrepared d
   all_prepared ids old new may long is place d at = go ids old may long place d (ap (λ ds. slice_get ds place) (sym is) ∙ at)
     where
-      go : (ids : List ℕ) (ds : List (Guarded K V P S R)) → MayCoverEach ids ds → length ids ≡ length ds → (place : ℕ) (d : Guarded K V P S R)
+      go : (ids : List ℕ) (ds : List (GuardedShard K V P S R)) → MayCoverEach ids ds → length ids ≡ length ds → (place : ℕ) (d : GuardedShard K V P S R)
           → slice_get (changed_first (λ k. prepared) (length ds) ds) place ≡ Some d → IsPrepared d
       go ids [] may long place d at = absurd (let no : ⊥ = cc in no)
       go [] (e ∷ ds) may long place d at = absurd (omega arith)
@@ -157,10 +157,10 @@ module _ {K V P S R : Type 0} where
       go (id ∷ ids) (e ∷ ds) may long (suc place) d at = go ids ds (λ k i x. may (suc k) i x) (omega arith) place d at
 
   -- one shard more registers the predicate
-  pub commits_none : (p : P) (ids : List ℕ) (ds : List (Guarded K V P S R)) → CommitsFirst p ids 0 ds ds
+  pub commits_none : (p : P) (ids : List ℕ) (ds : List (GuardedShard K V P S R)) → CommitsFirst p ids 0 ds ds
   commits_none p ids ds = record { same = refl; first = λ place id d low. absurd (omega arith); rest = λ place low. refl }
 
-  pub commits_more : (p : P) (ids : List ℕ) (n id : ℕ) (old new next : List (Guarded K V P S R)) (d e : Guarded K V P S R) → CommitsFirst p ids n old new → slice_get ids n ≡ Some id → slice_get new n ≡ Some d
+  pub commits_more : (p : P) (ids : List ℕ) (n id : ℕ) (old new next : List (GuardedShard K V P S R)) (d e : GuardedShard K V P S R) → CommitsFirst p ids n old new → slice_get ids n ≡ Some id → slice_get new n ≡ Some d
       → n < length new → Commits p id d e → next ≡ slice_set new n e → CommitsFirst p ids (n + 1) old next
   commits_more p ids n id old new next d e h drawn at low does is = record {
     same = ap length is ∙ set-length new n e ∙ h.same;
@@ -179,8 +179,8 @@ module _ {K V P S R : Type 0} where
       apart zero (suc b) less differ = omega arith
       apart (suc a) (suc b) less differ = let l = apart a b (omega arith) (λ s. differ (ap suc s)) in omega arith
 
-      go : (place i : ℕ) (x : Guarded K V P S R) → (place ≡ n) ⊎ ((place ≡ n) → ⊥) → place < n + 1 → slice_get ids place ≡ Some i → slice_get old place ≡ Some x
-          → (y : Guarded K V P S R) × (slice_get next place ≡ Some y) × Commits p i x y
+      go : (place i : ℕ) (x : GuardedShard K V P S R) → (place ≡ n) ⊎ ((place ≡ n) → ⊥) → place < n + 1 → slice_get ids place ≡ Some i → slice_get old place ≡ Some x
+          → (y : GuardedShard K V P S R) × (slice_get next place ≡ Some y) × Commits p i x y
       go place i x (inl s) less given here =
           let one : Some id ≡ Some i = sym drawn ∙ ap (λ k. slice_get ids k) (sym s) ∙ given in
           let two : Some d ≡ Some x = sym at ∙ h.rest n (omega arith) ∙ ap (λ k. slice_get old k) (sym s) ∙ here in
@@ -192,11 +192,11 @@ module _ {K V P S R : Type 0} where
           (before.0, ap (λ ds. slice_get ds place) is ∙ others new n place e (λ s. differ (sym s)) ∙ before.1, before.2)
 
   -- all but the state is as before, and the state is this
-  stays_but : (o y : Guarded K V P S R) (f : Front K V P S R) → y ≡ record o { state = y.state } → y.state ≡ f → y ≡ record o { state = f }
+  stays_but : (o y : GuardedShard K V P S R) (f : Front K V P S R) → y ≡ record o { state = y.state } → y.state ≡ f → y ≡ record o { state = f }
   stays_but o y f rest is = rest ∙ ap (λ x. record o { state = x }) is
 
   -- a shard that was made ready and registered a predicate draws and covers
-  covers_one : (p : P) (id : ℕ) (d e : Guarded K V P S R) → MayCover id d → Commits p id (prepared d) e → CoversShard p d e
+  covers_one : (p : P) (id : ℕ) (d e : GuardedShard K V P S R) → MayCover id d → Commits p id (prepared d) e → CoversShard p d e
   covers_one p id d e may does =
       let at : At = does.state.0 in
       let one : Registered P = record { id = id; predicate = p; step = at.step } in
@@ -209,7 +209,7 @@ module _ {K V P S R : Type 0} where
             ∙ ap (λ ss. record d { state = passed at.now at.step (record d.state { parts = ss }) }) (registers_back one d.state.parts);
       }
 
-  pub covers_all : (p : P) (ids : List ℕ) (old mid new : List (Guarded K V P S R)) → MayCoverEach ids old → length ids ≡ length old → mid ≡ changed_first (λ k. prepared) (length old) old
+  pub covers_all : (p : P) (ids : List ℕ) (old mid new : List (GuardedShard K V P S R)) → MayCoverEach ids old → length ids ≡ length old → mid ≡ changed_first (λ k. prepared) (length old) old
       → CommitsFirst p ids (length mid) mid new → CoversShards p old new
   covers_all p ids old mid new may long is h =
       let same : length mid ≡ length old = ap length is ∙ first-length (λ k. prepared) (length old) old in
@@ -225,16 +225,16 @@ module _ {K V P S R : Type 0} where
       }
 
 -- a shard at a place: x is its guard as it is held, o and y are that guard before and after the call
-module _ {K V P S R X : Type 0} (f : X → Guarded K V P S R) (xs : List X) (ds : List (Guarded K V P S R)) (i : ℕ) (x o y : X) (same : map f xs ≡ ds) (is : x ≡ get_or xs i x) (alike : o ≡ x) where
-  pub at_changed : (change : Guarded K V P S R → Guarded K V P S R) → f y ≡ change (f o) → (d : Guarded K V P S R) → slice_get ds i ≡ Some d → map f (slice_set xs i y) ≡ slice_set ds i (change d)
+module _ {K V P S R X : Type 0} (f : X → GuardedShard K V P S R) (xs : List X) (ds : List (GuardedShard K V P S R)) (i : ℕ) (x o y : X) (same : map f xs ≡ ds) (is : x ≡ get_or xs i x) (alike : o ≡ x) where
+  pub at_changed : (change : GuardedShard K V P S R → GuardedShard K V P S R) → f y ≡ change (f o) → (d : GuardedShard K V P S R) → slice_get ds i ≡ Some d → map f (slice_set xs i y) ≡ slice_set ds i (change d)
   at_changed change does d at = seen_set f xs ds i y same ∙ ap (λ e. slice_set ds i e) (does ∙ ap change (seen_at f xs ds i x o d same is alike at))
 
   pub at_prepared : (drawn left : Stream) (r : Result ℕ CacheError) → IfOk r (λ id. PreparesAsDrawn drawn left id (f o).state (f y).state) → f y ≡ record (f o) { state = (f y).state }
-      → OnOk r ((d : Guarded K V P S R) → slice_get ds i ≡ Some d → map f (slice_set xs i y) ≡ slice_set ds i (prepared d))
+      → OnOk r ((d : GuardedShard K V P S R) → slice_get ds i ≡ Some d → map f (slice_set xs i y) ≡ slice_set ds i (prepared d))
   at_prepared drawn left (Ok id) h rest = at_changed prepared (stays_but (f o) (f y) (prepared (f o)).state rest h.room)
   at_prepared drawn left (Err e) h rest = tt
 
-  pub at_may : (drawn left : Stream) (r : Result ℕ CacheError) (new : Front K V P S R) → IfOk r (λ id. PreparesAsDrawn drawn left id (f o).state new) → IfOk r (λ id. (d : Guarded K V P S R) → slice_get ds i ≡ Some d → MayCover id d)
+  pub at_may : (drawn left : Stream) (r : Result ℕ CacheError) (new : Front K V P S R) → IfOk r (λ id. PreparesAsDrawn drawn left id (f o).state new) → IfOk r (λ id. (d : GuardedShard K V P S R) → slice_get ds i ≡ Some d → MayCover id d)
   at_may drawn left (Ok id) new h = λ d at. subst (λ z. MayCover id z) (seen_at f xs ds i x o d same is alike at) (record { drawn = drawn; left = left; draws = h.draws; steps = h.steps })
   at_may drawn left (Err e) new h = tt
 
@@ -242,26 +242,26 @@ module _ {K V P S R X : Type 0} (f : X → Guarded K V P S R) (xs : List X) (ds 
   at_refused (Ok id) low h rest = tt
   at_refused (Err e) low h rest = seen_same f xs ds i x o y same low is alike (stays_but (f o) (f y) (f o).state rest h)
 
-  pub at_caused : (drawn left : Stream) (r : Result ℕ CacheError) → IfErr r (IsCauseToCoverAsDrawn drawn left (f o).state) → IfErr r (λ e. (d : Guarded K V P S R) → slice_get ds i ≡ Some d → MayRefuse d e)
+  pub at_caused : (drawn left : Stream) (r : Result ℕ CacheError) → IfErr r (IsCauseToCoverAsDrawn drawn left (f o).state) → IfErr r (λ e. (d : GuardedShard K V P S R) → slice_get ds i ≡ Some d → MayRefuse d e)
   at_caused drawn left (Ok id) h = tt
   at_caused drawn left (Err e) h = λ d at. (drawn, left, subst (λ z. IsCauseToCoverAsDrawn drawn left z.state e) (seen_at f xs ds i x o d same is alike at) h)
 
   pub at_committed : (p : P) (id : ℕ) → CommitsAsDrawn (f o).moment id p (f o).state (f y).state → f y ≡ record (f o) { state = (f y).state }
-      → (d : Guarded K V P S R) → slice_get ds i ≡ Some d → (e : Guarded K V P S R) × Commits p id d e × (map f (slice_set xs i y) ≡ slice_set ds i e)
+      → (d : GuardedShard K V P S R) → slice_get ds i ≡ Some d → (e : GuardedShard K V P S R) × Commits p id d e × (map f (slice_set xs i y) ≡ slice_set ds i e)
   at_committed p id does rest d at =
       let made : Commits p id (f o) (f y) = record { state = does; rest = rest } in
       (f y, subst (λ z. Commits p id z (f y)) (seen_at f xs ds i x o d same is alike at) made, seen_set f xs ds i y same)
 
   pub at_released : (f y).state ≡ with_first_part without_room (f o).state → f y ≡ record (f o) { state = (f y).state }
-      → (d : Guarded K V P S R) → slice_get ds i ≡ Some d → map f (slice_set xs i y) ≡ slice_set ds i (released d)
+      → (d : GuardedShard K V P S R) → slice_get ds i ≡ Some d → map f (slice_set xs i y) ≡ slice_set ds i (released d)
   at_released does rest = at_changed released (stays_but (f o) (f y) (released (f o)).state rest does)
 
   -- what is so of the shard is so of what its guard guards
-  pub at_so : (Q : Guarded K V P S R → Type 0) → i < length ds → ((d : Guarded K V P S R) → slice_get ds i ≡ Some d → Q d) → Q (f o)
+  pub at_so : (Q : GuardedShard K V P S R → Type 0) → i < length ds → ((d : GuardedShard K V P S R) → slice_get ds i ≡ Some d → Q d) → Q (f o)
   at_so Q low h = let one = item ds i low in subst Q (sym (seen_at f xs ds i x o one.0 same is alike one.1)) (h one.0 one.1)
 
 -- why a predicate is not accepted, for a caller that cannot name what is under the locks
-pub cover_refused_by_all : {K V P S R T : Type 0} (ds : List (Guarded K V P S R)) (r : Result T CacheError) → IfErr r (IsCauseToCoverShards ds) → IfErr r IsCoverRefusal
+pub cover_refused_by_all : {K V P S R T : Type 0} (ds : List (GuardedShard K V P S R)) (r : Result T CacheError) → IfErr r (IsCauseToCoverShards ds) → IfErr r IsCoverRefusal
 cover_refused_by_all ds (Ok x) cause = tt
 cover_refused_by_all ds (Err errors.OutOfMemory) cause = tt
 cover_refused_by_all ds (Err errors.UsedUp) cause = tt

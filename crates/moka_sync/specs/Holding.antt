@@ -10,9 +10,17 @@ use Rattle.rand_core.specs.Stream.{Stream}
 use Rattle.sync_desk.specs.Drawing.{ClearsAsDrawn, CoversAsDrawn, InsertsAsDrawn, LooksUpAsDrawn, RemovesAsDrawn, RunsAsDrawn, SeesAsDrawn}
 use Rattle.sync_desk.specs.Writing.{noted_if}
 
--- what a lock guards, but for the generator and who waits for a turn: a desk's number and state, when values were last written, and the
--- moment that was handed in
+-- what a lock guards, but for who waits for a turn: a desk's number and state, when values were last written, the moment that was handed in,
+-- and the words that the generator is to give
 pub record Guarded (K V P S R : Type 0) : Type 0 where
+  pub number : ℕ
+  pub state : Front K V P S R
+  pub writes : List ℕ
+  pub moment : ℕ
+  pub stream : Stream
+
+-- the same of a shard, but for the generator too
+pub record GuardedShard (K V P S R : Type 0) : Type 0 where
   pub number : ℕ
   pub state : Front K V P S R
   pub writes : List ℕ
@@ -44,6 +52,11 @@ module _ {K V P S R : Type 0} (ways : Ways K V P S R) where
     pub seen : Option V
     pub found : SeesAsDrawn ways old.moment key old.state seen
     pub told : result ≡ is_some seen
+    pub same : new ≡ old
+
+  -- this value of a key was visible, and nothing changed
+  pub record DidShow (key : K) (value : V) (old new : Guarded K V P S R) : Type 0 where
+    pub seen : SeesAsDrawn ways old.moment key old.state (Some value)
     pub same : new ≡ old
 
   -- a value was inserted, and its write noted; a call that was refused changed nothing
@@ -88,16 +101,14 @@ module _ {K V P S R : Type 0} where
       state = record old.state { parts = without_told old.state.parts };
     }
 
-  -- a predicate was registered in each segment for all values that were written before, by identifiers of some stream; a call that was
-  -- refused left the state
+  -- a predicate was registered in each segment for all values that were written before, by identifiers of the desk's own generator; a call
+  -- that was refused left the state
   pub record DidCover (predicate : P) {T : Type 0} (result : Result T CacheError)
       (old new : Guarded K V P S R) : Type 0 where
-    pub drawn : Stream
-    pub left : Stream
-    pub covers : OnOk result
-        ((id : ℕ) × CoversAsDrawn old.moment predicate drawn left id old.state new.state)
+    pub covers : OnOk result ((id : ℕ)
+        × CoversAsDrawn old.moment predicate old.stream new.stream id old.state new.state)
     pub err : OnErr result (new.state ≡ old.state)
-    pub rest : new ≡ record old { state = new.state }
+    pub rest : new ≡ record old { state = new.state; stream = new.stream }
 
   -- this was done to each of so many desks, in a hold of its lock
   abbrev pub DoneUnderEach : (count : ℕ)
@@ -107,9 +118,9 @@ module _ {K V P S R : Type 0} where
 -- at some moment, while the locks of all desks were held, of which there are so many, what they guard, in the order of their numbers, was
 -- taken through this
 pub record DoneUnderAll {K V P S R : Type 0} (count : ℕ)
-    (Fact : List (Guarded K V P S R) → List (Guarded K V P S R) → Type 0) : Type 0 where
-  pub old : List (Guarded K V P S R)
-  pub new : List (Guarded K V P S R)
+    (Fact : List (GuardedShard K V P S R) → List (GuardedShard K V P S R) → Type 0) : Type 0 where
+  pub old : List (GuardedShard K V P S R)
+  pub new : List (GuardedShard K V P S R)
   pub many : length old ≡ count
   pub numbered : BearTheirPlaces old (λ d. d.number)
   pub fact : Fact old new

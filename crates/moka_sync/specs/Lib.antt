@@ -5,6 +5,8 @@ pub use Rattle.moka.specs.Building
 pub mod Turning
 pub mod Accessing
 pub mod Holding
+pub mod Making
+pub mod Telling
 pub mod Covering
 pub mod Showing
 pub mod Selecting

@@ -1,17 +1,19 @@
 //! A cache together with a handle by which its calls may wait.
 ghost use Rattle.std.specs.Prelude.{◌≡◌, Ok, IfOk, IfErr, OnErr};
+ghost use Rattle.std.specs.Arc.{arc_value};
 ghost use Rattle.front_parts.specs.Access.Answering.{Suits};
 ghost use Rattle.front_reference.specs.declared.data.Made.{Made};
 ghost use Rattle.front_reference.specs.declared.errors.CacheError.TheVariants as errors;
-ghost use Rattle.moka_sync.specs.Accessing.{GivesFresh, IsMakingRefusal};
+ghost use Rattle.moka_sync.specs.Accessing.{IsMakingRefusal};
+ghost use Rattle.moka_sync.specs.Making.{ComputedUnderLock, DecidesUnderLock, GivesUnderLock};
+ghost use Rattle.moka_sync.specs.Spreading.{desk_number};
 ghost use Rattle.sync_desk.specs.Slots.Refusals.{IsEndRefusal};
-ghost use Rattle.moka_sync.specs.Turning.{DoesAsDecided};
 ghost use Rattle.std.specs.Fn.{FnOnceReturnsAt};
 
 use crate::cache::SharedCache;
 use crate::iterator::Iter;
-use engine_reference::Rules;
-use front_parts::{Access, OwnedKeyEntrySelector, RefKeyEntrySelector};
+use engine_reference::{Hashes, Rules};
+use front_parts::{Access, HasWays, OwnedKeyEntrySelector, RefKeyEntrySelector};
 use front_reference::{CacheError, Computed, Made, Op, Shared, TurnKind};
 use front_state::Single;
 use std::alloc::AllocError;
@@ -46,6 +48,7 @@ impl<
     /// ```
     pub fn attach<H: Wait>(self, rt: H) -> Attached<K, V, S, R, E, H, C>
         requires exact { (x y : V) → V.is_clone x y → y ≡ x }
+        ensures cache { result.cache ≡ self }
     {
         Attached { cache: self, rt }
     }
@@ -71,6 +74,7 @@ impl<
     /// })?;
     /// ```
     pub fn entry<'b>(&'b mut self, key: K) -> OwnedKeyEntrySelector<'b, K, Self, ()>
+        ensures owner { result.owner.now ≡ self.old }
         ensures key { result.key ≡ key }
     {
         let alloc = self.cache.alloc;
@@ -108,8 +112,9 @@ impl<
         requires exact { (x y : V) → V.is_clone x y → y ≡ x }
         requires callable { P.IsAlwaysCallable replace_if × M.IsAlwaysCallable make }
         requires suitable { (made : Made V R.Fault) → M.post make (Ok made) → Suits kind made }
-        ensures gives { IfOk result
-            (λ a. GivesFresh (FnOnceReturnsAt P.FnOnce replace_if) (M.post make) a.0 a.1) }
+        ensures gives { IfOk result (λ a. GivesUnderLock ⟦<R as HasWays<K, V, S>>⟧.ways
+            (desk_number (⟦<S as Hashes<K>>⟧.hash) (arc_value self.now.cache.inner).spread key)
+            kind key (FnOnceReturnsAt P.FnOnce replace_if) (λ made. M.post make (Ok made)) a.0 a.1) }
         ensures suits { IfOk result (λ a. Suits kind a.0) }
         ensures cause { IfErr result (IsMakingRefusal kind) }
     {
@@ -136,7 +141,9 @@ impl<
     ) -> Result<Result<Computed<V>, X>, CacheError>
         requires exact { (x y : V) → V.is_clone x y → y ≡ x }
         requires callable { D.IsAlwaysCallable decide }
-        ensures does { IfOk result (DoesAsDecided (λ seen decided. D.post decide seen decided)) }
+        ensures does { IfOk result (ComputedUnderLock ⟦<R as HasWays<K, V, S>>⟧.ways
+            (desk_number (⟦<S as Hashes<K>>⟧.hash) (arc_value self.now.cache.inner).spread key)
+            key (λ seen decided. D.post decide seen decided)) }
         ensures cause { IfErr result IsEndRefusal }
     {
         let desk = self.cache.inner.of(&*key);
@@ -152,7 +159,9 @@ impl<
     ///     show(&key, value);
     /// }
     /// ```
-    pub fn iter(&self) -> Iter<'_, K, V, S, R, E, H, C> {
+    pub fn iter(&self) -> Iter<'_, K, V, S, R, E, H, C>
+        ensures { result.cache.now ≡ self.now.cache }
+    {
         Iter::new(&self.cache, &self.rt)
     }
 }
@@ -208,7 +217,10 @@ impl<
     H: Wait,
     C: Drop,
 > Access<K, V> for Attached<K, V, S, R, E, H, C> {
+    ghost use Rattle.std.specs.Arc.{arc_value};
     ghost use Rattle.moka_sync.specs.Accessing.{IsMakingRefusal};
+    ghost use Rattle.moka_sync.specs.Making.{DoesUnderLock, RestsByKind};
+    ghost use Rattle.moka_sync.specs.Spreading.{desk_number};
     ghost use Rattle.sync_desk.specs.Slots.Refusals.{IsEndRefusal};
 
     type When = ();
@@ -219,9 +231,14 @@ impl<
 
     ghost sees = { λ _ _ _ _. Unit {0} };
 
-    ghost coalesced = { λ _ _ _ _ _ _ _ _. Unit {0} };
+    ghost coalesced = { λ own _ kind key _ made fresh _. RestsByKind
+        ⟦<R as HasWays<K, V, S>>⟧.ways
+        (desk_number (⟦<S as Hashes<K>>⟧.hash) (arc_value own.cache.inner).spread key) kind key
+        made fresh };
 
-    ghost computed = { λ _ _ _ _ _ _. Unit {0} };
+    ghost computed = { λ own _ key does done _. DoesUnderLock ⟦<R as HasWays<K, V, S>>⟧.ways
+        (desk_number (⟦<S as Hashes<K>>⟧.hash) (arc_value own.cache.inner).spread key) key does
+        done };
 
     ghost refuses_coalesced = { λ _ kind _. IsMakingRefusal kind };
 
@@ -241,8 +258,9 @@ impl<
         requires exact { (x y : V) → V.is_clone x y → y ≡ x }
         requires callable { P.IsAlwaysCallable replace_if × M.IsAlwaysCallable make }
         requires suitable { (made : Made V R.Fault) → M.post make (Ok made) → Suits kind made }
-        ensures gives { IfOk result
-            (λ a. GivesFresh (FnOnceReturnsAt P.FnOnce replace_if) (M.post make) a.0 a.1) }
+        ensures gives { IfOk result (λ a. GivesUnderLock ⟦<R as HasWays<K, V, S>>⟧.ways
+            (desk_number (⟦<S as Hashes<K>>⟧.hash) (arc_value self.old.cache.inner).spread key)
+            kind key (FnOnceReturnsAt P.FnOnce replace_if) (λ made. M.post make (Ok made)) a.0 a.1) }
         ensures suits { IfOk result (λ a. Suits kind a.0) }
         ensures err { OnErr result (self.new ≡ self.old) }
         ensures cause { IfErr result (IsMakingRefusal kind) }
@@ -258,7 +276,9 @@ impl<
     ) -> Result<Result<Computed<V>, X>, CacheError>
         requires exact { (x y : V) → V.is_clone x y → y ≡ x }
         requires callable { D.IsAlwaysCallable decide }
-        ensures decides { IfOk result (DoesAsDecided (λ seen decided. D.post decide seen decided)) }
+        ensures decides { IfOk result (DecidesUnderLock ⟦<R as HasWays<K, V, S>>⟧.ways
+            (desk_number (⟦<S as Hashes<K>>⟧.hash) (arc_value self.old.cache.inner).spread key)
+            key (λ seen decided. D.post decide seen decided)) }
         ensures err { OnErr result (self.new ≡ self.old) }
         ensures cause { IfErr result IsEndRefusal }
     {

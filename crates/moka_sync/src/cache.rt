@@ -2,10 +2,12 @@
 ghost use Rattle.std.specs.Prelude.{◌≡◌, None, IfErr, IfOk, OnOk, option_map};
 ghost use Rattle.std.specs.Arc.{arc_value};
 ghost use Rattle.std.specs.String.{string_bytes};
+ghost use Rattle.front_reference.specs.Wholes.{total_number, total_weight};
 ghost use Rattle.front_reference.specs.declared.errors.CacheError.TheVariants as errors;
 ghost use Rattle.front_state.specs.Reading.{ShowsPolicy};
 ghost use Rattle.moka_sync.specs.Holding.{DidClear, DoneUnderEach, DoneUnderLock, DidGet, DidInsert, DidInvalidate, DidRemove, DidRun, DidSee};
 ghost use Rattle.moka_sync.specs.Spreading.{desk_count, desk_number};
+ghost use Rattle.moka_sync.specs.Telling.{SumsUnderEach};
 ghost use Rattle.sync_desk.specs.Slots.Refusals.{IsShortage};
 
 use crate::inner::Inner;
@@ -122,22 +124,32 @@ impl<
 
     /// Returns the number of entries as of each segment's last maintenance run, at most 2^64 - 1. The number is exact after
     /// `run_pending_tasks`.
-    pub fn entry_count(&self, rt: &impl Wait) -> u64 {
+    pub fn entry_count(&self, rt: &impl Wait) -> u64
+        ensures { SumsUnderEach {K = K} {V = V} {P = R.Predicate} {S = S} {R = R}
+            (desk_count (arc_value self.now.inner).spread) total_number result }
+    {
+        let inner = &*self.inner;
         let mut sum = 0u64;
-        for desk in self.inner.desks.iter() {
-            let guard = desk.lock_untimed(rt);
-            sum = sum.saturating_add(guard.entry_count());
+        for number in 0..inner.desks.len() {
+            let guard = inner.get(number).lock_untimed(rt);
+            let desk = &*guard;
+            sum = sum.saturating_add(desk.entry_count());
         }
         sum
     }
 
     /// Returns the total weight of the entries as of each segment's last maintenance run, at most 2^64 - 1. The weight is exact after
     /// `run_pending_tasks`.
-    pub fn weighted_size(&self, rt: &impl Wait) -> u64 {
+    pub fn weighted_size(&self, rt: &impl Wait) -> u64
+        ensures { SumsUnderEach {K = K} {V = V} {P = R.Predicate} {S = S} {R = R}
+            (desk_count (arc_value self.now.inner).spread) total_weight result }
+    {
+        let inner = &*self.inner;
         let mut sum = 0u64;
-        for desk in self.inner.desks.iter() {
-            let guard = desk.lock_untimed(rt);
-            sum = sum.saturating_add(guard.weighted_size());
+        for number in 0..inner.desks.len() {
+            let guard = inner.get(number).lock_untimed(rt);
+            let desk = &*guard;
+            sum = sum.saturating_add(desk.weighted_size());
         }
         sum
     }

@@ -1,10 +1,17 @@
 //! Calls that make a value if none is visible. Of several callers for a key one makes it, and the others wait for it.
-ghost use Rattle.std.specs.Prelude.{◌≡◌, IfErr};
+ghost use Rattle.std.specs.Prelude.{◌≡◌, IfErr, IfOk};
+ghost use Rattle.std.specs.Arc.{arc_value};
+ghost use Rattle.std.specs.Fn.{FnReturnsAt};
+ghost use Rattle.front_parts.specs.Access.Selecting.{with_fault};
+ghost use Rattle.moka_sync.specs.Making.{MayPass, NotPassed, OptionUnderLock, ResultUnderLock, ValueUnderLock};
+ghost use Rattle.moka_sync.specs.Spreading.{desk_number};
+ghost use Rattle.moka_sync.specs.declared.turns.Passing.TheVariants as asks;
 ghost use Rattle.sync_desk.specs.Slots.Refusals.{IsTurnRefusal};
 
 use crate::cache::SharedCache;
 use crate::turns::{Passing, passes_nothing};
-use engine_reference::Rules;
+use engine_reference::{Hashes, Rules};
+use front_parts::HasWays;
 use front_reference::{CacheError, ClonedKey, OwnedKey};
 use front_state::Segmented;
 use std::hash::{BuildHasher, Hash};
@@ -35,6 +42,10 @@ impl<
     ) -> Result<V, CacheError>
         requires exact { (x y : V) → V.is_clone x y → y ≡ x }
         requires callable { M.IsAlwaysCallable make }
+        ensures made { IfOk result (ValueUnderLock
+            ⟦<R as HasWays<K, V, S>>⟧.ways
+            (desk_number (⟦<S as Hashes<K>>⟧.hash) (arc_value self.now.inner).spread key) R.Fault key
+            NotPassed (M.post make)) }
         ensures cause { IfErr result IsTurnRefusal }
     {
         let desk = self.inner.of(&key);
@@ -62,6 +73,10 @@ impl<
         requires exact_key { (x y : K) → K.is_clone x y → y ≡ x }
         requires exact { (x y : V) → V.is_clone x y → y ≡ x }
         requires callable { M.IsAlwaysCallable make }
+        ensures made { IfOk result (ValueUnderLock
+            ⟦<R as HasWays<K, V, S>>⟧.ways
+            (desk_number (⟦<S as Hashes<K>>⟧.hash) (arc_value self.now.inner).spread key.now) R.Fault key.now
+            NotPassed (M.post make)) }
         ensures cause { IfErr result IsTurnRefusal }
     {
         let desk = self.inner.of(key);
@@ -88,6 +103,10 @@ impl<
     ) -> Result<V, CacheError>
         requires exact { (x y : V) → V.is_clone x y → y ≡ x }
         requires callable { P.IsAlwaysCallable replace_if × M.IsAlwaysCallable make }
+        ensures made { IfOk result (ValueUnderLock
+            ⟦<R as HasWays<K, V, S>>⟧.ways
+            (desk_number (⟦<S as Hashes<K>>⟧.hash) (arc_value self.now.inner).spread key) R.Fault key
+            (MayPass asks.Unasked (FnReturnsAt P.Fn replace_if)) (M.post make)) }
         ensures cause { IfErr result IsTurnRefusal }
     {
         let desk = self.inner.of(&key);
@@ -111,6 +130,10 @@ impl<
     ) -> Result<Option<V>, CacheError>
         requires exact { (x y : V) → V.is_clone x y → y ≡ x }
         requires callable { M.IsAlwaysCallable make }
+        ensures made { IfOk result (OptionUnderLock
+            ⟦<R as HasWays<K, V, S>>⟧.ways
+            (desk_number (⟦<S as Hashes<K>>⟧.hash) (arc_value self.now.inner).spread key) R.Fault key
+            (M.post make)) }
         ensures cause { IfErr result IsTurnRefusal }
     {
         let desk = self.inner.of(&key);
@@ -134,6 +157,10 @@ impl<
         requires exact_key { (x y : K) → K.is_clone x y → y ≡ x }
         requires exact { (x y : V) → V.is_clone x y → y ≡ x }
         requires callable { M.IsAlwaysCallable make }
+        ensures made { IfOk result (OptionUnderLock
+            ⟦<R as HasWays<K, V, S>>⟧.ways
+            (desk_number (⟦<S as Hashes<K>>⟧.hash) (arc_value self.now.inner).spread key.now) R.Fault key.now
+            (M.post make)) }
         ensures cause { IfErr result IsTurnRefusal }
     {
         let desk = self.inner.of(key);
@@ -160,6 +187,10 @@ impl<
     ) -> Result<Result<V, Arc<R::Fault>>, CacheError>
         requires exact { (x y : V) → V.is_clone x y → y ≡ x }
         requires callable { M.IsAlwaysCallable make }
+        ensures made { IfOk result (λ r. ResultUnderLock
+            ⟦<R as HasWays<K, V, S>>⟧.ways
+            (desk_number (⟦<S as Hashes<K>>⟧.hash) (arc_value self.now.inner).spread key) key
+            (M.post make) (with_fault arc_value r)) }
         ensures cause { IfErr result IsTurnRefusal }
     {
         let desk = self.inner.of(&key);
@@ -183,6 +214,10 @@ impl<
         requires exact_key { (x y : K) → K.is_clone x y → y ≡ x }
         requires exact { (x y : V) → V.is_clone x y → y ≡ x }
         requires callable { M.IsAlwaysCallable make }
+        ensures made { IfOk result (λ r. ResultUnderLock
+            ⟦<R as HasWays<K, V, S>>⟧.ways
+            (desk_number (⟦<S as Hashes<K>>⟧.hash) (arc_value self.now.inner).spread key.now) key.now
+            (M.post make) (with_fault arc_value r)) }
         ensures cause { IfErr result IsTurnRefusal }
     {
         let desk = self.inner.of(key);
@@ -210,6 +245,10 @@ impl<
     ) -> Result<V, CacheError>
         requires exact { (x y : V) → V.is_clone x y → y ≡ x }
         requires callable { M.IsAlwaysCallable make }
+        ensures made { IfOk result (ValueUnderLock
+            ⟦<R as HasWays<K, V, S>>⟧.ways
+            (desk_number (⟦<S as Hashes<K>>⟧.hash) (arc_value self.now.inner).spread key) R.Fault key
+            NotPassed (M.post make)) }
         ensures cause { IfErr result IsTurnRefusal }
     {
         self.get_with(rt, key, make)
@@ -224,6 +263,10 @@ impl<
     ) -> Result<Result<V, Arc<R::Fault>>, CacheError>
         requires exact { (x y : V) → V.is_clone x y → y ≡ x }
         requires callable { M.IsAlwaysCallable make }
+        ensures made { IfOk result (λ r. ResultUnderLock
+            ⟦<R as HasWays<K, V, S>>⟧.ways
+            (desk_number (⟦<S as Hashes<K>>⟧.hash) (arc_value self.now.inner).spread key) key
+            (M.post make) (with_fault arc_value r)) }
         ensures cause { IfErr result IsTurnRefusal }
     {
         self.try_get_with(rt, key, make)

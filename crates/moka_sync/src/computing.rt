@@ -1,14 +1,16 @@
 //! Calls that decide what to do with a key by its entry. They come one at a time for a key.
-ghost use Rattle.std.specs.Prelude.{◌≡◌, IfOk, IfErr};
+ghost use Rattle.std.specs.Prelude.{◌≡◌, Option, IfOk, IfErr, OnOk, is_some, ⊤};
 ghost use Rattle.front_parts.specs.Access.Answering.{IsOutcomeOf};
+ghost use Rattle.front_reference.specs.declared.data.Made.TheVariants as makes;
 ghost use Rattle.front_reference.specs.declared.data.Op.TheVariants as op;
-ghost use Rattle.moka_sync.specs.Turning.{DoesAsDecided};
+ghost use Rattle.moka_sync.specs.Holding.{DoneUnderLock};
+ghost use Rattle.moka_sync.specs.Making.{ComputedUnderLock, DecidedUnderLock, DidCompute, DidFinish, DidGiveUp, DidTakeOut, OperatesUnderLock};
 ghost use Rattle.sync_desk.specs.Slots.Refusals.{IsEndRefusal, IsShortage};
 
 use crate::shared::SharedDesk;
 use crate::turns::Lead;
 use engine_reference::Rules;
-use front_parts::{shown_put, shown_removed, shown_unchanged};
+use front_parts::{HasWays, shown_put, shown_removed, shown_unchanged};
 use front_reference::{CacheError, Computed, Op, Shared, TurnKind};
 use std::hash::{BuildHasher, Hash};
 use std::sync::Wait;
@@ -25,7 +27,10 @@ impl<
 > Lead<'a, K, V, S, R, E, C> {
     /// Ends a compute turn by putting a value, or gives it up if that is refused.
     fn put(self, rt: &impl Wait, value: V) -> Result<(), CacheError>
-        ensures { IfErr result IsEndRefusal }
+        ensures did { OnOk result (DoneUnderLock self.entry.shared.now.number
+            (DidFinish ⟦<R as HasWays<K, V, S>>⟧.ways {F = ⊤} self.entry.number
+            (makes.Value value))) }
+        ensures cause { IfErr result IsEndRefusal }
     {
         let Lead {
             shared,
@@ -43,7 +48,9 @@ impl<
     /// Ends a compute turn by removing its key, or gives it up if that is refused.
     fn take_out(self, rt: &impl Wait, key: &K) -> Result<Option<V>, CacheError>
         requires exact { (x y : V) → V.is_clone x y → y ≡ x }
-        ensures { IfErr result IsShortage }
+        ensures did { IfOk result (λ removed. DoneUnderLock self.entry.shared.now.number
+            (DidTakeOut ⟦<R as HasWays<K, V, S>>⟧.ways self.entry.number key.now removed)) }
+        ensures cause { IfErr result IsShortage }
     {
         let Lead {
             shared,
@@ -60,6 +67,10 @@ impl<
 
     /// Puts a value, and returns it.
     fn put_copy(self, rt: &impl Wait, value: V, was_seen: bool) -> Result<Computed<V>, CacheError>
+        requires exact { (x y : V) → V.is_clone x y → y ≡ x }
+        ensures did { IfOk result (λ done. (key : K) (seen : Option V) → was_seen ≡ is_some seen
+            → OperatesUnderLock ⟦<R as HasWays<K, V, S>>⟧.ways self.entry.shared.now.number
+            self.entry.number key seen (op.Put value) done) }
         ensures does { IfOk result (IsOutcomeOf (op.Put value)) }
         ensures cause { IfErr result IsEndRefusal }
     {
@@ -84,6 +95,8 @@ impl<
         decided: Op<V>,
     ) -> Result<Computed<V>, CacheError>
         requires exact { (x y : V) → V.is_clone x y → y ≡ x }
+        ensures did { IfOk result (OperatesUnderLock ⟦<R as HasWays<K, V, S>>⟧.ways
+            self.entry.shared.now.number self.entry.number key.now seen decided) }
         ensures does { IfOk result (IsOutcomeOf decided) }
         ensures cause { IfErr result IsEndRefusal }
     {
@@ -110,7 +123,9 @@ impl<
     ) -> Result<Result<Computed<V>, X>, CacheError>
         requires exact { (x y : V) → V.is_clone x y → y ≡ x }
         requires callable { D.IsAlwaysCallable decide }
-        ensures does { IfOk result (DoesAsDecided (λ seen decided. D.post decide seen decided)) }
+        ensures does { IfOk result (DecidedUnderLock ⟦<R as HasWays<K, V, S>>⟧.ways
+            self.entry.shared.now.number self.entry.number key.now seen
+            (λ decided. D.post decide seen decided)) }
         ensures cause { IfErr result IsEndRefusal }
     {
         let kept = match seen.clone() {
@@ -144,6 +159,8 @@ impl<
     /// Leads the compute turn of a key, once nobody else does, and returns the visible value, which counts as a use of it.
     fn lead_compute<H: Wait>(&self, rt: &H, key: &Shared<K>) -> Result<(u64, Option<V>), CacheError>
         requires exact { (x y : V) → V.is_clone x y → y ≡ x }
+        ensures leads { IfOk result (λ led. DoneUnderLock self.now.number
+            (DidCompute ⟦<R as HasWays<K, V, S>>⟧.ways key.now led.0 led.1)) }
         ensures cause { IfErr result IsShortage }
     {
         for _ in rt.forever() {
@@ -170,7 +187,8 @@ impl<
     ) -> Result<Result<Computed<V>, X>, CacheError>
         requires exact { (x y : V) → V.is_clone x y → y ≡ x }
         requires callable { D.IsAlwaysCallable decide }
-        ensures does { IfOk result (DoesAsDecided (λ seen decided. D.post decide seen decided)) }
+        ensures does { IfOk result (ComputedUnderLock ⟦<R as HasWays<K, V, S>>⟧.ways
+            self.now.number key.now (λ seen decided. D.post decide seen decided)) }
         ensures cause { IfErr result IsEndRefusal }
     {
         let (number, seen) = match self.lead_compute(rt, key) {

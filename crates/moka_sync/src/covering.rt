@@ -4,7 +4,7 @@ ghost use Rattle.std.specs.Sync.Mutex.{mutex_guard_value};
 ghost use Rattle.front_parts.specs.Wholes.Covering.{AreOnly};
 ghost use Rattle.front_parts.specs.Wholes.Firsts.{changed_first};
 ghost use Rattle.moka_sync.specs.Covering.{Commits, CommitsFirst, CoversShards, IsCauseToCoverShards, IsPrepared, MayCover, MayCoverEach, MayRefuse, each_of, prepared, released};
-ghost use Rattle.moka_sync.specs.Holding.{Guarded};
+ghost use Rattle.moka_sync.specs.Holding.{GuardedShard};
 ghost use Rattle.front_state.specs.Sharding.{FirstHasRoom};
 
 use engine_reference::Rules;
@@ -29,9 +29,9 @@ impl<'a, K: Eq + Hash, V, S: BuildHasher, R: Rules<K, V>, G> Model for AllDesks<
     ghost use Rattle.std.specs.Prelude.{List};
     ghost use Rattle.std.specs.Sync.Mutex.{mutex_guard_value};
     ghost use Rattle.moka_sync.specs.Covering.{each_of};
-    ghost use Rattle.moka_sync.specs.Holding.{Guarded};
+    ghost use Rattle.moka_sync.specs.Holding.{GuardedShard};
 
-    ghost Value = { List (Guarded K V R.Predicate S R) };
+    ghost Value = { List (GuardedShard K V R.Predicate S R) };
 
     ghost view = { λ c. each_of c.guards.items (λ g. record {
       number = (mutex_guard_value g).number;
@@ -71,13 +71,13 @@ impl<
     /// Makes room for a predicate in a shard, and draws its identifier.
     fn prepare_at(&mut self, number: usize) -> Result<u128, CacheError>
         requires { number < length self.old }
-        ensures ok { OnOk result ((d : Guarded K V R.Predicate S R)
+        ensures ok { OnOk result ((d : GuardedShard K V R.Predicate S R)
             → slice_get self.old number ≡ Some d
             → self.new ≡ slice_set self.old number (prepared d)) }
-        ensures may { IfOk result (λ id. (d : Guarded K V R.Predicate S R)
+        ensures may { IfOk result (λ id. (d : GuardedShard K V R.Predicate S R)
             → slice_get self.old number ≡ Some d → MayCover id d) }
         ensures err { OnErr result (self.new ≡ self.old) }
-        ensures cause { IfErr result (λ e. (d : Guarded K V R.Predicate S R)
+        ensures cause { IfErr result (λ e. (d : GuardedShard K V R.Predicate S R)
             → slice_get self.old number ≡ Some d → MayRefuse d e) }
     {
         let desk = &mut *self.guards[number];
@@ -87,10 +87,10 @@ impl<
     /// Registers a predicate in a shard, in the room that was made for it.
     fn commit_at(&mut self, number: usize, id: u128, predicate: Shared<R::Predicate>)
         requires within { number < length self.old }
-        requires prepared { (d : Guarded K V R.Predicate S R)
+        requires prepared { (d : GuardedShard K V R.Predicate S R)
             → slice_get self.old number ≡ Some d → IsPrepared d }
-        ensures { (d : Guarded K V R.Predicate S R) → slice_get self.old number ≡ Some d
-            → (e : Guarded K V R.Predicate S R) × (Commits predicate id d e)
+        ensures { (d : GuardedShard K V R.Predicate S R) → slice_get self.old number ≡ Some d
+            → (e : GuardedShard K V R.Predicate S R) × (Commits predicate id d e)
             × (self.new ≡ slice_set self.old number e) }
     {
         let desk = &mut *self.guards[number];
@@ -100,9 +100,9 @@ impl<
     /// Gives up the room that was made in a shard.
     fn release_at(&mut self, number: usize)
         requires within { number < length self.old }
-        requires room { (d : Guarded K V R.Predicate S R)
+        requires room { (d : GuardedShard K V R.Predicate S R)
             → slice_get self.old number ≡ Some d → FirstHasRoom d.state }
-        ensures { (d : Guarded K V R.Predicate S R) → slice_get self.old number ≡ Some d
+        ensures { (d : GuardedShard K V R.Predicate S R) → slice_get self.old number ≡ Some d
             → self.new ≡ slice_set self.old number (released d) }
     {
         let desk = &mut *self.guards[number];
@@ -112,7 +112,7 @@ impl<
     /// Gives up the room that was made in the first shards.
     fn release_first(&mut self, count: usize)
         requires within { count ≤ length self.old }
-        requires room { (place : ℕ) (d : Guarded K V R.Predicate S R) → place < count
+        requires room { (place : ℕ) (d : GuardedShard K V R.Predicate S R) → place < count
             → slice_get self.old place ≡ Some d → FirstHasRoom d.state }
         ensures { self.new ≡ changed_first (λ _. released) count self.old }
     {
@@ -149,7 +149,7 @@ impl<
     fn commit_all(&mut self, ids: &[u128], mut predicates: Vec<Shared<R::Predicate>>)
         requires ids { length ids.now ≡ length self.old }
         requires predicates { length predicates.items ≡ length self.old }
-        requires prepared { (place : ℕ) (d : Guarded K V R.Predicate S R)
+        requires prepared { (place : ℕ) (d : GuardedShard K V R.Predicate S R)
             → slice_get self.old place ≡ Some d → IsPrepared d }
         ensures { (p : R.Predicate) → AreOnly p predicates.items
             → CommitsFirst p ids.now (length self.old) self.old self.new }

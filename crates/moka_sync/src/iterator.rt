@@ -1,11 +1,14 @@
 //! The iterator.
-ghost use Rattle.std.specs.Prelude.{◌≡◌, ◌<◌, IfOk, IfErr, length};
+ghost use Rattle.std.specs.Prelude.{◌≡◌, ◌<◌, IfOk, IfErr, IfSome, length};
+ghost use Rattle.std.specs.Arc.{arc_value};
 ghost use Rattle.std.specs.Iterator.{at_most};
 ghost use Rattle.front_reference.specs.declared.errors.CacheError.TheVariants as errors;
+ghost use Rattle.moka_sync.specs.Showing.{ShowsItem};
 ghost use Rattle.std.specs.Sync.Forever.{forever_left};
 
 use crate::cache::SharedCache;
-use engine_reference::Rules;
+use engine_reference::{Hashes, Rules};
+use front_parts::HasWays;
 use front_reference::{CacheError, Shared};
 use front_state::Single;
 use std::hash::{BuildHasher, Hash};
@@ -59,6 +62,9 @@ impl<
     /// A clone of the visible value of a key. It does not count as a use.
     fn scan<H: Wait>(&self, rt: &H, key: &Shared<K>) -> Result<Option<V>, CacheError>
         requires exact { (x y : V) → V.is_clone x y → y ≡ x }
+        ensures shown { IfOk result (λ found. IfSome found (λ value. ShowsItem
+            ⟦<R as HasWays<K, V, S>>⟧.ways (⟦<S as Hashes<K>>⟧.hash)
+            (arc_value self.now.inner).spread (key.now, value))) }
         ensures cause { IfErr result (λ e. e ≡ errors.OutOfMemory) }
     {
         let mut guard = self.inner.lock_of(rt, &**key);
@@ -74,6 +80,9 @@ impl<
     ) -> Result<Option<(Shared<K>, V)>, CacheError>
         requires exact { (x y : V) → V.is_clone x y → y ≡ x }
         requires some { 0 < length keys.old.items }
+        ensures shown { IfOk result (λ found. IfSome found (ShowsItem
+            ⟦<R as HasWays<K, V, S>>⟧.ways (⟦<S as Hashes<K>>⟧.hash)
+            (arc_value self.now.inner).spread)) }
         ensures shorter { IfOk result (λ _. length keys.new.items < length keys.old.items) }
         ensures cause { IfErr result (λ e. e ≡ errors.OutOfMemory) }
     {
@@ -96,6 +105,9 @@ impl<
         keys: &mut Vec<Shared<K>>,
     ) -> Result<Option<(Shared<K>, V)>, CacheError>
         requires exact { (x y : V) → V.is_clone x y → y ≡ x }
+        ensures shown { IfOk result (λ found. IfSome found (ShowsItem
+            ⟦<R as HasWays<K, V, S>>⟧.ways (⟦<S as Hashes<K>>⟧.hash)
+            (arc_value self.now.inner).spread)) }
         ensures cause { IfErr result (λ e. e ≡ errors.OutOfMemory) }
     {
         while !keys.is_empty() {
@@ -115,6 +127,9 @@ impl<
         place: &mut usize,
     ) -> Result<Option<(Shared<K>, V)>, CacheError>
         requires exact { (x y : V) → V.is_clone x y → y ≡ x }
+        ensures shown { IfOk result (λ found. IfSome found (ShowsItem
+            ⟦<R as HasWays<K, V, S>>⟧.ways (⟦<S as Hashes<K>>⟧.hash)
+            (arc_value self.now.inner).spread)) }
         ensures cause { IfErr result (λ e. e ≡ errors.OutOfMemory) }
     {
         let count = self.policy().num_segments();
@@ -143,6 +158,7 @@ impl<
     /// An iterator that has returned nothing. It allocates nothing, but its items do.
     pub(crate) fn new(cache: &'a SharedCache<K, V, S, R, E, C>, rt: &'a H) -> Self
         requires exact { (x y : V) → V.is_clone x y → y ≡ x }
+        ensures { result.cache.now ≡ cache.now }
     {
         Iter {
             cache,
@@ -165,6 +181,14 @@ impl<
     C: Drop,
 > Iterator for Iter<'a, K, V, S, R, E, H, C> {
     type Item = Result<(Shared<K>, V), CacheError>;
+
+    ghost use Rattle.std.specs.Prelude.{IfSome, IfOk};
+    ghost use Rattle.std.specs.Arc.{arc_value};
+    ghost use Rattle.moka_sync.specs.Showing.{ShowsItem};
+
+    ghost next_gives = { λ it item _. IfSome item (λ shown. IfOk shown (ShowsItem
+        ⟦<R as HasWays<K, V, S>>⟧.ways (⟦<S as Hashes<K>>⟧.hash)
+        (arc_value it.cache.now.inner).spread)) };
 
     ghost remaining = { λ it. at_most (forever_left it.turns) };
 

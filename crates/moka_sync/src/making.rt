@@ -1,13 +1,16 @@
 //! Calls that make a value if none is visible. Of several callers for a key one makes it, and the others wait for it.
-ghost use Rattle.std.specs.Prelude.{◌≡◌, true, IfOk, IfErr};
-ghost use Rattle.front_reference.specs.declared.data.TurnKind.TheVariants as turns;
-ghost use Rattle.sync_desk.specs.Slots.Endings.{suits};
+ghost use Rattle.std.specs.Prelude.{◌≡◌, IfOk, IfErr};
+ghost use Rattle.std.specs.Arc.{arc_value};
+ghost use Rattle.std.specs.Fn.{FnReturnsAt};
+ghost use Rattle.front_parts.specs.Access.Answering.{IsOptionOf, IsResultOf, IsValueOf};
+ghost use Rattle.front_parts.specs.Access.Selecting.{with_fault};
+ghost use Rattle.moka_sync.specs.Making.{MayPass, OptionUnderLock, ResultUnderLock, ValueUnderLock};
 ghost use Rattle.sync_desk.specs.Slots.Refusals.{IsTurnRefusal};
 
 use crate::shared::SharedDesk;
 use crate::turns::{Passing, passes_nothing};
 use engine_reference::Rules;
-use front_parts::{option_made, result_made, value_made};
+use front_parts::{HasWays, option_made, result_made, value_made};
 use front_reference::{CacheError, Made, Shared, TurnKind};
 use std::alloc::AllocError;
 use std::hash::{BuildHasher, Hash};
@@ -32,6 +35,9 @@ impl<
         requires becomes { (a : A) → A.can_become a }
         requires exact { (x y : V) → V.is_clone x y → y ≡ x }
         requires callable { P.IsAlwaysCallable replace_if × M.IsAlwaysCallable make }
+        ensures made { IfOk result (ValueUnderLock
+            ⟦<R as HasWays<K, V, S>>⟧.ways self.now.number R.Fault
+            (A.named_key asked) (MayPass passing (FnReturnsAt P.Fn replace_if)) (M.post make)) }
         ensures cause { IfErr result IsTurnRefusal }
     {
         let (made, _is_fresh) = self.coalesce(
@@ -42,7 +48,7 @@ impl<
             replace_if,
             || -> Result<Made<V, Shared<R::Fault>>, AllocError>
                 requires { M.IsAlwaysCallable make }
-                ensures { IfOk result (λ made. suits turns.With made ≡ true) }
+                ensures { IfOk result (IsValueOf (M.post make)) }
             { Ok(Made::Value(make())) },
         )?;
         Ok(value_made(made))
@@ -58,6 +64,9 @@ impl<
         requires becomes { (a : A) → A.can_become a }
         requires exact { (x y : V) → V.is_clone x y → y ≡ x }
         requires callable { M.IsAlwaysCallable make }
+        ensures made { IfOk result (OptionUnderLock
+            ⟦<R as HasWays<K, V, S>>⟧.ways self.now.number R.Fault
+            (A.named_key asked) (M.post make)) }
         ensures cause { IfErr result IsTurnRefusal }
     {
         let (made, _is_fresh) = self.coalesce(
@@ -68,7 +77,7 @@ impl<
             passes_nothing,
             || -> Result<Made<V, Shared<R::Fault>>, AllocError>
                 requires { M.IsAlwaysCallable make }
-                ensures { IfOk result (λ made. suits turns.Optionally made ≡ true) }
+                ensures { IfOk result (IsOptionOf (M.post make)) }
             {
                 match make() {
                     Some(value) => Ok(Made::Value(value)),
@@ -90,6 +99,9 @@ impl<
         requires becomes { (a : A) → A.can_become a }
         requires exact { (x y : V) → V.is_clone x y → y ≡ x }
         requires callable { M.IsAlwaysCallable make }
+        ensures made { IfOk result (λ r. ResultUnderLock
+            ⟦<R as HasWays<K, V, S>>⟧.ways self.now.number
+            (A.named_key asked) (M.post make) (with_fault arc_value r)) }
         ensures cause { IfErr result IsTurnRefusal }
     {
         let alloc = self.alloc;
@@ -101,7 +113,7 @@ impl<
             passes_nothing,
             || -> Result<Made<V, Shared<R::Fault>>, AllocError>
                 requires { M.IsAlwaysCallable make }
-                ensures { IfOk result (λ made. suits turns.Try made ≡ true) }
+                ensures { IfOk result (IsResultOf (M.post make)) }
             {
                 match make() {
                     Ok(value) => Ok(Made::Value(value)),

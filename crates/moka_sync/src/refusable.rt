@@ -1,13 +1,15 @@
 //! A call that makes a value whose allocation may fail.
-ghost use Rattle.std.specs.Prelude.{◌≡◌, true, IfOk, IfErr};
-ghost use Rattle.front_reference.specs.declared.data.TurnKind.TheVariants as turns;
-ghost use Rattle.sync_desk.specs.Slots.Endings.{suits};
+ghost use Rattle.std.specs.Prelude.{◌≡◌, Ok, IfOk, IfErr};
+ghost use Rattle.std.specs.Arc.{arc_value};
+ghost use Rattle.front_parts.specs.Access.Answering.{IsValueOf};
+ghost use Rattle.moka_sync.specs.Making.{NotPassed, ValueUnderLock};
+ghost use Rattle.moka_sync.specs.Spreading.{desk_number};
 ghost use Rattle.sync_desk.specs.Slots.Refusals.{IsTurnRefusal};
 
 use crate::cache::SharedCache;
 use crate::turns::{Passing, passes_nothing};
-use engine_reference::Rules;
-use front_parts::value_made;
+use engine_reference::{Hashes, Rules};
+use front_parts::{HasWays, value_made};
 use front_reference::{CacheError, Made, OwnedKey, Shared, TurnKind};
 use std::alloc::AllocError;
 use std::hash::{BuildHasher, Hash};
@@ -36,6 +38,9 @@ impl<
     ) -> Result<V, CacheError>
         requires exact { (x y : V) → V.is_clone x y → y ≡ x }
         requires callable { M.IsAlwaysCallable make }
+        ensures made { IfOk result (ValueUnderLock ⟦<R as HasWays<K, V, S>>⟧.ways
+            (desk_number (⟦<S as Hashes<K>>⟧.hash) (arc_value self.now.inner).spread key) R.Fault key
+            NotPassed (λ value. M.post make (Ok value))) }
         ensures cause { IfErr result IsTurnRefusal }
     {
         let desk = self.inner.of(&key);
@@ -51,7 +56,7 @@ impl<
             passes_nothing,
             || -> Result<Made<V, Shared<R::Fault>>, AllocError>
                 requires { M.IsAlwaysCallable make }
-                ensures { IfOk result (λ made. suits turns.With made ≡ true) }
+                ensures { IfOk result (IsValueOf (λ value. M.post make (Ok value))) }
             { Ok(Made::Value(make()?)) },
         )?;
         Ok(value_made(made))

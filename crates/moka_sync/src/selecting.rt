@@ -1,17 +1,21 @@
 //! Selectors of an entry, on a handle that others share.
-ghost use Rattle.std.specs.Prelude.{◌≡◌, false, Ok, IfOk, IfErr, ⊤};
+ghost use Rattle.std.specs.Prelude.{◌≡◌, false, None, Some, Ok, IfOk, IfErr, ⊤};
 ghost use Rattle.std.specs.Arc.{arc_value};
+ghost use Rattle.std.specs.Fn.{FnOnceReturnsAt};
+ghost use Rattle.front_parts.specs.Access.Answering.{passes_none};
 ghost use Rattle.front_parts.specs.Access.Entries.{entry_with, seen_entry};
 ghost use Rattle.front_parts.specs.Access.Selecting.{DecidesAlways, with_fault};
+ghost use Rattle.front_reference.specs.declared.data.TurnKind.TheVariants as turns;
 ghost use Rattle.front_reference.specs.declared.errors.CacheError.TheVariants as errors;
-ghost use Rattle.moka_sync.specs.Selecting.{ComputesAsDecided, IsMadeIfFresh, IsOptionMade, IsResultMade, PutsAsMade};
+ghost use Rattle.moka_sync.specs.Selecting.{ComputesAsDecided, IsOptionMade, IsResultMade, IsValueMade, PutsAsMade};
+ghost use Rattle.moka_sync.specs.Spreading.{desk_number};
 ghost use Rattle.sync_desk.specs.Slots.Refusals.{IsEndRefusal, IsShortage, IsTurnRefusal};
 
 use crate::attached::Attached;
 use crate::cache::SharedCache;
 use crate::iterator::Iter;
-use engine_reference::Rules;
-use front_parts::{CompResult, Entry};
+use engine_reference::{Hashes, Rules};
+use front_parts::{CompResult, Entry, HasWays};
 use front_reference::{CacheError, Op};
 use front_state::Single;
 use std::alloc::AllocError;
@@ -56,6 +60,8 @@ impl<
         rt: &H,
     ) -> Result<Attached<K, V, S, R, E, H, C>, AllocError>
         requires exact { (x y : V) → V.is_clone x y → y ≡ x }
+        ensures same { IfOk result
+            (λ made. arc_value made.cache.inner ≡ arc_value self.now.inner) }
     {
         let other = self.clone()?;
         Ok(other.attach(*rt))
@@ -76,6 +82,7 @@ impl<
         key: K,
     ) -> SharedSelector<'a, K, V, S, R, E, H, C>
         requires exact { (x y : V) → V.is_clone x y → y ≡ x }
+        ensures cache { result.cache.now ≡ self.now }
         ensures key { result.key ≡ key }
     {
         SharedSelector {
@@ -96,6 +103,7 @@ impl<
         K: Clone,
         requires exact_key { (x y : K) → K.is_clone x y → y ≡ x }
         requires exact { (x y : V) → V.is_clone x y → y ≡ x }
+        ensures cache { IfOk result (λ s. s.cache.now ≡ self.now) }
         ensures key { IfOk result (λ s. s.key ≡ key.now) }
         ensures cause { IfErr result (λ e. e ≡ errors.OutOfMemory) }
     {
@@ -113,6 +121,7 @@ impl<
     /// ```
     pub fn iter<'a, H: Wait>(&'a self, rt: &'a H) -> Iter<'a, K, V, S, R, E, H, C>
         requires exact { (x y : V) → V.is_clone x y → y ≡ x }
+        ensures { result.cache.now ≡ self.now }
     {
         Iter::new(self, rt)
     }
@@ -133,7 +142,9 @@ impl<
     /// and `Abandoned` if each of 200 turns that the call waited for was given up.
     pub fn or_insert_with<M: FnOnce() -> V + Drop>(self, make: M) -> Result<Entry<K, V>, CacheError>
         requires callable { M.IsAlwaysCallable make }
-        ensures made { IfOk result (IsMadeIfFresh (M.post make)) }
+        ensures made { IfOk result (IsValueMade ⟦<R as HasWays<K, V, S>>⟧.ways
+            (desk_number (⟦<S as Hashes<K>>⟧.hash) (arc_value self.entry.cache.now.inner).spread
+            self.entry.key) R.Fault (Some turns.With) self.entry.key passes_none (M.post make)) }
         ensures shown { IfOk result (λ e. e ≡ entry_with self.entry.key e.value e.is_fresh false) }
         ensures cause { IfErr result IsTurnRefusal }
     {
@@ -152,7 +163,9 @@ impl<
         replace_if: P,
     ) -> Result<Entry<K, V>, CacheError>
         requires callable { P.IsAlwaysCallable replace_if × M.IsAlwaysCallable make }
-        ensures made { IfOk result (IsMadeIfFresh (M.post make)) }
+        ensures made { IfOk result (IsValueMade ⟦<R as HasWays<K, V, S>>⟧.ways
+            (desk_number (⟦<S as Hashes<K>>⟧.hash) (arc_value self.entry.cache.now.inner).spread
+            self.entry.key) R.Fault (Some turns.With) self.entry.key (FnOnceReturnsAt P.FnOnce replace_if) (M.post make)) }
         ensures shown { IfOk result (λ e. e ≡ entry_with self.entry.key e.value e.is_fresh false) }
         ensures cause { IfErr result IsTurnRefusal }
     {
@@ -166,7 +179,9 @@ impl<
     /// Returns the visible value of the key, or else this one, which is then stored. The call waits for no other call that makes a value.
     /// Returns `OutOfMemory` if there is not enough memory, and `UsedUp` if the cache's 64-bit numbers are used up.
     pub fn or_insert(self, value: V) -> Result<Entry<K, V>, CacheError>
-        ensures made { IfOk result (IsMadeIfFresh (λ made. made ≡ value)) }
+        ensures made { IfOk result (IsValueMade ⟦<R as HasWays<K, V, S>>⟧.ways
+            (desk_number (⟦<S as Hashes<K>>⟧.hash) (arc_value self.entry.cache.now.inner).spread
+            self.entry.key) R.Fault None self.entry.key passes_none (λ made. made ≡ value)) }
         ensures shown { IfOk result (λ e. e ≡ entry_with self.entry.key e.value e.is_fresh false) }
         ensures cause { IfErr result IsShortage }
     {
@@ -182,7 +197,9 @@ impl<
     pub fn or_default(self) -> Result<Entry<K, V>, CacheError>
     where
         V: Default,
-        ensures made { IfOk result (IsMadeIfFresh V.is_default) }
+        ensures made { IfOk result (IsValueMade ⟦<R as HasWays<K, V, S>>⟧.ways
+            (desk_number (⟦<S as Hashes<K>>⟧.hash) (arc_value self.entry.cache.now.inner).spread
+            self.entry.key) R.Fault None self.entry.key passes_none V.is_default) }
         ensures shown { IfOk result (λ e. e ≡ entry_with self.entry.key e.value e.is_fresh false) }
         ensures cause { IfErr result IsShortage }
     {
@@ -200,7 +217,9 @@ impl<
         make: M,
     ) -> Result<Option<Entry<K, V>>, CacheError>
         requires callable { M.IsAlwaysCallable make }
-        ensures made { IfOk result (IsOptionMade R.Fault self.entry.key (M.post make)) }
+        ensures made { IfOk result (IsOptionMade ⟦<R as HasWays<K, V, S>>⟧.ways
+            (desk_number (⟦<S as Hashes<K>>⟧.hash) (arc_value self.entry.cache.now.inner).spread
+            self.entry.key) R.Fault self.entry.key (M.post make)) }
         ensures cause { IfErr result IsTurnRefusal }
     {
         let mut attached = self.cache.attached(self.rt)?;
@@ -224,8 +243,9 @@ impl<
         make: M,
     ) -> Result<Result<Entry<K, V>, Arc<R::Fault>>, CacheError>
         requires callable { M.IsAlwaysCallable make }
-        ensures made { IfOk result
-            (λ r. IsResultMade self.entry.key (M.post make) (with_fault arc_value r)) }
+        ensures made { IfOk result (λ r. IsResultMade ⟦<R as HasWays<K, V, S>>⟧.ways
+            (desk_number (⟦<S as Hashes<K>>⟧.hash) (arc_value self.entry.cache.now.inner).spread
+            self.entry.key) self.entry.key (M.post make) (with_fault arc_value r)) }
         ensures cause { IfErr result IsTurnRefusal }
     {
         let mut attached = self.cache.attached(self.rt)?;
@@ -246,7 +266,9 @@ impl<
         decide: D,
     ) -> Result<Result<CompResult<K, V>, X>, CacheError>
         requires callable { D.IsAlwaysCallable decide }
-        ensures does { IfOk result (ComputesAsDecided self.entry.key
+        ensures does { IfOk result (ComputesAsDecided ⟦<R as HasWays<K, V, S>>⟧.ways
+            (desk_number (⟦<S as Hashes<K>>⟧.hash) (arc_value self.entry.cache.now.inner).spread
+            self.entry.key) self.entry.key
             (λ seen decided. D.post decide (seen_entry self.entry.key seen) decided)) }
         ensures cause { IfErr result IsEndRefusal }
     {
@@ -265,7 +287,9 @@ impl<
         decide: D,
     ) -> Result<CompResult<K, V>, CacheError>
         requires callable { D.IsAlwaysCallable decide }
-        ensures does { IfOk result (λ done. ComputesAsDecided {E = ⊤} self.entry.key (DecidesAlways
+        ensures does { IfOk result (λ done. ComputesAsDecided ⟦<R as HasWays<K, V, S>>⟧.ways
+            (desk_number (⟦<S as Hashes<K>>⟧.hash) (arc_value self.entry.cache.now.inner).spread
+            self.entry.key) {E = ⊤} self.entry.key (DecidesAlways
             (λ seen does. D.post decide (seen_entry self.entry.key seen) does)) (Ok done)) }
         ensures cause { IfErr result IsEndRefusal }
     {
@@ -283,7 +307,9 @@ impl<
         make: M,
     ) -> Result<Entry<K, V>, CacheError>
         requires callable { M.IsAlwaysCallable make }
-        ensures puts { IfOk result (PutsAsMade self.entry.key
+        ensures puts { IfOk result (PutsAsMade ⟦<R as HasWays<K, V, S>>⟧.ways
+            (desk_number (⟦<S as Hashes<K>>⟧.hash) (arc_value self.entry.cache.now.inner).spread
+            self.entry.key) self.entry.key
             (λ seen value. M.post make (seen_entry self.entry.key seen) value)) }
         ensures cause { IfErr result IsEndRefusal }
     {

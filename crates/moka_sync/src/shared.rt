@@ -120,7 +120,7 @@ impl<
 
     /// A guard of this desk. (No clause tells what a lock guards, so the desk's number does.)
     #[inline]
-    fn own<'a, H: Wait>(
+    pub(crate) fn own<'a, H: Wait>(
         &self,
         rt: &H,
         guard: MutexGuard<'a, Desk<K, V, S, R, E::Generator, C>>,

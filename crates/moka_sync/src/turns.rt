@@ -1,13 +1,19 @@
 //! Turns: a leader ends its turn, and a waiting caller sees how it ended.
-ghost use Rattle.std.specs.Prelude.{◌≡◌, true, Ok, IfOk, IfErr};
+ghost use Rattle.std.specs.Prelude.{◌≡◌, Bool, true, false, Ok, IfOk, IfErr, IfSome, OnOk};
+ghost use Rattle.std.specs.Fn.{FnOnceReturnsAt, FnReturnsAt};
+ghost use Rattle.std.specs.Sync.Mutex.{mutex_guard_value};
 ghost use Rattle.front_reference.specs.declared.data.Made.{Made};
-ghost use Rattle.moka_sync.specs.Turning.{HasAnswer, HasReceived, IsAnswer, MayMake};
+ghost use Rattle.moka_sync.specs.Holding.{DoneUnderLock};
+ghost use Rattle.moka_sync.specs.Making.{BegunUnderLock, DidCoalesce, DidFinish, DidGiveUp, HasReceived, MadeUnderLock, MayPass, is_never};
+ghost use Rattle.moka_sync.specs.Turning.{MayMake};
+ghost use Rattle.moka_sync.specs.declared.turns.Passing.TheVariants as asks;
 ghost use Rattle.sync_desk.specs.Coalescing.{IsMadeOrFound};
 ghost use Rattle.sync_desk.specs.Slots.Endings.{suits};
 ghost use Rattle.sync_desk.specs.Slots.Refusals.{IsShortage, IsEndRefusal, IsTurnRefusal};
 
 use crate::shared::SharedDesk;
 use engine_reference::Rules;
+use front_parts::HasWays;
 use front_reference::{CacheError, Made, Shared, TurnKind};
 use std::alloc::AllocError;
 use std::hash::{BuildHasher, Hash};
@@ -37,8 +43,17 @@ pub(crate) enum Passing {
 }
 
 impl Passing {
+    /// Whether no value is passed over.
+    fn is_never(&self) -> bool
+        ensures { result ≡ is_never self.now }
+    {
+        matches!(self, Passing::Never)
+    }
+
     /// What `replace_if` returned for the visible value, if the last write of its key was at this step.
-    fn said(&self, written: u64) -> Option<bool> {
+    fn said(&self, written: u64) -> Option<bool>
+        ensures { IfSome result (λ said. self.now ≡ asks.Said written said) }
+    {
         match self {
             Passing::Said(step, is_passed_over) if *step == written => Some(*is_passed_over),
             _ => None,
@@ -47,7 +62,9 @@ impl Passing {
 }
 
 /// Passes no value over.
-pub(crate) fn passes_nothing<V>(_seen: &V) -> bool {
+pub(crate) fn passes_nothing<V>(_seen: &V) -> bool
+    ensures { result ≡ false }
+{
     false
 }
 
@@ -72,7 +89,9 @@ impl<
 > Lead<'a, K, V, S, R, E, C> {
     /// A turn that began.
     pub(crate) fn new(shared: &'a SharedDesk<K, V, S, R, E, C>, kind: TurnKind, number: u64) -> Self
-        ensures { result.kind ≡ kind }
+        ensures kind { result.kind ≡ kind }
+        ensures number { result.number ≡ number }
+        ensures lock { result.shared.now.number ≡ shared.now.number }
     {
         Lead {
             shared,
@@ -84,7 +103,9 @@ impl<
     /// Ends the turn with what was made, or gives it up if that is refused.
     fn finish(self, rt: &impl Wait, made: Made<V, Shared<R::Fault>>) -> Result<(), CacheError>
         requires { suits self.kind made ≡ true }
-        ensures { IfErr result IsEndRefusal }
+        ensures did { OnOk result (DoneUnderLock self.entry.shared.now.number
+            (DidFinish ⟦<R as HasWays<K, V, S>>⟧.ways self.entry.number made)) }
+        ensures cause { IfErr result IsEndRefusal }
     {
         let Lead {
             shared,
@@ -100,7 +121,10 @@ impl<
     }
 
     /// Gives the turn up.
-    pub(crate) fn abandon(self, rt: &impl Wait) {
+    pub(crate) fn abandon(self, rt: &impl Wait)
+        ensures { DoneUnderLock self.entry.shared.now.number
+            (DidGiveUp {K = K} {V = V} {P = R.Predicate} {S = S} {R = R} self.entry.number) }
+    {
         let Lead {
             shared,
             kind,
@@ -119,7 +143,10 @@ impl<
         rt: &impl Wait,
         made: Made<V, Shared<R::Fault>>,
     ) -> Result<Made<V, Shared<R::Fault>>, CacheError>
-        requires { suits self.kind made ≡ true }
+        requires suitable { suits self.kind made ≡ true }
+        requires exact { (x y : V) → V.is_clone x y → y ≡ x }
+        ensures did { IfOk result (λ answer. DoneUnderLock self.entry.shared.now.number
+            (DidFinish ⟦<R as HasWays<K, V, S>>⟧.ways self.entry.number answer)) }
         ensures made { IfOk result (λ answer. answer ≡ made) }
         ensures cause { IfErr result IsEndRefusal }
     {
@@ -135,51 +162,32 @@ impl<
         }
     }
 
-    /// Makes what the turn is for, without the lock, ends the turn with it, and returns it.
+    /// Makes what the turn is for, without the lock, ends the turn with it, and returns it as fresh.
     fn make<H: Wait, M: FnOnce() -> Result<Made<V, Shared<R::Fault>>, AllocError> + Drop>(
         self,
         rt: &H,
         make: M,
-    ) -> Result<Made<V, Shared<R::Fault>>, CacheError>
+    ) -> Result<(Made<V, Shared<R::Fault>>, bool), CacheError>
+        requires exact { (x y : V) → V.is_clone x y → y ≡ x }
         requires callable { M.IsAlwaysCallable make }
         requires suitable { MayMake self.kind (M.post make) }
-        ensures made { IfOk result (λ answer. M.post make (Ok answer)) }
-        ensures suits { IfOk result (λ answer. suits self.entry.kind answer ≡ true) }
-        ensures cause { IfErr result IsEndRefusal }
+        ensures did { IfOk result (λ a. DoneUnderLock self.entry.shared.now.number
+            (DidFinish ⟦<R as HasWays<K, V, S>>⟧.ways self.entry.number a.0)) }
+        ensures made { IfOk result (λ a. M.post make (Ok a.0)) }
+        ensures suits { IfOk result (λ a. suits self.entry.kind a.0 ≡ true) }
+        ensures fresh { IfOk result (λ a. a.1 ≡ true) }
+        ensures cause { IfErr result IsTurnRefusal }
     {
         match make() {
-            Ok(made) => self.finish_with(rt, made),
+            Ok(made) => match self.finish_with(rt, made) {
+                Ok(kept) => Ok((kept, true)),
+                Err(refused) => Err(refused),
+            },
             Err(_) => {
                 self.abandon(rt);
                 Err(CacheError::OutOfMemory)
             }
         }
-    }
-}
-
-/// Makes what a turn is for, and returns it as fresh.
-fn make_fresh<
-    K: Eq + Hash + Drop,
-    V: Clone + Drop,
-    S: BuildHasher + Drop,
-    R: Rules<K, V> + Drop,
-    E: Env + Drop,
-    C: Drop,
-    H: Wait,
-    M: FnOnce() -> Result<Made<V, Shared<R::Fault>>, AllocError> + Drop,
->(
-    lead: Lead<'_, K, V, S, R, E, C>,
-    rt: &H,
-    make: M,
-) -> Result<(Made<V, Shared<R::Fault>>, bool), CacheError>
-    requires callable { M.IsAlwaysCallable make }
-    requires suitable { MayMake lead.kind (M.post make) }
-    ensures answer { IfOk result (λ a. IsAnswer lead.entry.kind (M.post make) a.0 a.1) }
-    ensures cause { IfErr result IsTurnRefusal }
-{
-    match lead.make(rt, make) {
-        Ok(made) => Ok((made, true)),
-        Err(refused) => Err(refused),
     }
 }
 
@@ -199,14 +207,16 @@ impl<
         kind: TurnKind,
         number: u64,
     ) -> Result<Option<Made<V, Shared<R::Fault>>>, CacheError>
-        ensures fits { IfOk result (HasReceived kind) }
+        requires own { (mutex_guard_value guard).number ≡ self.now.number }
+        requires exact { (x y : V) → V.is_clone x y → y ≡ x }
+        ensures told { IfOk result (HasReceived self.now.number kind number) }
         ensures cause { IfErr result IsShortage }
     {
         let mut guard = guard;
         for _ in rt.forever() {
             let desk = &mut *guard;
             match desk.look(kind, number)? {
-                Ending::Underway => guard = self.changed.wait(rt, guard),
+                Ending::Underway => guard = self.own(rt, self.changed.wait(rt, guard)),
                 Ending::Done(made) => return Ok(Some(made)),
                 Ending::GivenUp => return Ok(None),
             }
@@ -225,7 +235,9 @@ impl<
     ) -> Result<MakingStart<A, V, Shared<R::Fault>>, CacheError>
         requires becomes { (a : A) → A.can_become a }
         requires exact { (x y : V) → V.is_clone x y → y ≡ x }
-        ensures answers { IfOk result (HasAnswer kind) }
+        requires own { (mutex_guard_value guard).number ≡ self.now.number }
+        ensures begun { IfOk result (BegunUnderLock ⟦<R as HasWays<K, V, S>>⟧.ways
+            self.now.number kind (A.named_key asked) (λ passed. passed ≡ is_passed_over) asked) }
         ensures cause { IfErr result IsShortage }
     {
         let mut guard = guard;
@@ -251,9 +263,15 @@ impl<
     ) -> Result<(MutexGuard<'_, Desk<K, V, S, R, E::Generator, C>>, bool), CacheError>
         requires exact { (x y : V) → V.is_clone x y → y ≡ x }
         requires callable { P.IsAlwaysCallable replace_if.now }
+        ensures own { IfOk result (λ known. (mutex_guard_value known.0).number ≡ self.now.number) }
+        ensures may { IfOk result (λ known.
+            MayPass passing.old (FnReturnsAt P.Fn replace_if.now) known.1) }
+        ensures still { (passed : Bool)
+            → MayPass passing.new (FnReturnsAt P.Fn replace_if.now) passed
+            → MayPass passing.old (FnReturnsAt P.Fn replace_if.now) passed }
         ensures cause { IfErr result IsShortage }
     {
-        if matches!(passing, Passing::Never) {
+        if passing.is_never() {
             return Ok((self.lock(rt), false));
         }
         for _ in rt.forever() {
@@ -297,7 +315,9 @@ impl<
         requires exact { (x y : V) → V.is_clone x y → y ≡ x }
         requires callable { P.IsAlwaysCallable replace_if × M.IsAlwaysCallable make }
         requires suitable { MayMake kind (M.post make) }
-        ensures answer { IfOk result (λ a. IsAnswer kind (M.post make) a.0 a.1) }
+        ensures answer { IfOk result (λ a. MadeUnderLock ⟦<R as HasWays<K, V, S>>⟧.ways
+            self.now.number kind (A.named_key asked)
+            (MayPass passing (FnReturnsAt P.Fn replace_if)) (λ made. M.post make (Ok made)) a.0 a.1) }
         ensures cause { IfErr result IsTurnRefusal }
     {
         let mut asked = asked;
@@ -315,7 +335,7 @@ impl<
             match self.take_turn(rt, guard, kind, asked, is_passed_over) {
                 Ok(MakingStart::Answered(made)) => return Ok((made, false)),
                 Ok(MakingStart::Led(number)) => {
-                    return make_fresh(Lead::new(self, kind, number), rt, make);
+                    return Lead::new(self, kind, number).make(rt, make);
                 }
                 Ok(MakingStart::GivenUp(again)) => asked = again,
                 Err(refused) => return Err(refused),
@@ -333,6 +353,9 @@ impl<
     ) -> Result<Passing, CacheError>
         requires exact { (x y : V) → V.is_clone x y → y ≡ x }
         requires callable { P.IsAlwaysCallable replace_if }
+        ensures may { IfOk result (λ passing. (passed : Bool)
+            → MayPass passing (λ (_ : V) said. said ≡ false) passed
+            → MayPass asks.Unasked (FnOnceReturnsAt P.FnOnce replace_if) passed) }
         ensures cause { IfErr result IsShortage }
     {
         let mut guard = self.lock(rt);
@@ -366,7 +389,10 @@ impl<
         requires exact { (x y : V) → V.is_clone x y → y ≡ x }
         requires callable { P.IsAlwaysCallable replace_if × M.IsAlwaysCallable make }
         requires suitable { MayMake kind (M.post make) }
-        ensures answer { IfOk result (λ a. IsAnswer kind (M.post make) a.0 a.1) }
+        ensures answer { IfOk result (λ a. MadeUnderLock ⟦<R as HasWays<K, V, S>>⟧.ways
+            self.now.number kind (A.named_key asked)
+            (MayPass asks.Unasked (FnOnceReturnsAt P.FnOnce replace_if))
+            (λ made. M.post make (Ok made)) a.0 a.1) }
         ensures cause { IfErr result IsTurnRefusal }
     {
         match self.ask_once(rt, asked.key(), replace_if) {
@@ -391,6 +417,9 @@ impl<
     ) -> Result<(Made<V, Shared<R::Fault>>, bool), CacheError>
         requires exact { (x y : V) → V.is_clone x y → y ≡ x }
         requires callable { P.IsAlwaysCallable replace_if × M.IsAlwaysCallable make }
+        ensures did { IfOk result (λ a. DoneUnderLock self.now.number
+            (DidCoalesce ⟦<R as HasWays<K, V, S>>⟧.ways key.now
+            (FnOnceReturnsAt P.FnOnce replace_if) (M.post make) a)) }
         ensures answer { IfOk result (λ a. IsMadeOrFound (λ made. M.post make (Ok made)) a.0 a.1) }
         ensures cause { IfErr result IsShortage }
     {

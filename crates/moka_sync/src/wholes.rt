@@ -1,7 +1,10 @@
 //! Calls on all segments: predicates, notices, maintenance by another name.
-ghost use Rattle.std.specs.Prelude.{◌≡◌, ℕ, Some, IfErr, IfSome};
+ghost use Rattle.std.specs.Prelude.{◌≡◌, ◌≤◌, None, IfErr, IfSome};
+ghost use Rattle.std.specs.Arc.{arc_value};
 ghost use Rattle.front_reference.specs.declared.errors.CacheError.TheVariants as errors;
-ghost use Rattle.moka_sync.specs.Holding.{DidCover, DoneUnderLock, DidTell};
+ghost use Rattle.moka_sync.specs.Holding.{DidCover, DidTell, DoneUnderEach, DoneUnderLock};
+ghost use Rattle.moka_sync.specs.Spreading.{desk_count};
+ghost use Rattle.moka_sync.specs.Telling.{AddsTold, DoneUnderRange, WasTold};
 ghost use Rattle.sync_desk.specs.Slots.Refusals.{IsCoverRefusal};
 
 use crate::cache::SharedCache;
@@ -100,7 +103,10 @@ fn take_from<
     R: Rules<K, V> + Drop,
     G: Rng + Drop,
     C: Drop,
->(desk: &mut Desk<K, V, S, R, G, C>, notices: &mut Vec<Notice<Shared<K>, V>>) {
+>(desk: &mut Desk<K, V, S, R, G, C>, notices: &mut Vec<Notice<Shared<K>, V>>)
+    ensures { AddsTold R.Predicate S R notices.old.items
+        notices.new.items }
+{
     while notices.len() < notices.capacity() {
         match desk.next_notice() {
             Some(notice) => notices.push_reserved(notice),
@@ -117,23 +123,15 @@ impl<
     E: Env + Drop,
     C: Drop,
 > SharedCache<K, V, S, R, E, C> {
-    /// Takes the oldest notice of the first segment that has one: a key, its value, and why it left. Returns `None` if no segment has one.
-    /// A cache has notices only if its builder called `report_removals`. Notices are kept until they are taken. With shards, the search
-    /// begins where it found one last.
-    /// ```
-    /// if let Some(notice) = cache.next_notice(&rt) {
-    ///     log(&notice.key, notice.cause);
-    /// }
-    /// ```
-    pub fn next_notice(&self, rt: &impl Wait) -> Option<Notice<Shared<K>, V>>
-        ensures { IfSome result (λ notice. (number : ℕ) × DoneUnderLock number
-            (DidTell {P = R.Predicate} {S = S} {R = R} (Some notice))) }
+    /// Takes the oldest notice of the first desk that has one, of those from one number up to another.
+    fn next_between(&self, rt: &impl Wait, first: usize, end: usize) -> Option<Notice<Shared<K>, V>>
+        requires { end ≤ desk_count (arc_value self.now.inner).spread }
+        ensures told { IfSome result (WasTold R.Predicate S R) }
+        ensures none { result ≡ None → DoneUnderRange first end
+            (DidTell {K = K} {V = V} {P = R.Predicate} {S = S} {R = R} None) }
     {
         let inner = &*self.inner;
-        let count = inner.desks.len();
-        let first = inner.ask_next();
-        for step in 0..count {
-            let number = first.wrapping_add(step) % count;
+        for number in first..end {
             let mut guard = inner.get(number).lock_untimed(rt);
             let desk = &mut *guard;
             if let Some(notice) = desk.next_notice() {
@@ -145,27 +143,67 @@ impl<
         None
     }
 
+    /// Takes the oldest notice of the first segment that has one: a key, its value, and why it left. Returns `None` if no segment has one.
+    /// A cache has notices only if its builder called `report_removals`. Notices are kept until they are taken. With shards, the search
+    /// begins where it found one last.
+    /// ```
+    /// if let Some(notice) = cache.next_notice(&rt) {
+    ///     log(&notice.key, notice.cause);
+    /// }
+    /// ```
+    pub fn next_notice(&self, rt: &impl Wait) -> Option<Notice<Shared<K>, V>>
+        ensures told { IfSome result (WasTold R.Predicate S R) }
+        ensures none { result ≡ None → DoneUnderEach
+            (desk_count (arc_value self.now.inner).spread)
+            (DidTell {K = K} {V = V} {P = R.Predicate} {S = S} {R = R} None) }
+    {
+        let count = self.inner.desks.len();
+        let first = self.inner.ask_next();
+        match self.next_between(rt, first, count) {
+            Some(notice) => Some(notice),
+            None => self.next_between(rt, 0, first),
+        }
+    }
+
+    /// Adds the notices of the desks from one number up to another to a vector, as many as it has room for.
+    fn take_between(
+        &self,
+        rt: &impl Wait,
+        first: usize,
+        end: usize,
+        notices: &mut Vec<Notice<Shared<K>, V>>,
+    )
+        requires { end ≤ desk_count (arc_value self.now.inner).spread }
+        ensures { AddsTold R.Predicate S R notices.old.items
+            notices.new.items }
+    {
+        let inner = &*self.inner;
+        for number in first..end {
+            if notices.len() == notices.capacity() {
+                return;
+            }
+            let mut guard = inner.get(number).lock_untimed(rt);
+            let desk = &mut *guard;
+            take_from(desk, notices);
+        }
+    }
+
     /// Adds notices to a vector, as many as it has room for, the oldest of a segment first. The call takes each lock at most once, and
     /// allocates nothing. With shards, each call begins one shard further than the one before it.
     /// ```
     /// let mut notices = Vec::with_capacity(alloc, 1000)?;
     /// cache.take_notices(&rt, &mut notices);
     /// ```
-    pub fn take_notices(&self, rt: &impl Wait, notices: &mut Vec<Notice<Shared<K>, V>>) {
-        let inner = &*self.inner;
-        let count = inner.desks.len();
-        let first = inner.ask_next();
-        inner
+    pub fn take_notices(&self, rt: &impl Wait, notices: &mut Vec<Notice<Shared<K>, V>>)
+        ensures { AddsTold R.Predicate S R notices.old.items
+            notices.new.items }
+    {
+        let count = self.inner.desks.len();
+        let first = self.inner.ask_next();
+        self.inner
             .next_asked
             .store(first.wrapping_add(1), Ordering::SeqCst);
-        for step in 0..count {
-            if notices.len() == notices.capacity() {
-                return;
-            }
-            let number = first.wrapping_add(step) % count;
-            let mut guard = inner.desks[number].lock_untimed(rt);
-            let desk = &mut *guard;
-            take_from(desk, notices);
-        }
+        self.take_between(rt, first, count, notices);
+        self.take_between(rt, 0, first, notices);
     }
 }

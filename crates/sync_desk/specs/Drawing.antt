@@ -83,6 +83,11 @@ state_start (Found value) = state.Found value
 state_start (Wait number asked) = state.Wait number
 state_start (Lead number) = state.Lead number
 
+-- a call that waits is handed back the name of its key
+abbrev pub KeepsName : {A V : Type 0} → A → Start A V → Type 0
+KeepsName asked (Wait number again) = again ≡ asked
+KeepsName asked other = Unit {0}
+
 -- the same of a compute call
 abbrev pub compute_start : {V : Type 0} → ComputeStart V → TurnStart V
 compute_start (computing.Wait number) = state.Wait number
@@ -167,6 +172,12 @@ module _ {V F : Type 0} where
   HasStarted kind hash old new (state.Wait number) = ChangesTurnAt kind number joined_by_one old new
   HasStarted kind hash old new (state.Lead number) =
       IsPutAt number (Some (fresh_turn kind hash)) old new
+
+  -- the same of a call that names its key, whose name a caller that waits keeps
+  abbrev pub StartsTurn : {A : Type 0} → TurnKind → (hash : ℕ) → A → (old new : SlotsByNumber V F)
+      → Start A V → Type 0
+  StartsTurn kind hash asked old new start =
+      HasStarted kind hash old new (state_start start) × KeepsName asked start
 
   -- what those that wait are told: what was made, if the turn ended with it
   abbrev pub told_at_end : {E : Type 0} → Made V F → Result (Unit {0}) E → Ending V F

@@ -11,7 +11,7 @@ ghost use Rattle.front_reference.specs.declared.data.TurnKind.TheVariants as kin
 ghost use Rattle.front_state.specs.Beginning.{StartsBy};
 ghost use Rattle.front_state.specs.Calls.{IsCauseIn, hash_in};
 ghost use Rattle.sync_desk.specs.Coalescing.{IsMadeOrFound};
-ghost use Rattle.sync_desk.specs.Drawing.{BeginsAsDrawn, CoalescesAsDrawn, ComputesAsDrawn, EndsUnstarted, FinishesAsDrawn, GivesUp, HasStarted, LacksNumbers, LacksSteps, LooksUpAsDrawn, TakesOutAsDrawn, compute_start, state_start, told_at_end};
+ghost use Rattle.sync_desk.specs.Drawing.{BeginsAsDrawn, CoalescesAsDrawn, ComputesAsDrawn, EndsUnstarted, FinishesAsDrawn, GivesUp, HasStarted, LacksNumbers, LacksSteps, LooksUpAsDrawn, StartsTurn, TakesOutAsDrawn, compute_start, state_start, told_at_end};
 ghost use Rattle.sync_desk.specs.Slots.Endings.{IsExact, fits, suits};
 ghost use Rattle.sync_desk.specs.Slots.Refusals.{IsEndRefusal, IsEndShortOf, IsShortOf, IsShortage};
 ghost use Rattle.sync_desk.specs.Slots.Waiting.{ChangesTurnAt, SlotsStay, changed, ended_with, turn_hash, if_of, seen_with, turn_by_number, told_of};
@@ -59,7 +59,7 @@ impl<
     /// under way, for which the caller waits from now on; or a new turn. A visible value for which `replace_if` returns true counts as
     /// none; `replace_if` is called here, and so under the lock. The key is made only if a turn begins, and waiting allocates nothing.
     /// Returns `OutOfMemory` if there is not enough memory, and `UsedUp` if the 64-bit numbers of calls or turns, or of callers that wait
-    /// for a turn, are used up; then neither the cache nor the turns have changed.
+    /// for a turn, are used up; then neither the cache nor the turns have changed. A caller that waits gets the name of its key back.
     pub fn begin<A: Asked<K>, P: FnOnce(&V) -> bool + Drop>(
         &mut self,
         kind: TurnKind,
@@ -73,9 +73,9 @@ impl<
             (λ start. BeginsAsDrawn ⟦<R as HasWays<K, V, S>>⟧.ways self.old.moment kind
             (A.named_key asked) (FnOnceReturnsAt P.FnOnce replace_if)
             self.old.state self.new.state (state_start start)) }
-        ensures turns { IfOk result (λ start. HasStarted kind
-            (hash_in ⟦<R as HasWays<K, V, S>>⟧.ways self.old.state (A.named_key asked))
-            self.old.slots.slots self.new.slots.slots (state_start start)) }
+        ensures turns { IfOk result (StartsTurn kind
+            (hash_in ⟦<R as HasWays<K, V, S>>⟧.ways self.old.state (A.named_key asked)) asked
+            self.old.slots.slots self.new.slots.slots) }
         ensures err { OnErr result ((self.new.state ≡ self.old.state)
             × SlotsStay self.old.slots.slots self.new.slots.slots) }
         ensures rest { self.new
@@ -115,8 +115,8 @@ impl<
         requires follows { ComesAfter at.now at.step self.old.state }
         ensures starts { IfOk result (λ start. StartsBy ⟦<R as HasWays<K, V, S>>⟧.ways kind
             (A.named_key asked) hash at ignored self.old.state self.new.state (state_start start)) }
-        ensures turns { IfOk result (λ start. HasStarted kind hash
-            self.old.slots.slots self.new.slots.slots (state_start start)) }
+        ensures turns { IfOk result
+            (StartsTurn kind hash asked self.old.slots.slots self.new.slots.slots) }
         ensures err { OnErr result ((self.new.state ≡ self.old.state)
             × SlotsStay self.old.slots.slots self.new.slots.slots) }
         ensures rest { self.new
@@ -145,8 +145,8 @@ impl<
         requires follows { ComesAfter at.now at.step self.old.state }
         ensures starts { IfOk result (λ start. StartsBy ⟦<R as HasWays<K, V, S>>⟧.ways kind
             (A.named_key asked) hash at ignored self.old.state self.new.state (state_start start)) }
-        ensures turns { IfOk result (λ start. HasStarted kind hash
-            self.old.slots.slots self.new.slots.slots (state_start start)) }
+        ensures turns { IfOk result
+            (StartsTurn kind hash asked self.old.slots.slots self.new.slots.slots) }
         ensures err { OnErr result ((self.new.state ≡ self.old.state)
             × SlotsStay self.old.slots.slots self.new.slots.slots) }
         ensures rest { self.new
@@ -183,8 +183,8 @@ impl<
         requires follows { ComesAfter at.now at.step self.old.state }
         ensures starts { IfOk result (λ start. StartsBy ⟦<R as HasWays<K, V, S>>⟧.ways kind
             (A.named_key asked) hash at ignored self.old.state self.new.state (state_start start)) }
-        ensures turns { IfOk result (λ start. HasStarted kind hash
-            self.old.slots.slots self.new.slots.slots (state_start start)) }
+        ensures turns { IfOk result
+            (StartsTurn kind hash asked self.old.slots.slots self.new.slots.slots) }
         ensures err { OnErr result ((self.new.state ≡ self.old.state)
             × SlotsStay self.old.slots.slots self.new.slots.slots) }
         ensures rest { self.new

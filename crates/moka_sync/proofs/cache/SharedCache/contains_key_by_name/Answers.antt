@@ -6,8 +6,8 @@ returns g c =
     let d = c.deref_mut-desk.result.now in
     let e = c.contains_key_by_name.new.self in
     record {
-      old = record { number = d.number; state = d.state; writes = d.writes.steps; moment = d.moment };
-      new = record { number = e.number; state = e.state; writes = e.writes.steps; moment = e.moment };
+      old = record { number = d.number; state = d.state; writes = d.writes.steps; moment = d.moment; stream = g.E.Generator.Rng.stream d.generator };
+      new = record { number = e.number; state = e.state; writes = e.writes.steps; moment = e.moment; stream = g.E.Generator.Rng.stream e.generator };
       numbered = let a = ap (λ desk. desk.number) c.deref_mut-desk.ensures.value in cc (a, c.lock_named-guard.ensures, c.deref.ensures);
-      fact = record { seen = c.contains_key_by_name.ensures.found.0; found = c.contains_key_by_name.ensures.found.1; told = c.contains_key_by_name.ensures.found.2; same = ap (λ desk. record { number = desk.number; state = desk.state; writes = desk.writes.steps; moment = desk.moment }) c.contains_key_by_name.ensures.same };
+      fact = record { seen = c.contains_key_by_name.ensures.found.0; found = c.contains_key_by_name.ensures.found.1; told = c.contains_key_by_name.ensures.found.2; same = ap (λ desk. record { number = desk.number; state = desk.state; writes = desk.writes.steps; moment = desk.moment; stream = g.E.Generator.Rng.stream desk.generator }) c.contains_key_by_name.ensures.same };
     }

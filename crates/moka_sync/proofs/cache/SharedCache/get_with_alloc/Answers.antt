@@ -1,5 +1,16 @@
+use Rattle.std.proofs.Common.{rules, subst}
+use Rattle.front_parts.specs.Places.Calls.{ways_by}
+use Rattle.front_reference.specs.declared.data.Made.TheVariants.{Value}
+use Rattle.front_reference.specs.declared.data.TurnKind.TheVariants.{With}
+use Rattle.moka_sync.proofs.Resting.{given, given-at}
 use Rattle.moka_sync.proofs.Suiting.{makes-value}
 use Rattle.moka_sync.proofs.cache.SharedCache.get_with_alloc.Goals as goal
 
 pub value_made-requires : goal.value_made-requires
 value_made-requires g c = makes-value c.in_ok-made.made c.in_ok-made.ensures.answer.suits
+
+pub returns-clause-made : goal.returns-clause-made
+returns-clause-made g c =
+    let ways = ways_by g.R.Rules g.K.PartialEq.eq g.K.Hash.hash_input g.S.BuildHasher g.S.Hasher.Hasher in
+    let number = c.of-desk.ensures.number in
+    given-at ways (cc (number, c.deref.ensures)) With c.args.key _ _ (given ways c.of-desk.result.now.number With c.args.key _ c.in_ok-made.made (Value c.value_made.result) _ c.value_made.ensures (λ made makes. search rules) c.in_ok-made.ensures.answer)

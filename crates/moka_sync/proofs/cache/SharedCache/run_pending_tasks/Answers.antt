@@ -13,10 +13,10 @@ loop-number-preserved g c =
     let d = c.deref_mut-desk.result.now in
     let e = c.run_pending_tasks.new.self in
     done-more c.loop-number.number (DidRun g.R.Rules.answers) c.loop-number.invariant (record {
-      old = record { number = d.number; state = d.state; writes = d.writes.steps; moment = d.moment };
-      new = record { number = e.number; state = e.state; writes = e.writes.steps; moment = e.moment };
+      old = record { number = d.number; state = d.state; writes = d.writes.steps; moment = d.moment; stream = g.E.Generator.Rng.stream d.generator };
+      new = record { number = e.number; state = e.state; writes = e.writes.steps; moment = e.moment; stream = g.E.Generator.Rng.stream e.generator };
       numbered = ap (λ desk. desk.number) c.deref_mut-desk.ensures.value ∙ c.lock_now-guard.ensures ∙ c.get.ensures.number;
-      fact = record { runs = c.in_ok-run_pending_tasks.ensures.runs; rest = ap (λ desk. record { number = desk.number; state = desk.state; writes = desk.writes.steps; moment = desk.moment }) c.run_pending_tasks.ensures.rest };
+      fact = record { runs = c.in_ok-run_pending_tasks.ensures.runs; rest = ap (λ desk. record { number = desk.number; state = desk.state; writes = desk.writes.steps; moment = desk.moment; stream = g.E.Generator.Rng.stream desk.generator }) c.run_pending_tasks.ensures.rest };
     })
 
 pub returns-clause-runs : goal.returns-clause-runs

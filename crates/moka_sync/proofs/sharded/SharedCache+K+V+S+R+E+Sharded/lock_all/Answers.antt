@@ -1,7 +1,7 @@
 use Rattle.std.proofs.Common.{◌∙◌, ap, arith, sym}
 use Rattle.std.specs.Prelude.{slice_get}
 use Rattle.moka_sync.proofs.Numbered.{numbered-more, numbered-seen}
-use Rattle.moka_sync.specs.Holding.{Guarded}
+use Rattle.moka_sync.specs.Holding.{GuardedShard}
 use Rattle.moka_sync.proofs.sharded.«SharedCache+K+V+S+R+E+Sharded».lock_all.Goals as goal
 
 pub loop-number-preserved : goal.loop-number-preserved
@@ -16,4 +16,4 @@ loop-number-preserved g c =
 
 pub returns-clause-numbered : goal.returns-clause-numbered
 returns-clause-numbered g c = λ place d at.
-    numbered-seen _ (λ (desk : Guarded _ _ _ _ _). desk.number) c.loop-number.guards.items c.loop-number.invariant.numbered place d (ap (λ ds. slice_get ds place) (sym c.new.ensures) ∙ at)
+    numbered-seen _ (λ (desk : GuardedShard _ _ _ _ _). desk.number) c.loop-number.guards.items c.loop-number.invariant.numbered place d (ap (λ ds. slice_get ds place) (sym c.new.ensures) ∙ at)

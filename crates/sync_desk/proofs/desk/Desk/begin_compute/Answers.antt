@@ -23,6 +23,6 @@ returns-in-Ok-Lead-clause-err g c =
     let new = c.show_visible.new.self in
     let hash = hash_in ways old.state key in
     let starts = subst (λ start. StartsAsDrawn ways old.moment key old.state mid.state (state_start start)) c.in-Ok-Lead.field-0-is c.in-Ok-Lead.ensures.begins in
-    let opens = subst (λ start. HasStarted kinds.Compute hash old.slots.slots mid.slots.slots (state_start start)) c.in-Ok-Lead.field-0-is c.in-Ok-Lead.ensures.turns in
+    let opens = subst (λ start. HasStarted kinds.Compute hash old.slots.slots mid.slots.slots (state_start start)) c.in-Ok-Lead.field-0-is c.in-Ok-Lead.ensures.turns.0 in
     let same = ap (λ desk. desk.moment) c.begin.ensures.rest in
     unled ways old.moment mid.moment same key c.in-Ok-Lead.number old.state mid.state new.state starts hash old.slots.slots mid.slots.slots new.slots.slots c.show_visible.result opens c.show_visible.ensures.gives_up c.show_visible.ensures.told

@@ -1,0 +1,13 @@
+use Rattle.std.proofs.Common.{Some}
+use Rattle.front_reference.specs.declared.data.TurnKind.TheVariants.{Optionally}
+use Rattle.moka_sync.proofs.Keyed.{option-of_key}
+use Rattle.moka_sync.proofs.Resting.{gives-of}
+use Rattle.front_parts.specs.Places.Calls.{ways_by}
+use Rattle.moka_sync.proofs.selecting.SharedSelector.or_optionally_insert_with.Goals as goal
+
+pub returns-in-Ok-clause-made : goal.returns-in-Ok-clause-made
+returns-in-Ok-clause-made g c =
+    let ways = ways_by g.R.Rules g.K.PartialEq.eq g.K.Hash.hash_input g.S.BuildHasher g.S.Hasher.Hasher in
+    let owner = c.entry.ensures.owner in
+    let key = c.entry.ensures.key in
+    option-of_key key _ _ (λ answer is_fresh h. gives-of ways (cc (owner, key, c.in_ok-attached.ensures.same)) key (Some Optionally) answer is_fresh h) _ c.in-Ok.ensures.entry
