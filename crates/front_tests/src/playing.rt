@@ -9,8 +9,8 @@ mod turning;
 pub use hashing::Times;
 pub use rules::IsEither;
 pub use script::{
-    Call, Case, Closure, Done, Form, Numbers, ONE, SPREAD, Start, all_right, empty_cache, next,
-    none_wrong, wrong_call,
+    Call, Case, Closure, Done, Form, ONE, Played, SPREAD, Start, all_right, empty_cache,
+    is_right_in_segments, none_wrong, wrong_call,
 };
 pub use selecting::Select;
 pub use turning::Turning;

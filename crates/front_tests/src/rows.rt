@@ -5,7 +5,7 @@ use engine_reference::RemovalCause;
 /// Values that live for a hundred milliseconds, in four parts.
 const SHORT: Form = Form {
     segments: 4,
-    live: 100,
+    live: Some(100),
     ..ONE
 };
 

@@ -6,7 +6,7 @@
 //! one to the other. Otherwise these are requests as any.
 ghost use Rattle.std.specs.Prelude.{◌≡◌};
 
-use crate::playing::{Call, Form, Numbers, ONE, empty_cache, wrong_call};
+use crate::playing::{Call, Form, ONE, Played, empty_cache, wrong_call};
 use engine_reference::RemovalCause;
 use moka::{CacheBuilder, CacheError, CacheState, Instant, Iter, Shared, StdHasher, next_call};
 use std::alloc::{AllocError, Global};
@@ -51,7 +51,7 @@ const ROWS: &[(u64, Call)] = &[
 ];
 
 /// The place of the first row that does not come out so, after those before.
-fn wrong_row(alloc: Global, state: &mut Numbers) -> Option<usize> {
+fn wrong_row<T: Played>(alloc: Global, state: &mut T) -> Option<usize> {
     let before = wrong_call(alloc, state, BEFORE);
     mark(alloc, BEGINS);
     let wrong = wrong_call(alloc, state, ROWS);

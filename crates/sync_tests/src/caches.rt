@@ -1,10 +1,10 @@
-//! The tests' caches, how one is played with, and the gates of their threads.
-use moka_sync::{BuildError, Dial, DialEnv, SharedCache, Single, StdHasher};
+//! The tests' caches, how one is played with, and what their threads wait for.
+use moka_sync::{BuildError, CacheError, Dial, DialEnv, SharedCache, Single, StdHasher};
 use rand_core::SeedableRng;
 use rand_xoshiro::Xoshiro256PlusPlus;
-use std::alloc::{AllocError, Global};
-use std::sync::Arc;
+use std::alloc::Global;
 use std::sync::atomic::{AtomicU64, Ordering};
+use std::sync::{Arc, Wait};
 use std::thread;
 
 /// What gives moments and random words.
@@ -13,7 +13,7 @@ pub type Moments = DialEnv<Xoshiro256PlusPlus>;
 /// A cache of numbers under numbers, by any rules.
 pub type NumbersBy<R, C = Single> = SharedCache<u64, u64, StdHasher, R, Moments, C>;
 
-/// How often a gate is looked at before its row fails.
+/// How often a thread looks before its row fails.
 const LOOKS: u64 = 20_000_000;
 
 /// How many seconds values live on a stage where callers wait for turns.
@@ -28,6 +28,16 @@ pub struct Stage<T> {
     pub cache: T,
     pub dial: Arc<Dial>,
     pub runs: AtomicU64,
+    pub alloc: Global,
+}
+
+/// What a thread that waits sees of a cache.
+pub trait Visible: Drop {
+    /// `get`.
+    fn find<H: Wait>(&self, rt: &H, key: u64) -> Result<Option<u64>, CacheError>;
+
+    /// `contains_key`.
+    fn has<H: Wait>(&self, rt: &H, key: u64) -> bool;
 }
 
 /// What a test of one thread does with a new cache of a type of its own.
@@ -39,7 +49,7 @@ pub trait Play<H> {
     fn make(&self, rt: &H, alloc: Global, moments: Moments) -> Result<Self::Cache, BuildError>;
 
     /// Whether it does all that it should.
-    fn plays(&self, rt: &H, alloc: Global, stage: &Stage<Self::Cache>) -> bool;
+    fn plays(&self, rt: &H, stage: &Stage<Self::Cache>) -> bool;
 }
 
 /// A dial at moment 0.
@@ -48,7 +58,7 @@ pub fn make_dial(alloc: Global) -> Option<Arc<Dial>> {
 }
 
 /// What gives the moments that a dial shows.
-pub fn moments_of(dial: &Arc<Dial>) -> Option<Moments> {
+fn moments_of(dial: &Arc<Dial>) -> Option<Moments> {
     match Arc::try_clone(dial) {
         Ok(dial) => Some(DialEnv::new(dial, Xoshiro256PlusPlus::seed_from_u64(1))),
         Err(_) => None,
@@ -73,56 +83,40 @@ pub fn make_dialed(alloc: Global) -> Option<(Arc<Dial>, Moments)> {
 
 /// What gives moments that are all 0.
 pub fn make_moments(alloc: Global) -> Option<Moments> {
-    moments_of(&make_dial(alloc)?)
-}
-
-/// The cache of a play, with the moments of a dial.
-fn make_cache<H, P: Play<H>>(
-    rt: &H,
-    alloc: Global,
-    play: &P,
-    dial: &Arc<Dial>,
-) -> Option<P::Cache> {
-    match moments_of(dial) {
-        Some(moments) => play.make(rt, alloc, moments).ok(),
+    match make_dial(alloc) {
+        Some(dial) => moments_of(&dial),
         None => None,
     }
 }
 
 /// A cache and its dial, before any closure ran.
-pub fn stage_of<T: Drop>(cache: T, dial: Arc<Dial>) -> Stage<T> {
+pub fn stage_of<T: Drop>(alloc: Global, cache: T, dial: Arc<Dial>) -> Stage<T> {
     Stage {
         cache,
         dial,
         runs: AtomicU64::new(0),
+        alloc,
     }
 }
 
-/// The cache of a play on a stage, with a dial.
-fn stage_by<H, P: Play<H>>(
+/// Whether a play comes out so on a new cache with a dial and its moments.
+fn passes_with<H, P: Play<H>>(
     rt: &H,
     alloc: Global,
     play: &P,
     dial: Arc<Dial>,
-) -> Option<Stage<P::Cache>> {
-    match make_cache(rt, alloc, play, &dial) {
-        Some(cache) => Some(stage_of(cache, dial)),
-        None => None,
-    }
-}
-
-/// The same, with a dial of its own.
-pub fn make_stage<H, P: Play<H>>(rt: &H, alloc: Global, play: &P) -> Option<Stage<P::Cache>> {
-    match make_dial(alloc) {
-        Some(dial) => stage_by(rt, alloc, play, dial),
-        None => None,
+    moments: Moments,
+) -> bool {
+    match play.make(rt, alloc, moments) {
+        Ok(cache) => play.plays(rt, &stage_of(alloc, cache, dial)),
+        Err(_) => false,
     }
 }
 
 /// Whether a play comes out so on a new cache.
 fn passes_at_once<H, P: Play<H>>(rt: &H, alloc: Global, play: &P) -> bool {
-    match make_stage(rt, alloc, play) {
-        Some(stage) => play.plays(rt, alloc, &stage),
+    match make_dialed(alloc) {
+        Some((dial, moments)) => passes_with(rt, alloc, play, dial, moments),
         None => false,
     }
 }
@@ -132,27 +126,38 @@ pub fn passes<H, P: Play<H>>(rt: &H, alloc: Global, play: &P) -> bool {
     passes_at_once(rt, alloc, play) || passes_at_once(rt, alloc, play)
 }
 
-/// Waits until a closure says yes. False if it never does.
-pub fn wait_until<P: Fn() -> bool + Drop>(is_so: P) -> bool
-    requires { P.IsAlwaysCallable is_so }
-{
+/// What a thread waits for.
+#[derive(Clone, Copy)]
+pub enum Sign {
+    /// The dial was read this often.
+    Read(u64),
+    /// This many closures ran or run.
+    Ran(u64),
+    /// A key has no visible value.
+    Gone(u64),
+    /// A key has this value.
+    Has(u64, u64),
+}
+
+/// Whether it is so.
+fn has_come<H: Wait, T: Visible>(rt: &H, stage: &Stage<T>, sign: Sign) -> bool {
+    match sign {
+        Sign::Read(readings) => readings <= stage.dial.readings(),
+        Sign::Ran(count) => count <= stage.runs.load(Ordering::SeqCst),
+        Sign::Gone(key) => !stage.cache.has(rt, key),
+        Sign::Has(key, value) => stage.cache.find(rt, key) == Ok(Some(value)),
+    }
+}
+
+/// Waits until it is so. False if it never is.
+pub fn wait_for<H: Wait, T: Visible>(rt: &H, stage: &Stage<T>, sign: Sign) -> bool {
     for _ in 0..LOOKS {
-        if is_so() {
+        if has_come(rt, stage, sign) {
             return true;
         }
         thread::yield_now();
     }
     false
-}
-
-/// Waits until a dial was read this often. False if it never is.
-pub fn wait_for_readings(dial: &Dial, readings: u64) -> bool {
-    wait_until(|| readings <= dial.readings())
-}
-
-/// Waits until this many closures ran or run. False if they never do.
-pub fn wait_for_runs(runs: &AtomicU64, count: u64) -> bool {
-    wait_until(|| count <= runs.load(Ordering::SeqCst))
 }
 
 /// The moment at which the leader of a turn calls, if so many turns were led before.
@@ -168,32 +173,21 @@ pub fn begin_turn<T>(stage: &Stage<T>) -> u64 {
 }
 
 /// Waits until the closure of this turn runs, and moves the dial to the moment of the call that is to wait for the turn.
-pub fn come_later<T>(stage: &Stage<T>, turn: u64) -> bool {
-    let is_led = wait_for_runs(&stage.runs, turn.saturating_add(1));
+pub fn come_later<H: Wait, T: Visible>(rt: &H, stage: &Stage<T>, turn: u64) -> bool {
+    let is_led = wait_for(rt, stage, Sign::Ran(turn.saturating_add(1)));
     stage.dial.set(moment_of(turn).saturating_add(LATER));
     is_led
 }
 
 /// Waits, in the closure of a turn, until another caller waits for it. That caller has its moment once the dial was read again. Then the
-/// dial goes back, and a value that the closure wrote before is there until the other call has held the lock, after which it has expired:
-/// a call never comes before the last one.
-pub fn is_awaited<T, P: Fn() -> bool + Drop>(stage: &Stage<T>, is_gone: P) -> bool
-    requires { P.IsAlwaysCallable is_gone }
-{
+/// dial goes back, and a key's value that the closure wrote before is there until the other call has held the lock, after which it has
+/// expired: a call never comes before the last one.
+pub fn is_awaited<H: Wait, T: Visible>(rt: &H, stage: &Stage<T>, key: u64) -> bool {
     let readings = stage.dial.readings().saturating_add(1);
     let turn = stage.runs.fetch_add(1, Ordering::SeqCst);
-    if wait_for_readings(&stage.dial, readings) {
+    let is_read = wait_for(rt, stage, Sign::Read(readings));
+    if is_read {
         stage.dial.set(moment_of(turn));
-        wait_until(is_gone)
-    } else {
-        false
     }
-}
-
-/// Whether each of the threads says yes.
-pub fn each_says_yes(said: Result<Vec<bool>, AllocError>) -> bool {
-    match said {
-        Ok(said) => said.iter().all(|yes| *yes),
-        Err(_) => false,
-    }
+    is_read && wait_for(rt, stage, Sign::Gone(key))
 }

@@ -1,10 +1,10 @@
 //! Selectors of an attached handle.
 use crate::caches::Moments;
 use crate::entries::{
-    Choice, Chooser, Choosing, Shown, chooses, count_slowly, count_up, is_three, removal, rest,
-    seven, show, shown_done,
+    Choice, Chooser, Shown, count_slowly, count_up, is_three, removal, rest, seven, show,
+    shown_done,
 };
-use crate::forms::{TestRules, Tested};
+use crate::forms::TestRules;
 use moka_sync::{Attached, StdHasher};
 use std::sync::Wait;
 
@@ -37,13 +37,5 @@ impl<H: Wait, C: Drop> Chooser for Handle<H, C> {
             Choice::SevenForThree(key) => show(self.entry(key).or_insert_with_if(seven, is_three)),
             choice => compute(self, choice),
         }
-    }
-}
-
-/// Whether all rows come out so by another handle of a cache.
-pub fn chooses_by<H: Wait + Copy, C: Drop>(rt: &H, cache: &Tested<C>, rows: &[Choosing]) -> bool {
-    match cache.attached(rt) {
-        Ok(attached) => chooses(attached, rows),
-        Err(_) => false,
     }
 }

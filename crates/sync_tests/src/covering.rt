@@ -3,6 +3,7 @@ mod numbers;
 
 use crate::caches::{Moments, Play, Stage, make_dial, passes};
 use crate::covering::numbers::{HasValue, Itself, Turning};
+use crate::rows::{Row, are_so};
 use moka_sync::{
     Build, BuildError, Bundle, CacheBuilder, CacheError, Dial, DialEnv, NoExpiry, SegmentedCache,
     WeighOne,
@@ -33,23 +34,13 @@ fn make_halves(alloc: Global, dial: Arc<Dial>) -> Result<Halves, BuildError> {
         .build_with_hasher(alloc, Itself, DialEnv::new(dial, Turning(4)))
 }
 
-/// Whether a key gets the value, at the second try where memory is refused.
-fn keeps<H: Wait>(rt: &H, cache: &Halves, key: u64) -> bool {
-    cache.insert(rt, key, VALUE).is_ok() || cache.insert(rt, key, VALUE).is_ok()
-}
+const KEPT: &[Row] = &[Row::Insert(KEYS[0], VALUE), Row::Insert(KEYS[1], VALUE)];
 
-/// What a key answers, at the second try where memory is refused.
-fn find<H: Wait>(rt: &H, cache: &Halves, key: u64) -> Result<Option<u64>, CacheError> {
-    match cache.get(rt, &key) {
-        Ok(found) => Ok(found),
-        Err(_) => cache.get(rt, &key),
-    }
-}
-
-/// Whether a key answers the value.
-fn shows<H: Wait>(rt: &H, cache: &Halves, key: u64) -> bool {
-    find(rt, cache, key) == Ok(Some(VALUE))
-}
+const SHOWN: &[Row] = &[
+    Row::Get(KEYS[0], Some(VALUE)),
+    Row::Get(KEYS[1], Some(VALUE)),
+    Row::NoneTold,
+];
 
 /// Whether the first predicate is taken, and the next one, which covers the value, is not.
 fn are_drawn<H: Wait>(rt: &H, cache: &Halves) -> bool {
@@ -69,6 +60,11 @@ fn cover<H: Wait>(rt: &H, cache: &Halves, value: u64) -> Result<(), CacheError> 
     }
 }
 
+/// Whether rows come out so.
+fn play_halves<H: Wait>(rt: &H, stage: &Stage<Halves>, rows: &[Row]) -> bool {
+    are_so(rt, stage, rows)
+}
+
 /// The segments draw different identifiers for the first predicate; the second segment can draw none but its own for the next one, which is
 /// then in neither.
 struct Drawing;
@@ -83,14 +79,8 @@ impl<H: Wait> Play<H> for Drawing {
         }
     }
 
-    fn plays(&self, rt: &H, _alloc: Global, stage: &Stage<Halves>) -> bool {
-        let halves = &stage.cache;
-        keeps(rt, halves, KEYS[0])
-            && keeps(rt, halves, KEYS[1])
-            && are_drawn(rt, halves)
-            && shows(rt, halves, KEYS[0])
-            && shows(rt, halves, KEYS[1])
-            && halves.next_notice(rt).is_none()
+    fn plays(&self, rt: &H, stage: &Stage<Halves>) -> bool {
+        play_halves(rt, stage, KEPT) && are_drawn(rt, &stage.cache) && play_halves(rt, stage, SHOWN)
     }
 }
 

@@ -1,9 +1,8 @@
 //! Selectors, by those of a handle that others share.
-use crate::forms::{Staged, Tested};
-use crate::rows::gets;
-use crate::scenes::{Scene, holds};
+use crate::forms::{FIVE_HUNDRED, Tested};
+use crate::rows::Row;
+use crate::scenes::{Scene, Step, holds};
 use moka_sync::{CacheError, CompResult, Entry, Op};
-use std::alloc::Global;
 use std::sync::{Arc, Wait};
 use std::thread;
 
@@ -102,7 +101,7 @@ fn shown_result(answer: Result<Result<Entry<u64, u64>, Arc<u64>>, CacheError>) -
 
 /// The same of a compute call.
 pub fn shown_done(answer: Result<CompResult<u64, u64>, CacheError>) -> Shown {
-    match answer {
+    match &answer {
         Ok(CompResult::Inserted(_) | CompResult::ReplacedWith(_)) => Shown::Put,
         Ok(CompResult::Removed(_)) => Shown::Removed,
         Ok(CompResult::StillNone(_)) => Shown::StillNone,
@@ -113,8 +112,8 @@ pub fn shown_done(answer: Result<CompResult<u64, u64>, CacheError>) -> Shown {
 
 /// The same of one that may fail.
 fn shown_tried(answer: Result<Result<CompResult<u64, u64>, u64>, CacheError>) -> Shown {
-    match answer {
-        Ok(Err(fault)) => Shown::Fault(fault),
+    match &answer {
+        Ok(Err(fault)) => Shown::Fault(*fault),
         _ => Shown::Other,
     }
 }
@@ -268,18 +267,20 @@ const ATTACHED: &[Choosing] = &[
     Choosing(Choice::Remove(11), Shown::StillNone),
 ];
 
-/// Whether selectors choose by a shared handle, and by an attached one; and a cache of one value is printed as a map.
-pub fn select<H: Wait + Copy, T: Staged>(rt: &H, alloc: Global, cache: &T) -> bool {
-    cache.chooses(rt, SHARED)
-        && gets(rt, cache, 4, Some(9))
-        && gets(rt, cache, 5, None)
-        && cache.chooses_attached(rt, ATTACHED)
-        && cache.clear(rt).is_ok()
-        && cache.chooses(rt, ONE)
-        && cache.is_printed(rt, alloc, "{6: 60}")
-}
+/// Selectors choose by a shared handle, and by an attached one; and a cache of one value is printed as a map.
+const CHOSEN: &Scene = &Scene {
+    settings: FIVE_HUNDRED,
+    steps: &[
+        Step::Choose(SHARED),
+        Step::Rows(&[Row::Get(4, Some(9)), Row::Get(5, None)]),
+        Step::ChooseAttached(ATTACHED),
+        Step::Rows(&[Row::Clear]),
+        Step::Choose(ONE),
+        Step::Printed("{6: 60}"),
+    ],
+};
 
 #[test]
 fn selectors_choose(rt: HostRuntime) {
-    assert!(rt; holds(&rt, rt.alloc(), Scene::Selectors));
+    assert!(rt; holds(&rt, rt.alloc(), CHOSEN));
 }

@@ -4,7 +4,7 @@ ghost use Rattle.std.specs.Prelude.{◌==◌, ◌%◌};
 use crate::caches::NumbersBy;
 use crate::entries::{self, Choosing, Sharing};
 use crate::numbers::Numbers;
-use crate::{choosing, visiting};
+use crate::visiting::{count_seen, prints};
 use moka_sync::{
     Bundle, ByCreation, CacheBuilder, CacheError, EvictionPolicy, Lifetime, Predicate, Segmented,
     Sharded, Single, WeighOne,
@@ -118,17 +118,34 @@ pub enum Form {
     Shards,
 }
 
-/// A form's call with a predicate, which covers odd values.
+fn eighty() -> u64 {
+    80
+}
+
+fn fails() -> Result<u64, u64> {
+    Err(7)
+}
+
+/// Calls that are not the same in each form.
 pub trait Covers: Drop + Sized {
+    /// `invalidate_entries_if`, of odd values. One segment returns the identifier of a predicate, which has 36 bytes.
     fn cover_odd<H: Wait>(rt: &H, cache: &Tested<Self>) -> Result<(), CacheError>;
+
+    /// Whether segments make a value by two names more, once for both. Other forms do not have them.
+    fn has_other_names<H: Wait>(rt: &H, cache: &Tested<Self>) -> bool;
 }
 
 impl Covers for Single {
     fn cover_odd<H: Wait>(rt: &H, cache: &Tested<Single>) -> Result<(), CacheError> {
         match cache.invalidate_entries_if(rt, Odd) {
-            Ok(_id) => Ok(()),
+            Ok(id) if id.len() == 36 => Ok(()),
+            Ok(_id) => Err(CacheError::IdsInUse),
             Err(refused) => Err(refused),
         }
+    }
+
+    fn has_other_names<H: Wait>(_rt: &H, _cache: &Tested<Single>) -> bool {
+        false
     }
 }
 
@@ -136,11 +153,20 @@ impl Covers for Segmented {
     fn cover_odd<H: Wait>(rt: &H, cache: &Tested<Segmented>) -> Result<(), CacheError> {
         cache.invalidate_entries_if(rt, Odd)
     }
+
+    fn has_other_names<H: Wait>(rt: &H, cache: &Tested<Segmented>) -> bool {
+        cache.get_or_insert_with(rt, 8, eighty) == Ok(80)
+            && matches!(cache.get_or_try_insert_with(rt, 8, fails), Ok(Ok(80)))
+    }
 }
 
 impl Covers for Sharded {
     fn cover_odd<H: Wait>(rt: &H, cache: &Tested<Sharded>) -> Result<(), CacheError> {
         cache.invalidate_entries_if(rt, Odd)
+    }
+
+    fn has_other_names<H: Wait>(_rt: &H, _cache: &Tested<Sharded>) -> bool {
+        false
     }
 }
 
@@ -148,6 +174,9 @@ impl Covers for Sharded {
 pub trait Staged: Numbers {
     /// `invalidate_entries_if`, of odd values.
     fn cover_odd<H: Wait>(&self, rt: &H) -> Result<(), CacheError>;
+
+    /// Whether it makes a value by the two names that only segments have.
+    fn has_other_names<H: Wait>(&self, rt: &H) -> bool;
 
     /// `try_get_with`.
     fn try_make<H: Wait, M: FnOnce() -> Result<u64, u64> + Drop>(
@@ -167,13 +196,17 @@ pub trait Staged: Numbers {
     /// Whether an attached handle is printed so.
     fn is_printed<H: Wait + Copy>(&self, rt: &H, alloc: Global, text: &str) -> bool;
 
-    /// Whether an iterator returns each of so many keys once, with its double.
-    fn shows_each_once<H: Wait + Copy>(&self, rt: &H, alloc: Global, keys: usize) -> bool;
+    /// How many items an iterator returns, if each is of a key that was not seen, with its double.
+    fn count_items<H: Wait + Copy>(&self, rt: &H, seen: &mut Vec<bool>) -> Option<usize>;
 }
 
 impl<C: Covers> Staged for Tested<C> {
     fn cover_odd<H: Wait>(&self, rt: &H) -> Result<(), CacheError> {
         C::cover_odd(rt, self)
+    }
+
+    fn has_other_names<H: Wait>(&self, rt: &H) -> bool {
+        C::has_other_names(rt, self)
     }
 
     fn try_make<H: Wait, M: FnOnce() -> Result<u64, u64> + Drop>(
@@ -190,14 +223,23 @@ impl<C: Covers> Staged for Tested<C> {
     }
 
     fn chooses_attached<H: Wait + Copy>(&self, rt: &H, rows: &[Choosing]) -> bool {
-        choosing::chooses_by(rt, self, rows)
+        match self.attached(rt) {
+            Ok(attached) => entries::chooses(attached, rows),
+            Err(_) => false,
+        }
     }
 
     fn is_printed<H: Wait + Copy>(&self, rt: &H, alloc: Global, text: &str) -> bool {
-        visiting::is_printed(rt, alloc, self, text)
+        match self.attached(rt) {
+            Ok(attached) => prints(alloc, attached, text, text),
+            Err(_) => false,
+        }
     }
 
-    fn shows_each_once<H: Wait + Copy>(&self, rt: &H, alloc: Global, keys: usize) -> bool {
-        visiting::shows_each_once(rt, alloc, self, keys)
+    fn count_items<H: Wait + Copy>(&self, rt: &H, seen: &mut Vec<bool>) -> Option<usize> {
+        match self.attached(rt) {
+            Ok(attached) => count_seen(&attached, seen),
+            Err(_) => None,
+        }
     }
 }

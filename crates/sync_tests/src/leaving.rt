@@ -1,16 +1,14 @@
 //! What is removed from a cache and reported: by predicates, for lack of room, and in time.
-use crate::caches::{Moments, Play, Stage, passes};
-use crate::forms::{FIVE_HUNDRED, Odd, Settings, Staged, Tested, builder_of};
-use crate::numbers::Numbers;
-use crate::rows::{Deed, Row, are_so, does_all, told};
-use crate::scenes::{Scene, Table, holds};
-use moka_sync::{Build, BuildError, ConcurrentCacheExt, EvictionPolicy, RemovalCause, Single};
+use crate::forms::{FIVE_HUNDRED, Form, Settings};
+use crate::rows::{Deed, Row};
+use crate::scenes::{Scene, Step, holds, holds_in};
+use moka_sync::{EvictionPolicy, RemovalCause};
 use std::alloc::Global;
 use std::sync::Wait;
 use std::thread::Threads;
 
 /// A hundred values, the least recently used of which are evicted.
-pub const HUNDRED: Settings = Settings {
+const HUNDRED: Settings = Settings {
     capacity: 100,
     policy: EvictionPolicy::Lru,
     ..FIVE_HUNDRED
@@ -47,55 +45,31 @@ const COVERED_NAMES: &[Row] = &[
     Row::Count(3),
 ];
 
-/// Whether a predicate covers names.
-pub fn are_covered<H: Wait, T: Staged>(rt: &H, stage: &Stage<T>) -> bool {
-    are_so(rt, stage, NAMES)
-        && stage.cache.cover_odd(rt) == Ok(())
-        && are_so(rt, stage, LATER)
-        && are_so(rt, stage, COVERED_NAMES)
-}
+/// A predicate covers names.
+const COVERED: &Scene = &Scene {
+    settings: HUNDRED,
+    steps: &[
+        Step::Rows(NAMES),
+        Step::Cover,
+        Step::Rows(LATER),
+        Step::Rows(COVERED_NAMES),
+    ],
+};
 
 #[test]
 fn names_are_covered(rt: HostRuntime) {
-    assert!(rt; holds(&rt, rt.alloc(), Scene::Names));
-}
-
-/// Whether the identifier of a predicate has 36 bytes.
-fn is_named<H: Wait>(rt: &H, cache: &Tested<Single>) -> bool {
-    match cache.invalidate_entries_if(rt, Odd) {
-        Ok(id) => id.len() == 36,
-        Err(_) => false,
-    }
-}
-
-/// Whether a value is written.
-fn keeps<H: Wait>(rt: &H, cache: &Tested<Single>) -> bool {
-    cache.insert(rt, 3, 1).is_ok() || cache.insert(rt, 3, 1).is_ok()
-}
-
-/// Whether maintenance runs by its older name.
-fn syncs<H: Wait>(rt: &H, cache: &Tested<Single>) -> bool {
-    cache.sync(rt).is_ok()
+    assert!(rt; holds(&rt, rt.alloc(), COVERED));
 }
 
 /// One segment returns the identifier of a predicate, which has 36 bytes. Maintenance has an older name.
-struct Identified;
-
-impl<H: Wait> Play<H> for Identified {
-    type Cache = Tested<Single>;
-
-    fn make(&self, _rt: &H, alloc: Global, moments: Moments) -> Result<Tested<Single>, BuildError> {
-        builder_of(HUNDRED).build(alloc, moments)
-    }
-
-    fn plays(&self, rt: &H, _alloc: Global, stage: &Stage<Tested<Single>>) -> bool {
-        is_named(rt, &stage.cache) && keeps(rt, &stage.cache) && syncs(rt, &stage.cache)
-    }
-}
+const IDENTIFIED: &Scene = &Scene {
+    settings: HUNDRED,
+    steps: &[Step::Cover, Step::Rows(&[Row::Insert(3, 1), Row::Sync])],
+};
 
 #[test]
 fn predicates_have_identifiers(rt: HostRuntime) {
-    assert!(rt; passes(&rt, rt.alloc(), &Identified));
+    assert!(rt; holds_in(&rt, rt.alloc(), Form::One, IDENTIFIED));
 }
 
 // the one used longest ago is evicted
@@ -189,48 +163,48 @@ const IDLE: Settings = Settings {
     ..HUNDRED
 };
 
-const TABLES: &[Table] = &[
-    Table {
+const SCENES: &[Scene] = &[
+    Scene {
         settings: Settings {
             parts: 1,
             capacity: 3,
             ..HUNDRED
         },
-        rows: EVICTED,
+        steps: &[Step::Rows(EVICTED)],
     },
-    Table {
+    Scene {
         settings: Settings {
             live: Some(16),
             own: Some(1),
             ..IDLE
         },
-        rows: ENDED_OF_ITS_OWN,
+        steps: &[Step::Rows(ENDED_OF_ITS_OWN)],
     },
-    Table {
+    Scene {
         settings: IDLE,
-        rows: ENDED_IDLE,
+        steps: &[Step::Rows(ENDED_IDLE)],
     },
-    Table {
+    Scene {
         settings: IDLE,
-        rows: WRITTEN_OVER_TOO_LATE,
+        steps: &[Step::Rows(WRITTEN_OVER_TOO_LATE)],
     },
-    Table {
+    Scene {
         settings: Settings {
             live: Some(7),
             ..HUNDRED
         },
-        rows: REMOVED_TOO_LATE,
+        steps: &[Step::Rows(REMOVED_TOO_LATE)],
     },
 ];
 
-/// The place of the first table that does not come out so in each form.
+/// The place of the first scene that does not come out so in each form.
 fn first_wrong<R: Threads + Wait + Sync + Copy>(
     rt: &R,
     alloc: Global,
-    tables: &'static [Table],
+    scenes: &[Scene],
 ) -> Option<usize> {
-    for (place, table) in tables.iter().enumerate() {
-        if !holds(rt, alloc, Scene::Rows(table)) {
+    for (place, scene) in scenes.iter().enumerate() {
+        if !holds(rt, alloc, scene) {
             return Some(place);
         }
     }
@@ -239,28 +213,24 @@ fn first_wrong<R: Threads + Wait + Sync + Copy>(
 
 #[test]
 fn what_leaves_is_told(rt: HostRuntime) {
-    assert_eq!(rt; first_wrong(&rt, rt.alloc(), TABLES), None);
+    assert_eq!(rt; first_wrong(&rt, rt.alloc(), SCENES), None);
 }
 
-/// Whether this many notices of a cause are told, and then no more.
-fn are_told<H: Wait, T: Numbers>(rt: &H, cache: &T, cause: RemovalCause, count: u64) -> bool {
-    for _ in 0..count {
-        if told(rt, cache, cause).is_none() {
-            return false;
-        }
-    }
-    cache.tell(rt).is_none()
-}
-
-/// Whether 600 keys that come into a cache of 500, and are then invalidated, are told so.
-pub fn leave<H: Wait, T: Numbers>(rt: &H, cache: &T) -> bool {
-    does_all(rt, cache, Deed::InsertAndRun, 600)
-        && are_told(rt, cache, RemovalCause::Size, 100)
-        && does_all(rt, cache, Deed::Invalidate, 600)
-        && are_told(rt, cache, RemovalCause::Explicit, 500)
-}
+// 600 keys come into a cache of 500: 100 are told `Size`; then all are invalidated: 500 are told `Explicit`
+const SIX_HUNDRED: &Scene = &Scene {
+    settings: Settings {
+        parts: 1,
+        ..FIVE_HUNDRED
+    },
+    steps: &[Step::Rows(&[
+        Row::Each(Deed::InsertAndRun, 600),
+        Row::Told(100, RemovalCause::Size),
+        Row::Each(Deed::Invalidate, 600),
+        Row::Told(500, RemovalCause::Explicit),
+    ])],
+};
 
 #[test]
 fn six_hundred_into_five_hundred(rt: HostRuntime) {
-    assert!(rt; holds(&rt, rt.alloc(), Scene::SixHundred));
+    assert!(rt; holds(&rt, rt.alloc(), SIX_HUNDRED));
 }

@@ -45,7 +45,11 @@ mod leaving;
 #[cfg(test)]
 mod machines;
 #[cfg(test)]
+mod making;
+#[cfg(test)]
 mod numbers;
+#[cfg(test)]
+mod plain;
 #[cfg(test)]
 mod refusing;
 #[cfg(test)]
@@ -60,6 +64,8 @@ mod rows;
 mod scenes;
 #[cfg(test)]
 mod sharding;
+#[cfg(test)]
+mod telling;
 #[cfg(test)]
 mod turns;
 #[cfg(test)]

@@ -1,26 +1,26 @@
 //! Caches of numbers under numbers, of any form and by any rules, as the rows call them.
-use crate::caches::NumbersBy;
-use moka_sync::{CacheError, Notice, Rules, Shared};
+use crate::caches::Visible;
+use moka_sync::{CacheError, ConcurrentCacheExt, Env, Notice, Rules, Shared, SharedCache};
+use std::hash::BuildHasher;
 use std::sync::Wait;
 
 /// The report of a number that left.
 pub type Told = Notice<Shared<u64>, u64>;
 
 /// What every cache of numbers can do.
-pub trait Numbers: Drop {
+pub trait Numbers: Visible {
     fn put<H: Wait>(&self, rt: &H, key: u64, value: u64) -> Result<(), CacheError>;
-
-    fn find<H: Wait>(&self, rt: &H, key: u64) -> Result<Option<u64>, CacheError>;
 
     fn take_out<H: Wait>(&self, rt: &H, key: u64) -> Result<Option<u64>, CacheError>;
 
     fn take_back<H: Wait>(&self, rt: &H, key: u64) -> Result<(), CacheError>;
 
-    fn has<H: Wait>(&self, rt: &H, key: u64) -> bool;
-
     fn clear<H: Wait>(&self, rt: &H) -> Result<(), CacheError>;
 
     fn run<H: Wait>(&self, rt: &H) -> Result<(), CacheError>;
+
+    /// The same by its older name, `sync`.
+    fn run_as_sync<H: Wait>(&self, rt: &H) -> Result<(), CacheError>;
 
     /// How many segments or shards it shows.
     fn parts(&self) -> usize;
@@ -64,13 +64,21 @@ pub trait Numbers: Drop {
         requires { M.IsAlwaysCallable make };
 }
 
-impl<R: Rules<u64, u64> + Drop, C: Drop> Numbers for NumbersBy<R, C> {
-    fn put<H: Wait>(&self, rt: &H, key: u64, value: u64) -> Result<(), CacheError> {
-        self.insert(rt, key, value)
-    }
-
+impl<S: BuildHasher + Drop, R: Rules<u64, u64> + Drop, E: Env + Drop, C: Drop> Visible
+    for SharedCache<u64, u64, S, R, E, C> {
     fn find<H: Wait>(&self, rt: &H, key: u64) -> Result<Option<u64>, CacheError> {
         self.get(rt, &key)
+    }
+
+    fn has<H: Wait>(&self, rt: &H, key: u64) -> bool {
+        self.contains_key(rt, &key)
+    }
+}
+
+impl<S: BuildHasher + Drop, R: Rules<u64, u64> + Drop, E: Env + Drop, C: Drop> Numbers
+    for SharedCache<u64, u64, S, R, E, C> {
+    fn put<H: Wait>(&self, rt: &H, key: u64, value: u64) -> Result<(), CacheError> {
+        self.insert(rt, key, value)
     }
 
     fn take_out<H: Wait>(&self, rt: &H, key: u64) -> Result<Option<u64>, CacheError> {
@@ -81,16 +89,16 @@ impl<R: Rules<u64, u64> + Drop, C: Drop> Numbers for NumbersBy<R, C> {
         self.invalidate(rt, &key)
     }
 
-    fn has<H: Wait>(&self, rt: &H, key: u64) -> bool {
-        self.contains_key(rt, &key)
-    }
-
     fn clear<H: Wait>(&self, rt: &H) -> Result<(), CacheError> {
         self.invalidate_all(rt)
     }
 
     fn run<H: Wait>(&self, rt: &H) -> Result<(), CacheError> {
         self.run_pending_tasks(rt)
+    }
+
+    fn run_as_sync<H: Wait>(&self, rt: &H) -> Result<(), CacheError> {
+        self.sync(rt)
     }
 
     fn parts(&self) -> usize {

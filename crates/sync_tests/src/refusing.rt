@@ -2,7 +2,7 @@
 ghost use Rattle.std.specs.Prelude.{◌≡◌};
 
 use crate::caches::{
-    LIFE, Moments, Stage, begin_turn, come_later, is_awaited, make_dialed, stage_of,
+    LIFE, Moments, Stage, Visible, begin_turn, come_later, is_awaited, make_dialed, stage_of,
 };
 use crate::forms::Form;
 use moka_sync::{
@@ -34,7 +34,7 @@ impl Clone for Fussy {
 type FussiesBy<C> = SharedCache<u64, Fussy, StdHasher, PlainRules, Moments, C>;
 
 /// One of any form.
-trait Fussies: Drop {
+trait Fussies: Visible {
     /// `get_with` of key 0.
     fn make<H: Wait, M: FnOnce() -> Fussy + Drop>(
         &self,
@@ -45,9 +45,20 @@ trait Fussies: Drop {
 
     /// Whether 3 is written under key 0.
     fn puts<H: Wait>(&self, rt: &H) -> bool;
+}
 
-    /// Whether key 0 has a visible value.
-    fn has<H: Wait>(&self, rt: &H) -> bool;
+impl<C: Drop> Visible for FussiesBy<C> {
+    fn find<H: Wait>(&self, rt: &H, key: u64) -> Result<Option<u64>, CacheError> {
+        match self.get(rt, &key) {
+            Ok(Some(fussy)) => Ok(Some(fussy.0)),
+            Ok(None) => Ok(None),
+            Err(refused) => Err(refused),
+        }
+    }
+
+    fn has<H: Wait>(&self, rt: &H, key: u64) -> bool {
+        self.contains_key(rt, &key)
+    }
 }
 
 impl<C: Drop> Fussies for FussiesBy<C> {
@@ -62,17 +73,12 @@ impl<C: Drop> Fussies for FussiesBy<C> {
     fn puts<H: Wait>(&self, rt: &H) -> bool {
         self.insert(rt, 0, Fussy(3)).is_ok() || self.insert(rt, 0, Fussy(3)).is_ok()
     }
-
-    fn has<H: Wait>(&self, rt: &H) -> bool {
-        self.contains_key(rt, &0)
-    }
 }
 
 /// 1, once another caller waits, or else 0.
 fn make_one<H: Wait, T: Fussies>(rt: &H, fussies: &Stage<T>) -> Fussy {
-    let cache = &fussies.cache;
-    let is_written = cache.puts(rt);
-    if is_awaited(fussies, || !cache.has(rt)) && is_written {
+    let is_written = fussies.cache.puts(rt);
+    if is_awaited(rt, fussies, 0) && is_written {
         Fussy(1)
     } else {
         Fussy(0)
@@ -93,7 +99,7 @@ fn two() -> Fussy {
 
 /// Whether a call that waits makes the value.
 fn is_made<H: Wait, T: Fussies>(rt: &H, fussies: &Stage<T>, turn: u64) -> bool {
-    if !come_later(fussies, turn) {
+    if !come_later(rt, fussies, turn) {
         return false;
     }
     match fussies.cache.make(rt, two) {
@@ -116,11 +122,12 @@ fn next_leads<R: Threads + Wait + Sync, T: Fussies + Sync>(rt: &R, fussies: &Sta
 /// The same on a cache, if one was made.
 fn next_leads_on<R: Threads + Wait + Sync, T: Fussies + Sync>(
     rt: &R,
+    alloc: Global,
     dial: Arc<Dial>,
     cache: Result<T, BuildError>,
 ) -> bool {
     match cache {
-        Ok(cache) => next_leads(rt, &stage_of(cache, dial)),
+        Ok(cache) => next_leads(rt, &stage_of(alloc, cache, dial)),
         Err(_) => false,
     }
 }
@@ -128,10 +135,11 @@ fn next_leads_on<R: Threads + Wait + Sync, T: Fussies + Sync>(
 /// The same on one of such numbers. (That they are fussy is proved here, once for all forms.)
 fn next_leads_among<R: Threads + Wait + Sync, C: Drop + Send + Sync>(
     rt: &R,
+    alloc: Global,
     dial: Arc<Dial>,
     cache: Result<FussiesBy<C>, BuildError>,
 ) -> bool {
-    next_leads_on(rt, dial, cache)
+    next_leads_on(rt, alloc, dial, cache)
 }
 
 /// The same of a new cache of a form, with the moments of a dial.
@@ -144,9 +152,14 @@ fn next_leads_by<R: Threads + Wait + Sync>(
 ) -> bool {
     let builder = CacheBuilder::new(10).time_to_live(Duration::from_secs(LIFE));
     match form {
-        Form::One => next_leads_among(rt, dial, builder.build(alloc, moments)),
-        Form::Segments => next_leads_among(rt, dial, builder.segments(4).build(alloc, moments)),
-        Form::Shards => next_leads_among(rt, dial, builder.shards(4).build(alloc, moments)),
+        Form::One => next_leads_among(rt, alloc, dial, builder.build(alloc, moments)),
+        Form::Segments => next_leads_among(
+            rt,
+            alloc,
+            dial,
+            builder.segments(4).build(alloc, moments),
+        ),
+        Form::Shards => next_leads_among(rt, alloc, dial, builder.shards(4).build(alloc, moments)),
     }
 }
 

@@ -43,7 +43,7 @@ fn make_answers<E: Env + Drop>(
 #[derive(Drop)]
 pub struct Resolver<U, E: Env> {
     answers: Answers<E>,
-    upstream: U,
+    pub(crate) upstream: U,
     alloc: Global,
 }
 

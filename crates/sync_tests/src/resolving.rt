@@ -1,5 +1,6 @@
 //! Four threads resolve four names.
-use crate::caches::{Moments, each_says_yes, make_moments};
+use crate::caches::{Moments, make_moments};
+use crate::crowds::each_says_yes;
 use crate::resolver::{Resolver, Unresolved, Upstream};
 use moka_sync::{BuildError, CacheError};
 use std::alloc::Global;
@@ -12,7 +13,7 @@ use std::time::Duration;
 /// Names of three letters have an address; each question is counted, and takes a while.
 #[derive(Drop)]
 struct Slow {
-    questions: Arc<AtomicU64>,
+    questions: AtomicU64,
 }
 
 impl Upstream for Slow {
@@ -29,48 +30,6 @@ impl Upstream for Slow {
     }
 }
 
-/// A resolver, and how often its upstream was asked.
-#[derive(Drop)]
-struct Names {
-    resolver: Resolver<Slow, Moments>,
-    questions: Arc<AtomicU64>,
-}
-
-/// A resolver whose upstream counts its questions so.
-fn make_resolver(
-    alloc: Global,
-    questions: &Arc<AtomicU64>,
-    moments: Moments,
-) -> Result<Resolver<Slow, Moments>, BuildError> {
-    match Arc::try_clone(questions) {
-        Ok(questions) => {
-            Resolver::new(
-                alloc,
-                100,
-                Duration::from_secs(60),
-                Slow { questions },
-                moments,
-            )
-        }
-        Err(_) => Err(BuildError::OutOfMemory),
-    }
-}
-
-/// The same, with its count.
-fn make_names(
-    alloc: Global,
-    questions: Arc<AtomicU64>,
-    moments: Moments,
-) -> Result<Names, BuildError> {
-    match make_resolver(alloc, &questions, moments) {
-        Ok(resolver) => Ok(Names {
-            resolver,
-            questions,
-        }),
-        Err(why) => Err(why),
-    }
-}
-
 /// What resolves names.
 trait Resolves {
     /// The address of a name.
@@ -80,13 +39,13 @@ trait Resolves {
     fn questions(&self) -> u64;
 }
 
-impl Resolves for Names {
+impl Resolves for Resolver<Slow, Moments> {
     fn ask<H: Wait>(&self, rt: &H, name: &str) -> Result<Result<u32, Arc<Unresolved>>, CacheError> {
-        self.resolver.resolve(rt, name)
+        self.resolve(rt, name)
     }
 
     fn questions(&self) -> u64 {
-        self.questions.load(Ordering::SeqCst)
+        self.upstream.questions.load(Ordering::SeqCst)
     }
 }
 
@@ -131,28 +90,36 @@ fn asks_once<R: Threads + Wait + Sync, N: Resolves + Sync>(
         && names.questions() == 6
 }
 
-/// The same, with moments that are all 0.
-fn make_all(alloc: Global, questions: Arc<AtomicU64>) -> Option<Names> {
-    match make_moments(alloc) {
-        Some(moments) => make_names(alloc, questions, moments).ok(),
-        None => None,
+/// The same of a resolver, if it could be made.
+fn asks_once_if_made<R: Threads + Wait + Sync, N: Resolves + Sync + Drop>(
+    rt: &R,
+    alloc: Global,
+    made: Result<N, BuildError>,
+) -> bool {
+    match made {
+        Ok(names) => asks_once(rt, alloc, &names),
+        Err(_) => false,
     }
 }
 
-/// The same, with a count of its own.
-fn make_anew(alloc: Global) -> Option<Names> {
-    match Arc::new(alloc, AtomicU64::new(0)) {
-        Ok(questions) => make_all(alloc, questions),
-        Err(_) => None,
+/// A new resolver, with moments that are all 0.
+fn make_resolver(alloc: Global) -> Result<Resolver<Slow, Moments>, BuildError> {
+    let questions = AtomicU64::new(0);
+    match make_moments(alloc) {
+        Some(moments) => Resolver::new(
+            alloc,
+            100,
+            Duration::from_secs(60),
+            Slow { questions },
+            moments,
+        ),
+        None => Err(BuildError::OutOfMemory),
     }
 }
 
 /// Whether each name is asked for once by a new resolver.
 fn asks_once_anew<R: Threads + Wait + Sync>(rt: &R, alloc: Global) -> bool {
-    match make_anew(alloc) {
-        Some(names) => asks_once(rt, alloc, &names),
-        None => false,
-    }
+    asks_once_if_made(rt, alloc, make_resolver(alloc))
 }
 
 #[test]

@@ -1,9 +1,11 @@
 //! Calls of one thread on any cache of numbers, and what each is to answer. A call that is refused for lack of memory has changed
 //! nothing, and is made once more.
 use crate::caches::{Moments, Stage};
+use crate::making::{Replaced, make_if};
 use crate::numbers::Numbers;
 use moka_sync::{CacheError, PlainCache, RemovalCause};
 use std::sync::Wait;
+use std::sync::atomic::Ordering;
 
 /// A cache of numbers by plain rules.
 pub type Plain = PlainCache<u64, u64, Moments>;
@@ -18,8 +20,12 @@ pub enum Row {
     Invalidate(u64),
     Clear,
     Run,
+    /// A run by its older name.
+    Sync,
     /// `get_with_if` of a key: what is made, which value is replaced, and what is returned.
-    MakeIf(u64, u64, u64, u64),
+    MakeIf(u64, u64, Replaced, u64),
+    /// That is done with each of this many keys, from 0 on.
+    Each(Deed, u64),
     Get(u64, Option<u64>),
     Has(u64, bool),
     Count(u64),
@@ -28,8 +34,12 @@ pub enum Row {
     Is(u64, RemovalCause),
     /// The two oldest notices are of these keys, in any order, and of this cause.
     Are(u64, u64, RemovalCause),
+    /// This many notices of this cause are told, and then no more.
+    Told(u64, RemovalCause),
     /// No notice is left.
     NoneTold,
+    /// This many closures ran.
+    Ran(u64),
 }
 
 /// Whether a value is written.
@@ -68,24 +78,13 @@ pub fn invalidates<H: Wait, T: Numbers>(rt: &H, cache: &T, key: u64) -> bool {
     cache.take_back(rt, key).is_ok() || cache.take_back(rt, key).is_ok()
 }
 
-/// The value of a key, once one is made if there is none or a certain old one.
-fn make_if<H: Wait, T: Numbers>(
-    rt: &H,
-    cache: &T,
-    key: u64,
-    made: u64,
-    old: u64,
-) -> Result<u64, CacheError> {
-    cache.make_if(rt, key, || made, |seen: &u64| *seen == old)
-}
-
 /// Whether maintenance runs.
 pub fn runs<H: Wait, T: Numbers>(rt: &H, cache: &T) -> bool {
     cache.run(rt).is_ok()
 }
 
 /// The key of the oldest notice, if that is of this cause.
-pub fn told<H: Wait, T: Numbers>(rt: &H, cache: &T, cause: RemovalCause) -> Option<u64> {
+fn told<H: Wait, T: Numbers>(rt: &H, cache: &T, cause: RemovalCause) -> Option<u64> {
     match cache.tell(rt) {
         Some(notice) if notice.cause == cause => Some(*notice.key),
         _ => None,
@@ -100,11 +99,22 @@ fn are_told<H: Wait, T: Numbers>(rt: &H, cache: &T, keys: (u64, u64), cause: Rem
     }
 }
 
+/// Whether this many notices of a cause are told, and then no more.
+fn tells_all<H: Wait, T: Numbers>(rt: &H, cache: &T, count: u64, cause: RemovalCause) -> bool {
+    for _ in 0..count {
+        if told(rt, cache, cause).is_none() {
+            return false;
+        }
+    }
+    cache.tell(rt).is_none()
+}
+
 /// Whether the notices are the expected ones.
 fn tells_so<H: Wait, T: Numbers>(rt: &H, cache: &T, row: Row) -> bool {
     match row {
         Row::Is(key, cause) => told(rt, cache, cause) == Some(key),
         Row::Are(first, second, cause) => are_told(rt, cache, (first, second), cause),
+        Row::Told(count, cause) => tells_all(rt, cache, count, cause),
         Row::NoneTold => cache.tell(rt).is_none(),
         _ => false,
     }
@@ -129,7 +139,8 @@ fn comes_so<H: Wait, T: Numbers>(rt: &H, cache: &T, row: Row) -> bool {
         Row::Invalidate(key) => invalidates(rt, cache, key),
         Row::Clear => cache.clear(rt).is_ok(),
         Row::Run => runs(rt, cache),
-        Row::MakeIf(key, made, old, value) => make_if(rt, cache, key, made, old) == Ok(value),
+        Row::Sync => cache.run_as_sync(rt).is_ok(),
+        Row::Each(deed, keys) => does_all(rt, cache, deed, keys),
         row => shows_so(rt, cache, row),
     }
 }
@@ -141,23 +152,20 @@ fn is_so<H: Wait, T: Numbers>(rt: &H, stage: &Stage<T>, row: Row) -> bool {
             stage.dial.set(nanos);
             true
         }
+        Row::MakeIf(key, made, old, value) => make_if(rt, stage, key, made, old) == Ok(value),
+        Row::Ran(count) => stage.runs.load(Ordering::SeqCst) == count,
         row => comes_so(rt, &stage.cache, row),
     }
 }
 
-/// The place of the first row that does not come out so.
-pub fn wrong_row<H: Wait, T: Numbers>(rt: &H, stage: &Stage<T>, rows: &[Row]) -> Option<usize> {
-    for (place, row) in rows.iter().enumerate() {
-        if !is_so(rt, stage, *row) {
-            return Some(place);
-        }
-    }
-    None
-}
-
 /// Whether all rows come out so.
 pub fn are_so<H: Wait, T: Numbers>(rt: &H, stage: &Stage<T>, rows: &[Row]) -> bool {
-    wrong_row(rt, stage, rows).is_none()
+    for row in rows {
+        if !is_so(rt, stage, *row) {
+            return false;
+        }
+    }
+    true
 }
 
 /// The same of a cache by plain rules. (Each function that has a cache of a type of its own play rows is dear to prove: this one is for

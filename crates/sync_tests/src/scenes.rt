@@ -1,130 +1,138 @@
 //! What is played on a new cache of each form.
-use crate::caches::{LIFE, Moments, Stage, make_dialed, stage_of};
-use crate::forms::{Covers, FIVE_HUNDRED, Form, Settings, Staged, Tested, builder_of};
-use crate::rows::{Row, are_so};
-use crate::{crowds, entries, leaving, replacing, sharding, turns, visiting};
+use crate::caches::{Moments, Stage, make_dialed, stage_of};
+use crate::crowds::{Work, all_work};
+use crate::entries::Choosing;
+use crate::forms::{Covers, Form, Settings, Staged, Tested, builder_of};
+use crate::rows::{Row, are_so, runs};
+use crate::telling::are_told_once;
+use crate::turns::{Turn, is_right};
 use moka_sync::{Build, BuildError, Dial};
 use std::alloc::Global;
 use std::sync::{Arc, Wait};
 use std::thread::Threads;
 
-/// Rows of one thread, on a cache of these settings.
+/// What is played on a cache of these settings.
 #[derive(Clone, Copy)]
-pub struct Table {
+pub struct Scene {
     pub settings: Settings,
-    pub rows: &'static [Row],
+    pub steps: &'static [Step],
 }
 
-/// What is played.
+/// What is done, and what is to come of it.
 #[derive(Clone, Copy)]
-pub enum Scene {
-    Rows(&'static Table),
-    /// A predicate covers names.
-    Names,
-    /// 600 keys come into a cache of 500: 100 are told `Size`. Then all are invalidated: 500 are told `Explicit`.
-    SixHundred,
-    /// Selectors choose by a shared handle, and by an attached one; and a cache of one value is printed as a map.
-    Selectors,
-    /// 24 wanted parts are 32, where there are several.
-    Rounding,
-    /// A predicate is not refused.
+pub enum Step {
+    /// Rows of one thread.
+    Rows(&'static [Row]),
+    /// A predicate covers the entries of odd values.
     Cover,
-    /// One that is refused covers nothing.
-    Refuse,
-    /// Four threads make, count and write.
-    Crowd,
-    /// Closures say which values are replaced, and look into the same cache.
-    Replacing,
-    /// A turn is answered to all.
-    Turns,
-    /// Iterators beside writers.
-    Visitors,
-    /// What threads fill is all there, and all covered.
-    Fill,
-    /// Calls on the whole return, whose callers come beside one another.
-    Return,
-    /// Each value is told once.
-    Tell,
+    /// 64 keys come, and a predicate covers their odd ones, or none if it is refused. A value that is refused is no fault of the cache.
+    CoverOrNot,
+    /// So many of the keys below 1600 are visible, and as many are counted after a run.
+    Visible(u64),
+    /// It shows so many parts, or one.
+    Parts(usize),
+    /// It makes a value by the two names that only segments have.
+    OtherNames,
+    /// Selectors choose so, by a handle that others share.
+    Choose(&'static [Choosing]),
+    /// The same by an attached one.
+    ChooseAttached(&'static [Choosing]),
+    /// An attached handle is printed so.
+    Printed(&'static str),
+    /// So many threads work.
+    All(usize, Work),
+    /// Two callers share a turn.
+    Share(Turn),
+    /// Each of 1600 values that four threads remove is told once, to a fifth one that counts.
+    TellOnce,
 }
 
-impl Scene {
-    /// How its cache is built.
-    fn settings(self) -> Settings {
-        match self {
-            Scene::Rows(table) => table.settings,
-            Scene::Names => leaving::HUNDRED,
-            Scene::SixHundred => Settings {
-                parts: 1,
-                ..FIVE_HUNDRED
-            },
-            Scene::Rounding => Settings {
-                parts: 24,
-                ..FIVE_HUNDRED
-            },
-            Scene::Visitors => Settings {
-                capacity: 2048,
-                ..FIVE_HUNDRED
-            },
-            Scene::Cover | Scene::Refuse | Scene::Fill | Scene::Return | Scene::Tell => {
-                sharding::ROOMY
-            }
-            Scene::Turns => Settings {
-                live: Some(LIFE),
-                ..FIVE_HUNDRED
-            },
-            Scene::Selectors | Scene::Crowd | Scene::Replacing => FIVE_HUNDRED,
+/// How many of the keys below a bound are visible.
+fn count_visible<H: Wait, T: Staged>(rt: &H, cache: &T, bound: u64) -> u64 {
+    let mut count = 0u64;
+    for key in 0..bound {
+        if cache.has(rt, key) {
+            count = count.saturating_add(1);
         }
     }
+    count
 }
 
-/// Whether what one thread plays comes out so.
-fn plays_alone<H: Wait + Copy, T: Staged>(
-    rt: &H,
-    alloc: Global,
-    scene: Scene,
-    stage: &Stage<T>,
-) -> bool {
-    match scene {
-        Scene::Rows(table) => are_so(rt, stage, table.rows),
-        Scene::Names => leaving::are_covered(rt, stage),
-        Scene::SixHundred => leaving::leave(rt, &stage.cache),
-        Scene::Selectors => entries::select(rt, alloc, &stage.cache),
-        Scene::Rounding => matches!(stage.cache.parts(), 1 | 32),
-        Scene::Cover => stage.cache.cover_odd(rt) == Ok(()),
-        Scene::Refuse => sharding::covers_all_or_none(rt, &stage.cache),
+/// Whether so many keys are visible, and as many are counted after a run.
+fn has_visible<H: Wait, T: Staged>(rt: &H, cache: &T, count: u64) -> bool {
+    runs(rt, cache)
+        && count_visible(rt, cache, 1600) == count
+        && cache.count(rt) == count
+        && cache.weight(rt) == count
+}
+
+/// Whether a predicate covers the odd ones of 64 keys, or none if it is refused. A value that is refused is no fault of the cache.
+fn covers_or_not<H: Wait, T: Staged>(rt: &H, cache: &T) -> bool {
+    for key in 0..64u64 {
+        if cache.put(rt, key, key).is_err() {
+            return true;
+        }
+    }
+    let is_covered = cache.cover_odd(rt).is_ok();
+    let wanted = if is_covered { 32 } else { 64 };
+    count_visible(rt, cache, 64) == wanted
+}
+
+/// Whether what one thread does comes out so.
+fn goes_alone<H: Wait + Copy, T: Staged>(rt: &H, stage: &Stage<T>, step: Step) -> bool {
+    let cache = &stage.cache;
+    match step {
+        Step::Rows(rows) => are_so(rt, stage, rows),
+        Step::Cover => cache.cover_odd(rt) == Ok(()),
+        Step::CoverOrNot => covers_or_not(rt, cache),
+        Step::Visible(count) => has_visible(rt, cache, count),
+        Step::Parts(parts) => cache.parts() == 1 || cache.parts() == parts,
+        Step::OtherNames => cache.has_other_names(rt),
+        Step::Choose(rows) => cache.chooses(rt, rows),
+        Step::ChooseAttached(rows) => cache.chooses_attached(rt, rows),
+        Step::Printed(text) => cache.is_printed(rt, stage.alloc, text),
         _ => false,
     }
 }
 
-/// Whether a scene comes out so.
+/// Whether a step comes out so.
+fn goes<R: Threads + Wait + Sync + Copy, T: Staged + Sync>(
+    rt: &R,
+    stage: &Stage<T>,
+    step: Step,
+) -> bool {
+    match step {
+        Step::All(threads, work) => all_work(rt, stage, threads, work),
+        Step::Share(turn) => is_right(rt, stage, turn),
+        Step::TellOnce => are_told_once(rt, stage),
+        step => goes_alone(rt, stage, step),
+    }
+}
+
+/// Whether all steps come out so.
 fn plays<R: Threads + Wait + Sync + Copy, T: Staged + Sync>(
     rt: &R,
-    alloc: Global,
-    scene: Scene,
     stage: &Stage<T>,
+    steps: &[Step],
 ) -> bool {
-    match scene {
-        Scene::Crowd => crowds::are_right(rt, alloc, stage),
-        Scene::Replacing => replacing::are_right(rt, stage),
-        Scene::Turns => turns::are_right(rt, stage),
-        Scene::Visitors => visiting::are_right(rt, alloc, &stage.cache),
-        Scene::Fill => sharding::are_right(rt, alloc, &stage.cache, &stage.runs),
-        Scene::Return => sharding::return_all(rt, alloc, &stage.cache, &stage.runs),
-        Scene::Tell => sharding::are_told_once(rt, alloc, &stage.cache),
-        scene => plays_alone(rt, alloc, scene, stage),
+    for step in steps {
+        if !goes(rt, stage, *step) {
+            return false;
+        }
     }
+    true
 }
 
 /// Whether a scene comes out so on a cache; nothing if none was made.
 fn plays_on<R: Threads + Wait + Sync + Copy, T: Staged + Sync>(
     rt: &R,
     alloc: Global,
-    scene: Scene,
+    scene: &Scene,
     dial: Arc<Dial>,
     cache: Result<T, BuildError>,
 ) -> Option<bool> {
     match cache {
-        Ok(cache) => Some(plays(rt, alloc, scene, &stage_of(cache, dial))),
+        Ok(cache) => Some(plays(rt, &stage_of(alloc, cache, dial), scene.steps)),
         Err(_) => None,
     }
 }
@@ -133,7 +141,7 @@ fn plays_on<R: Threads + Wait + Sync + Copy, T: Staged + Sync>(
 fn plays_in<R: Threads + Wait + Sync + Copy, C: Covers + Send + Sync>(
     rt: &R,
     alloc: Global,
-    scene: Scene,
+    scene: &Scene,
     dial: Arc<Dial>,
     cache: Result<Tested<C>, BuildError>,
 ) -> Option<bool> {
@@ -144,21 +152,21 @@ fn plays_in<R: Threads + Wait + Sync + Copy, C: Covers + Send + Sync>(
 fn plays_by<R: Threads + Wait + Sync + Copy>(
     rt: &R,
     alloc: Global,
-    scene: Scene,
+    scene: &Scene,
     form: Form,
     dial: Arc<Dial>,
     moments: Moments,
 ) -> Option<bool> {
-    let settings = scene.settings();
-    let builder = builder_of(settings);
+    let parts = scene.settings.parts;
+    let builder = builder_of(scene.settings);
     match form {
         Form::One => plays_in(rt, alloc, scene, dial, builder.build(alloc, moments)),
         Form::Segments => {
-            let builder = builder.segments(settings.parts);
+            let builder = builder.segments(parts);
             plays_in(rt, alloc, scene, dial, builder.build(alloc, moments))
         }
         Form::Shards => {
-            let builder = builder.shards(settings.parts);
+            let builder = builder.shards(parts);
             plays_in(rt, alloc, scene, dial, builder.build(alloc, moments))
         }
     }
@@ -169,7 +177,7 @@ fn plays_once<R: Threads + Wait + Sync + Copy>(
     rt: &R,
     alloc: Global,
     form: Form,
-    scene: Scene,
+    scene: &Scene,
 ) -> Option<bool> {
     match make_dialed(alloc) {
         Some((dial, moments)) => plays_by(rt, alloc, scene, form, dial, moments),
@@ -182,21 +190,21 @@ pub fn holds_in<R: Threads + Wait + Sync + Copy>(
     rt: &R,
     alloc: Global,
     form: Form,
-    scene: Scene,
+    scene: &Scene,
 ) -> bool {
     plays_once(rt, alloc, form, scene) == Some(true)
         || plays_once(rt, alloc, form, scene) == Some(true)
 }
 
 /// Whether a scene comes out so in each form at the first attempt, unless no cache can be made.
-pub fn never_fails<R: Threads + Wait + Sync + Copy>(rt: &R, alloc: Global, scene: Scene) -> bool {
+pub fn never_fails<R: Threads + Wait + Sync + Copy>(rt: &R, alloc: Global, scene: &Scene) -> bool {
     plays_once(rt, alloc, Form::One, scene) != Some(false)
         && plays_once(rt, alloc, Form::Segments, scene) != Some(false)
         && plays_once(rt, alloc, Form::Shards, scene) != Some(false)
 }
 
 /// Whether a scene comes out so in each form.
-pub fn holds<R: Threads + Wait + Sync + Copy>(rt: &R, alloc: Global, scene: Scene) -> bool {
+pub fn holds<R: Threads + Wait + Sync + Copy>(rt: &R, alloc: Global, scene: &Scene) -> bool {
     holds_in(rt, alloc, Form::One, scene)
         && holds_in(rt, alloc, Form::Segments, scene)
         && holds_in(rt, alloc, Form::Shards, scene)

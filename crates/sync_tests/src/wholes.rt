@@ -1,6 +1,8 @@
 //! Whole caches: keys alone, printed text, what builders make.
 use crate::caches::{Moments, NumbersBy, Play, Stage, make_moments, passes};
-use crate::scenes::{Scene, holds};
+use crate::forms::{FIVE_HUNDRED, Settings};
+use crate::numbers::Numbers;
+use crate::scenes::{Scene, Step, holds};
 use crate::visiting::prints;
 use moka_sync::{
     Build, BuildError, CacheBuilder, Made, PlainCache, PlainRules, Segmented, SegmentedCache,
@@ -31,7 +33,7 @@ impl<H: Wait> Play<H> for NoRoom {
         SegmentedCache::new(alloc, 0, 1, moments)
     }
 
-    fn plays(&self, rt: &H, _alloc: Global, stage: &Stage<Keys>) -> bool {
+    fn plays(&self, rt: &H, stage: &Stage<Keys>) -> bool {
         stage.cache.insert(rt, 0, ()).is_ok()
             && shows_nothing(rt, &stage.cache)
             && stage.cache.run_pending_tasks(rt).is_ok()
@@ -66,6 +68,14 @@ const PRINTED: [&str; 2] = [
     "{'b': \"bob\", 'a': \"alice\"}",
 ];
 
+/// Whether another handle of a cache is printed so.
+fn is_printed<H: Wait + Copy>(rt: &H, alloc: Global, names: &Names) -> bool {
+    match names.clone() {
+        Ok(names) => prints(alloc, names.attach(*rt), PRINTED[0], PRINTED[1]),
+        Err(_) => false,
+    }
+}
+
 struct Printing;
 
 impl<H: Wait + Copy> Play<H> for Printing {
@@ -75,13 +85,10 @@ impl<H: Wait + Copy> Play<H> for Printing {
         PlainCache::new(alloc, 10, moments)
     }
 
-    fn plays(&self, rt: &H, alloc: Global, stage: &Stage<Names>) -> bool {
-        keeps(rt, alloc, &stage.cache, 'a', "alice")
-            && keeps(rt, alloc, &stage.cache, 'b', "bob")
-            && match stage.cache.clone() {
-                Ok(names) => prints(alloc, names.attach(*rt), PRINTED[0], PRINTED[1]),
-                Err(_) => false,
-            }
+    fn plays(&self, rt: &H, stage: &Stage<Names>) -> bool {
+        keeps(rt, stage.alloc, &stage.cache, 'a', "alice")
+            && keeps(rt, stage.alloc, &stage.cache, 'b', "bob")
+            && is_printed(rt, stage.alloc, &stage.cache)
     }
 }
 
@@ -130,7 +137,7 @@ impl<H> Play<H> for Tracked {
             .build(alloc, moments)
     }
 
-    fn plays(&self, _rt: &H, _alloc: Global, stage: &Stage<Plain>) -> bool {
+    fn plays(&self, _rt: &H, stage: &Stage<Plain>) -> bool {
         let policy = stage.cache.policy();
         policy.max_capacity() == Some(400)
             && policy.num_segments() == 32
@@ -138,46 +145,43 @@ impl<H> Play<H> for Tracked {
     }
 }
 
+/// 24 wanted parts are 32, where there are several.
+const ROUNDED: &Scene = &Scene {
+    settings: Settings {
+        parts: 24,
+        ..FIVE_HUNDRED
+    },
+    steps: &[Step::Parts(32)],
+};
+
 #[test]
 fn parts_are_rounded(rt: HostRuntime) {
-    assert!(rt; holds(&rt, rt.alloc(), Scene::Rounding));
+    assert!(rt; holds(&rt, rt.alloc(), ROUNDED));
 }
 
 /// How many segments or shards a cache has, or why it was refused.
-fn parts_of<C: Drop>(
-    made: Result<NumbersBy<PlainRules, C>, BuildError>,
-) -> Result<usize, BuildError> {
+fn parts_of<T: Numbers>(made: Result<T, BuildError>) -> Result<usize, BuildError> {
     match made {
-        Ok(cache) => Ok(cache.policy().num_segments()),
+        Ok(cache) => Ok(cache.parts()),
         Err(why) => Err(why),
     }
-}
-
-/// A cache of so many segments, or why it was refused.
-fn make_segments(alloc: Global, segments: usize, moments: Moments) -> Result<Plain, BuildError> {
-    SegmentedCache::new(alloc, 1, segments, moments)
 }
 
 /// A cache of shards, by plain rules.
 type PlainShards = NumbersBy<PlainRules, Sharded>;
 
-/// A cache of so many shards, or why it was refused.
-fn make_shards(alloc: Global, shards: usize, moments: Moments) -> Result<PlainShards, BuildError> {
-    ShardedCache::new(alloc, 1, shards, moments)
-}
-
-/// Why so many segments are refused.
+/// How many segments a cache of so many has, or why it was refused.
 fn count_segments(alloc: Global, parts: usize) -> Result<usize, BuildError> {
     match make_moments(alloc) {
-        Some(moments) => parts_of(make_segments(alloc, parts, moments)),
+        Some(moments) => parts_of::<Plain>(SegmentedCache::new(alloc, 1, parts, moments)),
         None => Err(BuildError::OutOfMemory),
     }
 }
 
-/// Why so many shards are.
+/// The same of shards.
 fn count_shards(alloc: Global, parts: usize) -> Result<usize, BuildError> {
     match make_moments(alloc) {
-        Some(moments) => parts_of(make_shards(alloc, parts, moments)),
+        Some(moments) => parts_of::<PlainShards>(ShardedCache::new(alloc, 1, parts, moments)),
         None => Err(BuildError::OutOfMemory),
     }
 }
@@ -220,20 +224,12 @@ fn shards_suit_cores(rt: HostRuntime) {
     assert!(rt; SUITING.iter().all(|row| shards_for(row.0, row.1) == row.2));
 }
 
-/// A cache of this capacity, in the shards that suit this machine.
-fn make_for_cores<R: Threads>(
-    rt: &R,
-    alloc: Global,
-    capacity: u64,
-    moments: Moments,
-) -> Result<PlainShards, BuildError> {
-    ShardedCache::for_cores(rt, alloc, capacity, moments)
-}
-
-/// How many shards are chosen for a capacity.
+/// How many shards are chosen for a capacity on this machine.
 fn count_chosen<R: Threads>(rt: &R, alloc: Global, capacity: u64) -> Result<usize, BuildError> {
     match make_moments(alloc) {
-        Some(moments) => parts_of(make_for_cores(rt, alloc, capacity, moments)),
+        Some(moments) => {
+            parts_of::<PlainShards>(ShardedCache::for_cores(rt, alloc, capacity, moments))
+        }
         None => Err(BuildError::OutOfMemory),
     }
 }

@@ -8,7 +8,10 @@ use crate::playing::rules::IsEither;
 use crate::playing::selecting::Select;
 use crate::playing::turning::Turning;
 use engine_reference::{Bundle, EvictionPolicy, NoExpiry, RemovalCause, WeighOne};
-use front_reference::{At, CacheError, ClonedKey, LentKey, Made, OwnedKey, TurnKind, TurnStart};
+use front_parts::Iter;
+use front_reference::{
+    At, CacheError, ClonedKey, LentKey, Made, OwnedKey, Shared, TurnKind, TurnStart,
+};
 use moka::{BuildError, CacheBuilder, LentState, Segmented, Single};
 use policy_base::Instant;
 use std::alloc::{AllocError, Global};
@@ -29,8 +32,10 @@ pub type Numbers<C = Segmented> = LentState<
 pub struct Form {
     pub segments: usize,
     pub capacity: Option<u64>,
-    /// How many milliseconds its values live.
-    pub live: u64,
+    /// Which values it lets go where there is no room.
+    pub policy: EvictionPolicy,
+    /// How many milliseconds its values live, if there is a bound.
+    pub live: Option<u64>,
     /// By what its hasher multiplies.
     pub factor: u64,
 }
@@ -38,11 +43,12 @@ pub struct Form {
 /// A number by which keys spread over parts.
 pub const SPREAD: u64 = 11_400_714_819_323_198_485;
 
-/// A cache of one part without bounds, whose values live longer than any row.
+/// A cache of one part without bounds, whose values live longer than any row; it lets go what was used least recently.
 pub const ONE: Form = Form {
     segments: 1,
     capacity: None,
-    live: 1_000_000,
+    policy: EvictionPolicy::Lru,
+    live: Some(1_000_000),
     factor: SPREAD,
 };
 
@@ -96,6 +102,8 @@ pub enum Call {
     Clear,
     /// Maintenance runs to its end.
     Run,
+    /// The same where it may be refused.
+    TryRun,
     /// How many entries there are, as of the last run.
     Count(u64),
     /// The value of a key or this one, and whether it was made now.
@@ -118,6 +126,18 @@ pub enum Call {
     NoneTold,
     /// The two oldest notices are of these keys, in any order, and of this cause.
     ToldBoth(u64, u64, RemovalCause),
+    /// The oldest notice is of this cause.
+    ToldOf(RemovalCause),
+    /// So many keys, from 0 on, are inserted, each with its number, and each is followed by a run.
+    InsertEachAndRun(u64),
+    /// So many keys are inserted, each at the moment of its number, with a value of its own.
+    InsertEach(u64),
+    /// So many keys are removed.
+    InvalidateEach(u64),
+    /// The oldest notices, so many, are of this cause.
+    ToldEach(u64, RemovalCause),
+    /// An iterator gives so many of the keys of `InsertEach`, each once.
+    Gives(u64),
     /// A predicate on two values is registered in all segments; its identifiers are drawn from so
     /// many words of 0, and then of all ones.
     Cover(u64, u64, u32, Result<(), CacheError>),
@@ -183,13 +203,21 @@ pub fn next<C>(state: &Numbers<C>, nanos: u64) -> Option<At>
 /// What builds a cache of numbers.
 type NumbersBuilder = CacheBuilder<NoExpiry, WeighOne, IsEither, ()>;
 
-/// What builds an empty cache of a form, which lets go what was used least recently, tells removals and takes predicates.
-fn builder_of(form: Form) -> NumbersBuilder {
+/// What builds an empty cache of a form without a capacity, which tells removals and takes predicates.
+fn unbounded_builder_of(form: Form) -> NumbersBuilder {
     let builder = CacheBuilder::default()
-        .eviction_policy(EvictionPolicy::lru())
+        .eviction_policy(form.policy)
         .eviction_listener()
-        .support_invalidation_closures()
-        .time_to_live(Duration::from_millis(form.live));
+        .support_invalidation_closures();
+    match form.live {
+        Some(live) => builder.time_to_live(Duration::from_millis(live)),
+        None => builder,
+    }
+}
+
+/// The same with its capacity.
+fn builder_of(form: Form) -> NumbersBuilder {
+    let builder = unbounded_builder_of(form);
     match form.capacity {
         Some(capacity) => builder.max_capacity(capacity),
         None => builder,
@@ -246,6 +274,37 @@ fn is_held_so<C>(state: &Numbers<C>, key: u64, is_held: bool) -> bool {
     }
 }
 
+/// The next pair, with the key itself.
+fn take_next<C>(
+    given: &mut Iter<'_, Shared<u64>, u64, Numbers<C>>,
+) -> Option<Result<(u64, u64), CacheError>> {
+    match given.next() {
+        Some(Ok((key, value))) => Some(Ok((*key, value))),
+        Some(Err(refused)) => Some(Err(refused)),
+        None => None,
+    }
+}
+
+/// How many keys below 64 an iterator gives, each with its own value, before it ends; or 64 where
+/// one comes twice, or another one.
+fn count_given<C>(state: &Numbers<C>) -> u32 {
+    let mut seen = 0u64;
+    let mut given = state.iter(Instant::from_nanos(1000));
+    for _ in 0..200 {
+        match take_next(&mut given) {
+            Some(Ok((key, value))) => {
+                if key >= 64 || value != key ^ 64 || (seen >> key) & 1 == 1 {
+                    return 64;
+                }
+                seen |= 1 << key;
+            }
+            Some(Err(_)) => {}
+            None => return seen.count_ones(),
+        }
+    }
+    64
+}
+
 /// Looks a key up without a clone of its value.
 fn perform_lent<C>(state: &mut Numbers<C>, at: At, call: Call) -> bool
     requires { ComesAfter at.now at.step state.old }
@@ -258,6 +317,7 @@ fn perform_lent<C>(state: &mut Numbers<C>, at: At, call: Call) -> bool
         },
         Call::Held(key, is_held) => is_held_so(state, key, is_held),
         Call::Visible(number) => state.count_visible(at.now) == number,
+        Call::Gives(number) => u64::from(count_given(state)) == number,
         Call::LookUp(key, value) => is_seen(state, at, key, false, value),
         Call::RefusedLookUp(key, value) => is_seen(state, at, key, true, value),
         _ => false,
@@ -288,6 +348,10 @@ fn perform_simple<C>(state: &mut Numbers<C>, at: At, call: Call) -> Result<bool,
             state.run_pending_tasks(at);
             Ok(true)
         }
+        Call::TryRun => match state.try_run_pending_tasks(at) {
+            Ok(()) => Ok(true),
+            Err(_) => Err(CacheError::OutOfMemory),
+        },
         Call::Count(number) => Ok(state.entry_count() == number && state.weighted_size() == number),
         _ => Ok(false),
     }
@@ -451,6 +515,7 @@ fn perform<C>(alloc: Global, state: &mut Numbers<C>, at: At, call: Call) -> Resu
         | Call::Peek(..)
         | Call::Held(..)
         | Call::Visible(..)
+        | Call::Gives(..)
         | Call::LookUp(..)
         | Call::RefusedLookUp(..) => { Ok(perform_lent(state, at, call)) }
         Call::Get(..)
@@ -459,9 +524,11 @@ fn perform<C>(alloc: Global, state: &mut Numbers<C>, at: At, call: Call) -> Resu
         | Call::Invalidate(..)
         | Call::Clear
         | Call::Run
+        | Call::TryRun
         | Call::Count(..) => { perform_simple(state, at, call) }
         Call::With(closure) => perform_closure(state, at, closure),
         Call::Told(key, cause) => Ok(told(state, cause) == Some(key)),
+        Call::ToldOf(cause) => Ok(told(state, cause).is_some()),
         Call::ToldBoth(first, second, cause) => Ok(are_told(state, first, second, cause)),
         Call::ToldOfPart(key, expected) => Ok(is_told_of_part(state, key, expected)),
         Call::NoneTold => Ok(state.next_notice().is_none()),
@@ -529,10 +596,69 @@ fn is_right<T: Played>(alloc: Global, state: &mut T, nanos: u64, call: Call) -> 
     }
 }
 
+/// Whether so many keys are inserted, each followed by a run.
+fn inserts_and_runs<T: Played>(alloc: Global, state: &mut T, nanos: u64, keys: u64) -> bool {
+    for key in 0..keys {
+        if !is_right(alloc, state, nanos, Call::Insert(key, key))
+            || !is_right(alloc, state, nanos, Call::Run)
+        {
+            return false;
+        }
+    }
+    true
+}
+
+/// The same, each at the moment of its number, with a value of its own.
+fn inserts_each<T: Played>(alloc: Global, state: &mut T, keys: u64) -> bool {
+    for key in 0..keys {
+        if !is_right(alloc, state, key, Call::Insert(key, key ^ 64)) {
+            return false;
+        }
+    }
+    true
+}
+
+/// The same of their removal.
+fn invalidates_each<T: Played>(alloc: Global, state: &mut T, nanos: u64, keys: u64) -> bool {
+    for key in 0..keys {
+        if !is_right(alloc, state, nanos, Call::Invalidate(key)) {
+            return false;
+        }
+    }
+    true
+}
+
+/// Whether so many notices are of this cause.
+fn tells_each<T: Played>(
+    alloc: Global,
+    state: &mut T,
+    nanos: u64,
+    count: u64,
+    cause: RemovalCause,
+) -> bool {
+    for _ in 0..count {
+        if !is_right(alloc, state, nanos, Call::ToldOf(cause)) {
+            return false;
+        }
+    }
+    true
+}
+
+/// Whether a call answers what it is to, or each of several does.
+fn comes_so<T: Played>(alloc: Global, state: &mut T, nanos: u64, call: Call) -> bool {
+    match call {
+        Call::InsertEachAndRun(keys) => inserts_and_runs(alloc, state, nanos, keys),
+        Call::InsertEach(keys) => inserts_each(alloc, state, keys),
+        Call::InvalidateEach(keys) => invalidates_each(alloc, state, nanos, keys),
+        Call::ToldEach(count, cause) => tells_each(alloc, state, nanos, count, cause),
+        call => is_right(alloc, state, nanos, call),
+    }
+}
+
 /// The place of the first of these calls, each at its moment, that does not answer what it is to.
 pub fn wrong_call<T: Played>(alloc: Global, state: &mut T, calls: &[(u64, Call)]) -> Option<usize> {
     for (place, (nanos, call)) in calls.iter().enumerate() {
-        if !is_right(alloc, state, *nanos, *call) {
+        if !comes_so(alloc, state, *nanos, *call) {
             return Some(place);
         }
     }
@@ -574,13 +700,23 @@ fn wrong_call_on<T: Played + Drop>(
     }
 }
 
+/// The same of a case, on a cache in segments, one or more.
+fn wrong_in_segments(alloc: Global, case: Case<'_>) -> Option<usize> {
+    wrong_call_on(alloc, empty_cache(alloc, case.form), case.calls)
+}
+
 /// The same of a case, on a cache of one part or in segments as its form says.
 fn wrong_call_of(alloc: Global, case: Case<'_>) -> Option<usize> {
     if case.form.segments == 1 {
         wrong_call_on(alloc, empty_single(alloc, case.form), case.calls)
     } else {
-        wrong_call_on(alloc, empty_cache(alloc, case.form), case.calls)
+        wrong_in_segments(alloc, case)
     }
+}
+
+/// Whether a case comes out right, also in one segment.
+pub fn is_right_in_segments(alloc: Global, case: Case<'_>) -> bool {
+    wrong_call_of(alloc, case).is_none() && wrong_in_segments(alloc, case).is_none()
 }
 
 /// The place of the first case that does not come out right, and of its first call that does not.

@@ -45,57 +45,54 @@ fn fill_twice<R: Threads + Wait + Sync, E: Env<Watch: Send + Sync, Generator: Se
 }
 // end
 
-/// Whether an article has this price, or none.
-fn has_price<H: Wait, E: Env + Drop>(
-    rt: &H,
-    prices: &Prices<E>,
-    article: u64,
-    price: Option<u64>,
-) -> bool {
-    prices.get(rt, &article) == Ok(price)
-}
-
 /// Whether the prices that were written can be read, but for the one that was taken back.
 fn is_filled<R: Threads + Wait + Sync, E: Env<Watch: Send + Sync, Generator: Send> + Drop + Send>(
     rt: &R,
     prices: &Prices<E>,
 ) -> bool {
     fill_twice(rt, prices) == Ok(())
-        && has_price(rt, prices, 1, None)
-        && has_price(rt, prices, 2, Some(100))
-        && has_price(rt, prices, 6, Some(100))
+        && prices.get(rt, &1) == Ok(None)
+        && prices.get(rt, &2) == Ok(Some(100))
+        && prices.get(rt, &6) == Ok(Some(100))
 }
 
 /// The same of a cache, if it could be made.
 fn is_made_and_filled<
     R: Threads + Wait + Sync,
     E: Env<Watch: Send + Sync, Generator: Send> + Drop + Send,
->(rt: &R, made: Option<Prices<E>>) -> bool {
+>(rt: &R, made: Result<Prices<E>, BuildError>) -> bool {
     match made {
-        Some(prices) => is_filled(rt, &prices),
-        None => false,
+        Ok(prices) => is_filled(rt, &prices),
+        Err(_) => false,
     }
 }
 
 /// An empty cache, by the machine's clock.
-fn make<C: Clock + RandomSource + Drop>(alloc: Global, rt: C) -> Option<Prices<MachineEnv<C>>> {
+fn make_by_machine<C: Clock + RandomSource + Drop>(
+    alloc: Global,
+    rt: C,
+) -> Result<Prices<MachineEnv<C>>, BuildError> {
     match MachineEnv::new(rt) {
-        Ok(env) => make_prices(alloc, env).ok(),
-        Err(_) => None,
+        Ok(env) => make_prices(alloc, env),
+        Err(_) => Err(BuildError::OutOfMemory),
     }
 }
 
 /// An empty cache, by a clock that is set by hand.
-fn make_by_hand(alloc: Global) -> Option<Prices<Moments>> {
-    make_prices(alloc, make_moments(alloc)?).ok()
+fn make_by_hand(alloc: Global) -> Result<Prices<Moments>, BuildError> {
+    match make_moments(alloc) {
+        Some(moments) => make_prices(alloc, moments),
+        None => Err(BuildError::OutOfMemory),
+    }
 }
 
-/// The same of a new cache of each of these environments.
+/// The same of a new cache by each of these clocks.
 fn is_filled_anew<R: Threads + Wait + Sync + Clock + RandomSource + Copy + Drop + Send>(
     rt: &R,
     alloc: Global,
 ) -> bool {
-    is_made_and_filled(rt, make(alloc, *rt)) && is_made_and_filled(rt, make_by_hand(alloc))
+    is_made_and_filled(rt, make_by_machine(alloc, *rt))
+        && is_made_and_filled(rt, make_by_hand(alloc))
 }
 
 #[test]

@@ -53,6 +53,18 @@ fn valid_for(seconds: u64) -> Ticket {
     }
 }
 
+/// Whether two tickets are kept.
+fn are_valid<H: Wait>(rt: &H, tickets: &Tickets<Moments>) -> bool {
+    tickets.insert(rt, 1, valid_for(10)).is_ok()
+        && tickets.insert(rt, 2, valid_for(20)).is_ok()
+        && tickets.contains_key(rt, &1)
+}
+
+/// Whether the second of them is left.
+fn is_one_left<H: Wait>(rt: &H, tickets: &Tickets<Moments>) -> bool {
+    !tickets.contains_key(rt, &1) && tickets.get(rt, &2) == Ok(Some(valid_for(20)))
+}
+
 /// Of two tickets one ends first.
 struct Ending;
 
@@ -68,13 +80,10 @@ impl<H: Wait> Play<H> for Ending {
         make_tickets(alloc, moments)
     }
 
-    fn plays(&self, rt: &H, _alloc: Global, stage: &Stage<Tickets<Moments>>) -> bool {
-        let tickets = &stage.cache;
-        let both = tickets.insert(rt, 1, valid_for(10)).is_ok()
-            && tickets.insert(rt, 2, valid_for(20)).is_ok()
-            && tickets.contains_key(rt, &1);
+    fn plays(&self, rt: &H, stage: &Stage<Tickets<Moments>>) -> bool {
+        let both = are_valid(rt, &stage.cache);
         stage.dial.set(15_000_000_000);
-        both && !tickets.contains_key(rt, &1) && tickets.get(rt, &2) == Ok(Some(valid_for(20)))
+        both && is_one_left(rt, &stage.cache)
     }
 }
 

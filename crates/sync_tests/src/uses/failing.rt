@@ -57,7 +57,7 @@ impl<H: Wait> Play<H> for Finding {
         make_rows(alloc, moments)
     }
 
-    fn plays(&self, rt: &H, _alloc: Global, stage: &Stage<Rows<Moments>>) -> bool {
+    fn plays(&self, rt: &H, stage: &Stage<Rows<Moments>>) -> bool {
         is_found(rt, &stage.cache, 2, Some(12)) && is_found(rt, &stage.cache, 3, None)
     }
 }

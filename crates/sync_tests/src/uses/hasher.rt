@@ -32,7 +32,7 @@ impl<H: Wait + RandomSource> Play<H> for Finding {
         }
     }
 
-    fn plays(&self, rt: &H, _alloc: Global, stage: &Stage<Users<Moments>>) -> bool {
+    fn plays(&self, rt: &H, stage: &Stage<Users<Moments>>) -> bool {
         stage.cache.insert(rt, 1, 5).is_ok() && stage.cache.get(rt, &1) == Ok(Some(5))
     }
 }

@@ -1,8 +1,8 @@
 //! All that is in a cache.
-use crate::caches::{Moments, Play, Stage, passes};
-use crate::rows::{Row, plain_are_so};
-use moka_sync::{BuildError, Cache, CacheError, Env, PlainCache};
-use std::alloc::Global;
+use crate::caches::{Stage, passes};
+use crate::plain::PlainPlay;
+use crate::rows::{Plain, Row, plain_are_so};
+use moka_sync::{CacheError, Env, PlainCache};
 use std::sync::Wait;
 
 // example: iteration
@@ -28,27 +28,12 @@ fn sum_from<H: Wait, E: Env + Drop>(
 
 const THREE: &[Row] = &[Row::Insert(1, 10), Row::Insert(2, 20), Row::Insert(3, 30)];
 
-/// The amounts of two of three accounts are summed.
-struct Summing;
-
-impl<H: Wait> Play<H> for Summing {
-    type Cache = Amounts<Moments>;
-
-    fn make(
-        &self,
-        _rt: &H,
-        alloc: Global,
-        moments: Moments,
-    ) -> Result<Amounts<Moments>, BuildError> {
-        Cache::new(alloc, 100, moments)
-    }
-
-    fn plays(&self, rt: &H, _alloc: Global, stage: &Stage<Amounts<Moments>>) -> bool {
-        plain_are_so(rt, stage, THREE) && sum_from(rt, &stage.cache, 2) == Ok(50)
-    }
+/// Whether the amounts of two of three accounts are summed.
+pub fn sums<H: Wait>(rt: &H, stage: &Stage<Plain>) -> bool {
+    plain_are_so(rt, stage, THREE) && sum_from(rt, &stage.cache, 2) == Ok(50)
 }
 
 #[test]
 fn amounts_are_summed(rt: HostRuntime) {
-    assert!(rt; passes(&rt, rt.alloc(), &Summing));
+    assert!(rt; passes(&rt, rt.alloc(), &PlainPlay::Summing));
 }

@@ -1,8 +1,8 @@
 //! Values that are made if there is none.
-use crate::caches::{Moments, Play, Stage, passes};
-use crate::rows::{Row, plain_are_so};
-use moka_sync::{BuildError, Cache, CacheError, Env, PlainCache};
-use std::alloc::Global;
+use crate::caches::{Stage, passes};
+use crate::plain::PlainPlay;
+use crate::rows::{Plain, Row, plain_are_so};
+use moka_sync::{CacheError, Env, PlainCache};
 use std::sync::Wait;
 
 // example: get_with
@@ -37,30 +37,15 @@ const KEPT: &[Row] = &[
     Row::Get(8, Some(4)),
 ];
 
-/// A square is made, half of an odd number is not, and half of an even one is.
-struct Making;
-
-impl<H: Wait> Play<H> for Making {
-    type Cache = Numbers<Moments>;
-
-    fn make(
-        &self,
-        _rt: &H,
-        alloc: Global,
-        moments: Moments,
-    ) -> Result<Numbers<Moments>, BuildError> {
-        Cache::new(alloc, 100, moments)
-    }
-
-    fn plays(&self, rt: &H, _alloc: Global, stage: &Stage<Numbers<Moments>>) -> bool {
-        square(rt, &stage.cache, 7) == Ok(49)
-            && half(rt, &stage.cache, 3) == Ok(None)
-            && half(rt, &stage.cache, 8) == Ok(Some(4))
-            && plain_are_so(rt, stage, KEPT)
-    }
+/// Whether a square is made, half of an odd number is not, and half of an even one is.
+pub fn makes<H: Wait>(rt: &H, stage: &Stage<Plain>) -> bool {
+    square(rt, &stage.cache, 7) == Ok(49)
+        && half(rt, &stage.cache, 3) == Ok(None)
+        && half(rt, &stage.cache, 8) == Ok(Some(4))
+        && plain_are_so(rt, stage, KEPT)
 }
 
 #[test]
 fn numbers_are_made(rt: HostRuntime) {
-    assert!(rt; passes(&rt, rt.alloc(), &Making));
+    assert!(rt; passes(&rt, rt.alloc(), &PlainPlay::Making));
 }

@@ -69,7 +69,8 @@ impl<H: Wait> Play<H> for Naming {
         Cache::new(alloc, 100, moments)
     }
 
-    fn plays(&self, rt: &H, alloc: Global, stage: &Stage<Prices<Moments>>) -> bool {
+    fn plays(&self, rt: &H, stage: &Stage<Prices<Moments>>) -> bool {
+        let alloc = stage.alloc;
         set(rt, alloc, &stage.cache, "pear", 3) == Ok(())
             && set(rt, alloc, &stage.cache, "plum", 4) == Ok(())
             && shows(rt, &stage.cache, SET)

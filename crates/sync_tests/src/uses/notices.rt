@@ -1,6 +1,7 @@
 //! Removals are reported as notices.
-use crate::caches::{Moments, Play, Stage, passes};
-use crate::rows::{Row, plain_are_so};
+use crate::caches::{Stage, passes};
+use crate::plain::PlainPlay;
+use crate::rows::{Plain, Row, plain_are_so};
 use moka_sync::{Build, BuildError, CacheBuilder, Env, PlainCache};
 use std::alloc::Global;
 use std::sync::Wait;
@@ -10,7 +11,7 @@ use std::sync::Wait;
 type Files<E> = PlainCache<u64, u64, E>;
 
 /// An empty cache of two files, which reports removals.
-fn make_files<E: Env + Drop>(alloc: Global, env: E) -> Result<Files<E>, BuildError> {
+pub fn make_files<E: Env + Drop>(alloc: Global, env: E) -> Result<Files<E>, BuildError> {
     CacheBuilder::new(2).report_removals().build(alloc, env)
 }
 
@@ -40,25 +41,15 @@ const OPENED: &[Row] = &[
 /// One is closed.
 const CLOSED: &[Row] = &[Row::Invalidate(1)];
 
-/// One of three files is evicted, and none if one is closed.
-struct Telling;
-
-impl<H: Wait> Play<H> for Telling {
-    type Cache = Files<Moments>;
-
-    fn make(&self, _rt: &H, alloc: Global, moments: Moments) -> Result<Files<Moments>, BuildError> {
-        make_files(alloc, moments)
-    }
-
-    fn plays(&self, rt: &H, _alloc: Global, stage: &Stage<Files<Moments>>) -> bool {
-        plain_are_so(rt, stage, OPENED)
-            && count_evicted(rt, &stage.cache) == 1
-            && plain_are_so(rt, stage, CLOSED)
-            && count_evicted(rt, &stage.cache) == 0
-    }
+/// Whether one of three files is evicted, and none if one is closed.
+pub fn tells<H: Wait>(rt: &H, stage: &Stage<Plain>) -> bool {
+    plain_are_so(rt, stage, OPENED)
+        && count_evicted(rt, &stage.cache) == 1
+        && plain_are_so(rt, stage, CLOSED)
+        && count_evicted(rt, &stage.cache) == 0
 }
 
 #[test]
 fn what_leaves_is_told(rt: HostRuntime) {
-    assert!(rt; passes(&rt, rt.alloc(), &Telling));
+    assert!(rt; passes(&rt, rt.alloc(), &PlainPlay::Telling));
 }

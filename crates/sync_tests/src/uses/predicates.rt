@@ -65,7 +65,8 @@ impl<H: Wait> Play<H> for Forgetting {
         make_sizes(alloc, moments)
     }
 
-    fn plays(&self, rt: &H, alloc: Global, stage: &Stage<Sizes<Moments>>) -> bool {
+    fn plays(&self, rt: &H, stage: &Stage<Sizes<Moments>>) -> bool {
+        let alloc = stage.alloc;
         keeps_three(rt, alloc, &stage.cache)
             && forget(rt, alloc, &stage.cache, "a/").is_ok()
             && stage.cache.run_pending_tasks(rt).is_ok()

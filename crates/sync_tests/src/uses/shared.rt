@@ -67,7 +67,8 @@ impl<H: Wait> Play<H> for Sharing {
         Cache::new(alloc, 100, moments)
     }
 
-    fn plays(&self, rt: &H, alloc: Global, stage: &Stage<Pictures<Moments>>) -> bool {
+    fn plays(&self, rt: &H, stage: &Stage<Pictures<Moments>>) -> bool {
+        let alloc = stage.alloc;
         keeps(rt, alloc, &stage.cache) && shows(rt, &stage.cache)
     }
 }

@@ -166,7 +166,7 @@ impl<H: Wait> Play<H> for Following {
         make_documents(alloc, moments)
     }
 
-    fn plays(&self, rt: &H, _alloc: Global, stage: &Stage<Documents<Moments>>) -> bool {
+    fn plays(&self, rt: &H, stage: &Stage<Documents<Moments>>) -> bool {
         let weighs = weighs(rt, &stage.cache);
         stage.dial.set(15_000_000_000);
         weighs && ends(rt, &stage.cache)

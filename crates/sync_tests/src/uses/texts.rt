@@ -56,7 +56,8 @@ impl<H: Wait> Play<H> for Writing {
         Cache::new(alloc, 100, moments)
     }
 
-    fn plays(&self, rt: &H, alloc: Global, stage: &Stage<Texts<Moments>>) -> bool {
+    fn plays(&self, rt: &H, stage: &Stage<Texts<Moments>>) -> bool {
+        let alloc = stage.alloc;
         is_refused(rt, &stage.cache)
             && !has_text(rt, &stage.cache)
             && is_written(rt, alloc, &stage.cache)

@@ -1,6 +1,7 @@
 //! Values that live for a time.
-use crate::caches::{Moments, Play, Stage, passes};
-use crate::rows::{Row, plain_are_so};
+use crate::caches::{Stage, passes};
+use crate::plain::PlainPlay;
+use crate::rows::{Plain, Row, plain_are_so};
 use moka_sync::{Build, BuildError, CacheBuilder, Env, PlainCache};
 use std::alloc::Global;
 use std::sync::Wait;
@@ -11,7 +12,7 @@ use std::time::Duration;
 type Logins<E> = PlainCache<u64, u64, E>;
 
 /// An empty cache of log-ins, which expire twenty minutes after they were inserted, or four minutes after their last use.
-fn make_logins<E: Env + Drop>(alloc: Global, env: E) -> Result<Logins<E>, BuildError> {
+pub fn make_logins<E: Env + Drop>(alloc: Global, env: E) -> Result<Logins<E>, BuildError> {
     CacheBuilder::new(5_000)
         .time_to_live(Duration::from_secs(20 * 60))
         .time_to_idle(Duration::from_secs(4 * 60))
@@ -33,26 +34,12 @@ const USED_THEN_IDLE: &[Row] = &[
     Row::Get(1, None),
 ];
 
-struct Ending;
-
-impl<H: Wait> Play<H> for Ending {
-    type Cache = Logins<Moments>;
-
-    fn make(
-        &self,
-        _rt: &H,
-        alloc: Global,
-        moments: Moments,
-    ) -> Result<Logins<Moments>, BuildError> {
-        make_logins(alloc, moments)
-    }
-
-    fn plays(&self, rt: &H, _alloc: Global, stage: &Stage<Logins<Moments>>) -> bool {
-        plain_are_so(rt, stage, USED_THEN_IDLE)
-    }
+/// Whether it does.
+pub fn ends<H: Wait>(rt: &H, stage: &Stage<Plain>) -> bool {
+    plain_are_so(rt, stage, USED_THEN_IDLE)
 }
 
 #[test]
 fn an_idle_login_ends(rt: HostRuntime) {
-    assert!(rt; passes(&rt, rt.alloc(), &Ending));
+    assert!(rt; passes(&rt, rt.alloc(), &PlainPlay::Ending));
 }

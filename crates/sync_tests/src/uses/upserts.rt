@@ -1,8 +1,8 @@
 //! Values that are made of the one that is there.
-use crate::caches::{Moments, Play, Stage, passes};
-use crate::rows::{Row, plain_are_so};
-use moka_sync::{BuildError, Cache, CacheError, CompResult, Env, Op, PlainCache};
-use std::alloc::Global;
+use crate::caches::{Stage, passes};
+use crate::plain::PlainPlay;
+use crate::rows::{Plain, Row, plain_are_so};
+use moka_sync::{CacheError, CompResult, Env, Op, PlainCache};
 use std::sync::Wait;
 
 // example: upsert
@@ -48,40 +48,20 @@ const ONE_LEFT: &[Row] = &[Row::Get(7, Some(1))];
 const NONE_LEFT: &[Row] = &[Row::Get(7, None)];
 
 /// Whether there was a count to take from, and what is left.
-fn is_taken<H: Wait + Copy>(
-    rt: &H,
-    stage: &Stage<Counts<Moments>>,
-    was_there: bool,
-    left: &[Row],
-) -> bool {
+fn is_taken<H: Wait + Copy>(rt: &H, stage: &Stage<Plain>, was_there: bool, left: &[Row]) -> bool {
     take(rt, &stage.cache, 7) == Ok(was_there) && plain_are_so(rt, stage, left)
 }
 
-/// Two are counted, and can be taken.
-struct Counting;
-
-impl<H: Wait + Copy> Play<H> for Counting {
-    type Cache = Counts<Moments>;
-
-    fn make(
-        &self,
-        _rt: &H,
-        alloc: Global,
-        moments: Moments,
-    ) -> Result<Counts<Moments>, BuildError> {
-        Cache::new(alloc, 100, moments)
-    }
-
-    fn plays(&self, rt: &H, _alloc: Global, stage: &Stage<Counts<Moments>>) -> bool {
-        count(rt, &stage.cache, 7) == Ok(1)
-            && count(rt, &stage.cache, 7) == Ok(2)
-            && is_taken(rt, stage, true, ONE_LEFT)
-            && is_taken(rt, stage, true, NONE_LEFT)
-            && is_taken(rt, stage, false, NONE_LEFT)
-    }
+/// Whether two are counted, and can be taken.
+pub fn counts<H: Wait + Copy>(rt: &H, stage: &Stage<Plain>) -> bool {
+    count(rt, &stage.cache, 7) == Ok(1)
+        && count(rt, &stage.cache, 7) == Ok(2)
+        && is_taken(rt, stage, true, ONE_LEFT)
+        && is_taken(rt, stage, true, NONE_LEFT)
+        && is_taken(rt, stage, false, NONE_LEFT)
 }
 
 #[test]
 fn counts_go_up_and_down(rt: HostRuntime) {
-    assert!(rt; passes(&rt, rt.alloc(), &Counting));
+    assert!(rt; passes(&rt, rt.alloc(), &PlainPlay::Counting));
 }

@@ -45,7 +45,8 @@ impl<H: Wait> Play<H> for Weighing {
         make_pages(alloc, moments)
     }
 
-    fn plays(&self, rt: &H, alloc: Global, stage: &Stage<Pages<Moments>>) -> bool {
+    fn plays(&self, rt: &H, stage: &Stage<Pages<Moments>>) -> bool {
+        let alloc = stage.alloc;
         keeps(rt, alloc, &stage.cache)
             && stage.cache.run_pending_tasks(rt).is_ok()
             && stage.cache.weighted_size(rt) == 5
