@@ -273,9 +273,9 @@ class Server:
         return all(self.process.stdout.readline().startswith(b"listening ") for _ in self.spaces)
 
     def said(self):
-        """What stands on its standard error."""
+        """What stands on its standard error, but for where it listens."""
         self.errors.seek(0)
-        return self.errors.read()
+        return b"".join(line for line in self.errors if b" GMT: listening " not in line)
 
     def drain(self, oldest):
         """Takes what it told. `oldest` answers when the oldest request began that was not answered by a moment."""
